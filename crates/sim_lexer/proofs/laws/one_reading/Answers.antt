@@ -1,0 +1,5 @@
+use Rattle.sim_lexer.proofs.OneAnswer as answers
+use Rattle.sim_lexer.proofs.laws.one_reading.Goals as goal
+
+pub returns : goal.returns
+returns c = record { one = λ source first second reads also_reads. answers.one_reading reads also_reads }

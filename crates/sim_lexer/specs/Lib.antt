@@ -1,0 +1,10 @@
+pub mod Bytes
+pub mod Claims
+pub mod Constants
+pub mod Items
+pub mod Joining
+pub mod Signs
+pub mod Spelling
+pub mod Texts
+pub mod Within
+pub mod Words

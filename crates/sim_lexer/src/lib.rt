@@ -1,0 +1,20 @@
+//! The lexer: from the bytes of a source to its tokens.
+#![tactic(auto)]
+
+mod bytes;
+mod constants;
+mod item;
+mod joining;
+mod laws;
+mod position;
+mod refusal;
+mod signs;
+mod spelling;
+#[cfg(test)]
+mod tests;
+mod texts;
+mod words;
+
+pub use laws::{lines_of_tokens, longest_sign, one_reading, places_and_lines};
+pub use refusal::LexRefusal;
+pub use spelling::{SOURCE_LIMIT, lex};

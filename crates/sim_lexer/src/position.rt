@@ -1,0 +1,46 @@
+//! How far a source was read.
+ghost use Rattle.std.specs.Prelude.{◌≡◌, ◌+◌, ◌<◌, ◌≤◌, ◌^◌, length};
+ghost use Rattle.sim_lexer.specs.Spelling.{past, past_byte};
+
+/// How far a source was read, and what that says of what stands next.
+#[derive(Clone, Copy, Debug, PartialEq, Eq)]
+pub struct Position {
+    /// The number of bytes that were read.
+    pub place: u32,
+    /// One more than the number of line feeds that were read.
+    pub line: u32,
+    /// Whether a line begins here.
+    pub is_fresh: bool,
+    /// Whether this is behind an `end` and its comment has not stopped.
+    pub is_behind_end: bool,
+}
+
+/// The position behind these bytes.
+pub(crate) fn past(at: Position, bytes: &[u8]) -> Position
+    requires place { at.place + length bytes.now < 2 ^ 31 }
+    requires line { at.line ≤ at.place + 1 }
+    ensures position { result ≡ past at bytes.now }
+    ensures place { result.place ≡ at.place + length bytes.now }
+    ensures line { result.line ≤ result.place + 1 }
+{
+    let mut position = at;
+    for byte in bytes {
+        position = past_byte(position, *byte);
+    }
+    position
+}
+
+// The position one byte further.
+fn past_byte(at: Position, byte: u8) -> Position
+    requires place { at.place < 2 ^ 31 }
+    requires line { at.line ≤ at.place + 1 }
+    ensures position { result ≡ past_byte at byte }
+{
+    let is_fresh = byte == b'\n';
+    Position {
+        place: at.place + 1,
+        line: if is_fresh { at.line + 1 } else { at.line },
+        is_fresh,
+        is_behind_end: at.is_behind_end,
+    }
+}

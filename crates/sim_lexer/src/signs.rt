@@ -1,0 +1,86 @@
+//! The tokens that are written by signs.
+ghost use Rattle.std.specs.Prelude.{◌≡◌, ◌<◌, length};
+ghost use Rattle.sim_lexer.specs.Within.{IsWithin};
+ghost use Rattle.sim_lexer.specs.Signs.{sign_in, sign_item, signs_of_more, signs_of_one};
+
+use crate::bytes::{byte_at, is_digit};
+use crate::item::Item;
+use sim_base::{Rule, TokenKind};
+
+/// The longest sign in front. A `.` with a digit behind it is a real constant, and a byte that begins no sign begins
+/// no token.
+#[tactic(auto, unfolding(crate::specs::Signs::sign_item))]
+pub(crate) fn sign_item(rest: &[u8]) -> Item
+    requires { 0 < length rest.now }
+    ensures item { result ≡ sign_item rest.now }
+    ensures within { IsWithin result rest.now }
+{
+    if byte_at(rest, 0) == b'.' && is_digit(byte_at(rest, 1)) {
+        return Item::Fault(Rule::X4);
+    }
+    long_sign(rest)
+}
+
+// A sign of two bytes or more, else one of one byte.
+fn long_sign(rest: &[u8]) -> Item
+    ensures item { result ≡ sign_in signs_of_more rest.now (sign_in signs_of_one rest.now (Item.Fault Rule.X1)) }
+    ensures within { IsWithin result rest.now }
+{
+    if rest.starts_with(b"=/=") {
+        Item::Lexeme(TokenKind::OtherReference, 3)
+    } else if rest.starts_with(b"**") {
+        Item::Lexeme(TokenKind::Power, 2)
+    } else if rest.starts_with(b"//") {
+        Item::Lexeme(TokenKind::Divide, 2)
+    } else if rest.starts_with(b":=") {
+        Item::Lexeme(TokenKind::Assign, 2)
+    } else if rest.starts_with(b":-") {
+        Item::Lexeme(TokenKind::AssignReference, 2)
+    } else if rest.starts_with(b"==") {
+        Item::Lexeme(TokenKind::SameReference, 2)
+    } else if rest.starts_with(b"<=") {
+        Item::Lexeme(TokenKind::LessEqual, 2)
+    } else if rest.starts_with(b">=") {
+        Item::Lexeme(TokenKind::GreaterEqual, 2)
+    } else if rest.starts_with(b"<>") {
+        Item::Lexeme(TokenKind::NotEqual, 2)
+    } else {
+        short_sign(rest)
+    }
+}
+
+// A sign of one byte.
+fn short_sign(rest: &[u8]) -> Item
+    ensures item { result ≡ sign_in signs_of_one rest.now (Item.Fault Rule.X1) }
+    ensures within { IsWithin result rest.now }
+{
+    if rest.starts_with(b"(") {
+        Item::Lexeme(TokenKind::Open, 1)
+    } else if rest.starts_with(b")") {
+        Item::Lexeme(TokenKind::Close, 1)
+    } else if rest.starts_with(b",") {
+        Item::Lexeme(TokenKind::Comma, 1)
+    } else if rest.starts_with(b";") {
+        Item::Lexeme(TokenKind::Semicolon, 1)
+    } else if rest.starts_with(b":") {
+        Item::Lexeme(TokenKind::Colon, 1)
+    } else if rest.starts_with(b".") {
+        Item::Lexeme(TokenKind::Dot, 1)
+    } else if rest.starts_with(b"+") {
+        Item::Lexeme(TokenKind::Plus, 1)
+    } else if rest.starts_with(b"-") {
+        Item::Lexeme(TokenKind::Minus, 1)
+    } else if rest.starts_with(b"*") {
+        Item::Lexeme(TokenKind::Times, 1)
+    } else if rest.starts_with(b"&") {
+        Item::Lexeme(TokenKind::Ampersand, 1)
+    } else if rest.starts_with(b"=") {
+        Item::Lexeme(TokenKind::Equal, 1)
+    } else if rest.starts_with(b"<") {
+        Item::Lexeme(TokenKind::Less, 1)
+    } else if rest.starts_with(b">") {
+        Item::Lexeme(TokenKind::Greater, 1)
+    } else {
+        Item::Fault(Rule::X1)
+    }
+}

@@ -1,0 +1,98 @@
+//! The lexer: from the bytes of a source to its tokens.
+ghost use Rattle.std.specs.Prelude.{◌≡◌, ◌≤◌, MatchResult, length};
+ghost use Rattle.sim_lexer.specs.Claims.{Refused, Refuses};
+ghost use Rattle.sim_lexer.specs.Spelling.{Lexed, Reads, Spelled, is_end, token};
+
+use crate::item::{Item, front_item};
+use crate::joining::add;
+use crate::position::{Position, past};
+use crate::refusal::LexRefusal;
+use sim_base::{Line, Rule, Token, TokenKind};
+use std::alloc::Global;
+
+/// The greatest number of bytes that a source may have.
+pub const SOURCE_LIMIT: usize = 1_048_576;
+
+/// The tokens of a source, or the rule that it breaks first.
+///
+/// Identifiers are in lower case, integers are values, texts and characters are the bytes that they mean, text
+/// constants with only separators between them are one, and so are `and then` and `or else`. The last token is the end
+/// of the source, at the place behind its last byte.
+///
+/// A source of more than `SOURCE_LIMIT` bytes breaks X8 at the place `SOURCE_LIMIT`. Any other that breaks a rule is
+/// refused at the least place that breaks one, by the first of the rules that are broken there.
+pub fn lex(alloc: Global, source: &[u8]) -> Result<Vec<Token>, LexRefusal>
+    ensures sound { MatchResult result (λ tokens. Reads source.now (Spelled tokens.items)) (Refuses source.now) }
+    ensures exact { (answer : Lexed) → Reads source.now answer
+        → MatchResult result (λ tokens. answer ≡ Spelled tokens.items) (Refused answer) }
+{
+    if source.len() > SOURCE_LIMIT {
+        return Err(LexRefusal::Broken {
+            rule: Rule::X8,
+            place: SOURCE_LIMIT as u32,
+        });
+    }
+    read(alloc, source)
+}
+
+// The tokens of a source that is not too long, or the rule that it breaks first.
+fn read(alloc: Global, source: &[u8]) -> Result<Vec<Token>, LexRefusal>
+    requires { length source.now ≤ SOURCE_LIMIT }
+    ensures sound { MatchResult result (λ tokens. Reads source.now (Spelled tokens.items)) (Refuses source.now) }
+{
+    let mut tokens = Vec::new(alloc);
+    let mut at = Position {
+        place: 0,
+        line: 1,
+        is_fresh: true,
+        is_behind_end: false,
+    };
+    let mut rest = source;
+    'items: loop {
+        match front_item(alloc, at.is_fresh, at.is_behind_end, rest)? {
+            Item::Finish => {
+                add(&mut tokens, token(at, TokenKind::EndOfSource))?;
+                return Ok(tokens);
+            }
+            Item::Passed(size) => {
+                let (piece, behind) = rest.split_at(size);
+                at = past(at, piece);
+                rest = behind;
+            }
+            Item::Lexeme(kind, size) => {
+                let (piece, behind) = rest.split_at(size);
+                let is_behind_end = is_end(&kind);
+                add(&mut tokens, token(at, kind))?;
+                at = Position {
+                    is_behind_end,
+                    ..past(at, piece)
+                };
+                rest = behind;
+            }
+            Item::Fault(rule) => {
+                return Err(LexRefusal::Broken {
+                    rule,
+                    place: at.place,
+                });
+            }
+        }
+    }
+}
+
+// The token of this kind that begins here.
+fn token(at: Position, kind: TokenKind) -> Token
+    ensures token { result ≡ token at kind }
+{
+    Token {
+        kind,
+        place: at.place,
+        line: Line(at.line),
+    }
+}
+
+// Whether this is the word `end`.
+fn is_end(kind: &TokenKind) -> bool
+    ensures answer { result ≡ is_end kind.now }
+{
+    matches!(kind, TokenKind::End)
+}
