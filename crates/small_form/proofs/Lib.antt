@@ -1,0 +1,9 @@
+pub mod Answer
+pub mod Bodies
+pub mod Declared
+pub mod Exits
+pub mod Mapped
+pub mod Roles
+pub mod Spelling
+pub mod Steps
+pub mod Unspelled
