@@ -1,0 +1,223 @@
+-- Texts as frames of bytes. A text is a frame, the place of its first character there, its length, and a position; places and
+-- positions count from 1. Each operation is a function of the frames before it.
+use Rattle.std.specs.Prelude.{◌≡◌, ℕ, suc, ◌+◌, ◌-◌, ◌≤◌, ◌<◌, ◌≢◌, Bool, true, false, ◌||◌, ◌&&◌, ◌==◌, nat_lt, nat_le, if◌then◌else◌, ℤ, pos, negsuc, neg_ℤ, List, [], ◌∷◌, ◌++◌, length, take, drop, map, replicate, slice_index, slice_index_or, slice_set, slice_get, take_while, Option, Some, None, Result, Ok, Err}
+use Rattle.std.specs.Ordering.{nat_cmp}
+use Rattle.std.specs.Cmp.Lexicographic.{slice_cmp}
+use Rattle.std.specs.declared.cmp.Ordering.{Ordering}
+use Rattle.std.specs.Char.{is_ascii_digit, to_ascii_uppercase, to_ascii_lowercase}
+use Rattle.std.specs.Fmt.{signed_decimal}
+use Rattle.std.specs.Str.Parse.{digits_value}
+use Rattle.sim_base.specs.declared.run_error.RunError.{RunError}
+use Rattle.sim_base.specs.declared.run_error.RunError.TheVariants.{E20, E21, E22, E23, E24, E25, E26, E27, E28}
+use Rattle.sim_values.specs.declared.value.TextVal.{TextVal}
+use Rattle.sim_values.specs.Arithmetic.{is_integer}
+
+-- ---- frames
+
+pub record Frame : Type 0 where
+  pub bytes : List ℕ
+  pub constant : Bool
+
+-- the frame of this number; an empty constant where there is none
+abbrev pub frame_at : List Frame → ℕ → Frame
+frame_at frames n = slice_index_or frames n (record { bytes = []; constant = true })
+
+-- the bytes with these ones in place of those from `at` on
+abbrev pub replaced : List ℕ → ℕ → List ℕ → List ℕ
+replaced bytes at new = take at bytes ++ (new ++ drop (at + length new) bytes)
+
+-- the frames with these bytes written into one frame from `at` on
+abbrev pub written : List Frame → ℕ → ℕ → List ℕ → List Frame
+written frames n at new = slice_set frames n (record { bytes = replaced (frame_at frames n).bytes at new; constant = (frame_at frames n).constant })
+
+-- every frame but the one of this number is the same before and after
+abbrev pub SameBut : ℕ → List Frame → List Frame → Type 0
+SameBut n old new = (k : ℕ) → k ≢ n → slice_get new k ≡ slice_get old k
+
+-- ---- texts
+
+-- a text lies in a frame that was made
+pub record LiesIn (frames : List Frame) (t : TextVal) : Type 0 where
+  pub made : t.frame < length frames
+  pub within : t.start + t.length ≤ length (frame_at frames t.frame).bytes + 1
+
+-- a text of these frames. One of length 0 that starts at place 1 needs no frame
+pub record IsText (frames : List Frame) (t : TextVal) : Type 0 where
+  pub starts : 1 ≤ t.start
+  pub position : 1 ≤ t.pos
+  pub position_end : t.pos ≤ t.length + 1
+  pub lies : 1 < t.start + t.length → LiesIn frames t
+
+-- every text of the old frames is one of the new frames
+abbrev pub KeepsTexts : List Frame → List Frame → Type 0
+KeepsTexts old new = (t : TextVal) → IsText old t → IsText new t
+
+-- the text of no characters
+abbrev pub notext : TextVal
+notext = record { frame = 0; start = 1; length = 0; pos = 1 }
+
+-- `==`: the same frame, start and length, whatever the position; any two texts of length 0 are the same
+abbrev pub same_text : TextVal → TextVal → Bool
+same_text a b = (a.length == 0 && b.length == 0) || (a.frame == b.frame && a.start == b.start && a.length == b.length)
+
+abbrev pub characters : List Frame → TextVal → List ℕ
+characters frames t = take t.length (drop (t.start - 1) (frame_at frames t.frame).bytes)
+
+-- the frames with these characters in place of a text's first ones
+abbrev pub with_characters : List Frame → TextVal → List ℕ → List Frame
+with_characters frames t new = written frames t.frame (t.start - 1) new
+
+-- `t.constant`; a text of length 0 is constant
+abbrev pub is_constant : List Frame → TextVal → Bool
+is_constant frames t = t.length == 0 || (frame_at frames t.frame).constant
+
+-- E22 where the text is a constant of positive length
+abbrev pub constant_refusal : List Frame → TextVal → Option RunError
+constant_refusal frames t = if nat_lt 0 t.length && (frame_at frames t.frame).constant then Some E22 else None
+
+-- ---- new texts
+
+-- the text of n characters that a new frame after these holds
+abbrev pub new_text : List Frame → ℕ → TextVal
+new_text frames n = if n == 0 then notext else record { frame = length frames; start = 1; length = n; pos = 1 }
+
+-- the frames with a new frame of these bytes; no frame for no bytes
+abbrev pub with_new : List Frame → List ℕ → List Frame
+with_new frames [] = frames
+with_new frames (c ∷ cs) = frames ++ (record { bytes = c ∷ cs; constant = false }) ∷ []
+
+-- `blanks(n)`
+abbrev pub blanks_refusal : ℤ → Option RunError
+blanks_refusal (pos n) = None
+blanks_refusal (negsuc n) = Some E27
+
+abbrev pub blank_characters : ℤ → List ℕ
+blank_characters (pos n) = replicate n 32
+blank_characters (negsuc n) = []
+
+-- ---- assignment and comparison
+
+-- these characters with blanks behind them, n in all
+abbrev pub padded : ℕ → List ℕ → List ℕ
+padded n cs = cs ++ replicate (n - length cs) 32
+
+-- `left := right`
+abbrev pub assign_refusal : List Frame → TextVal → TextVal → Option RunError
+assign_refusal frames left right = if nat_lt left.length right.length then Some E21 else constant_refusal frames left
+
+abbrev pub assigned : List Frame → TextVal → TextVal → List Frame
+assigned frames left right = with_characters frames left (padded left.length (characters frames right))
+
+-- character by character, and a proper prefix is less
+abbrev pub compare_texts : List Frame → TextVal → TextVal → Ordering
+compare_texts frames a b = slice_cmp nat_cmp (characters frames a) (characters frames b)
+
+-- ---- parts
+
+-- n characters from the place i of a text on, at position 1; `notext` for none
+abbrev pub part : TextVal → ℕ → ℕ → TextVal
+part t i n = if n == 0 then notext else record { frame = t.frame; start = t.start + i - 1; length = n; pos = 1 }
+
+-- `t.sub(i, n)`: E20 unless 1 <= i, 0 <= n and i + n <= length + 1
+abbrev pub sub_outcome : TextVal → ℤ → ℤ → Result TextVal RunError
+sub_outcome t (pos i) (pos n) = if nat_lt 0 i && nat_le (i + n) (t.length + 1) then Ok (part t i n) else Err E20
+sub_outcome t (pos i) (negsuc n) = Err E20
+sub_outcome t (negsuc i) n = Err E20
+
+-- how many characters there are without trailing blanks
+abbrev pub content_length : List ℕ → ℕ
+content_length [] = 0
+content_length (c ∷ cs) = if content_length cs == 0 && c == 32 then 0 else suc (content_length cs)
+
+-- `t.strip`
+abbrev pub stripped : List Frame → TextVal → TextVal
+stripped frames t = part t 1 (content_length (characters frames t))
+
+-- `t.main`: the whole frame
+abbrev pub main_text : List Frame → TextVal → TextVal
+main_text frames t = if t.length == 0 then notext else record { frame = t.frame; start = 1; length = length (frame_at frames t.frame).bytes; pos = 1 }
+
+-- ---- positions and single characters
+
+abbrev pub at_position : TextVal → ℕ → TextVal
+at_position t p = record { frame = t.frame; start = t.start; length = t.length; pos = p }
+
+-- `t.setpos(i)`: a place of no character puts the position behind the last one
+abbrev pub moved : TextVal → ℤ → TextVal
+moved t (pos i) = at_position t (if nat_lt 0 i && nat_le i t.length then i else t.length + 1)
+moved t (negsuc i) = at_position t (t.length + 1)
+
+-- `t.getchar`: E23 where the position is behind the last character
+abbrev pub getchar_refusal : TextVal → Option RunError
+getchar_refusal t = if nat_lt t.length t.pos then Some E23 else None
+
+abbrev pub next_character : List Frame → TextVal → ℕ
+next_character frames t = slice_index (characters frames t) (t.pos - 1)
+
+-- `t.putchar(c)`: E24 where the position is behind the last character, then E22
+abbrev pub putchar_refusal : List Frame → TextVal → Option RunError
+putchar_refusal frames t = if nat_lt t.length t.pos then Some E24 else constant_refusal frames t
+
+abbrev pub with_character : List Frame → TextVal → ℕ → List Frame
+with_character frames t c = written frames t.frame (t.start + t.pos - 2) (c ∷ [])
+
+-- ---- letters
+
+abbrev pub upcased : List Frame → TextVal → List Frame
+upcased frames t = with_characters frames t (map to_ascii_uppercase (characters frames t))
+
+abbrev pub lowcased : List Frame → TextVal → List Frame
+lowcased frames t = with_characters frames t (map to_ascii_lowercase (characters frames t))
+
+-- ---- integers in texts
+
+-- a blank or a tab
+abbrev pub is_separator : ℕ → Bool
+is_separator c = c == 32 || c == 9
+
+-- what follows leading blanks and tabs
+abbrev pub after_separators : List ℕ → List ℕ
+after_separators [] = []
+after_separators (c ∷ cs) = if is_separator c then after_separators cs else c ∷ cs
+
+-- whether a minus sign stands first, and what follows a leading sign
+abbrev pub has_minus : List ℕ → Bool
+has_minus [] = false
+has_minus (c ∷ cs) = c == 45
+
+abbrev pub after_sign : List ℕ → List ℕ
+after_sign [] = []
+after_sign (c ∷ cs) = if c == 43 || c == 45 then cs else c ∷ cs
+
+-- the integer that these characters begin with, and how many characters it takes: blanks or tabs, an optional sign, blanks or
+-- tabs, then digits. E25 where no digit follows, E28 where the integer is outside the range
+abbrev pub integer_item : List ℕ → Result (ℤ × ℕ) RunError
+integer_item cs =
+    let signed = after_separators cs in
+    let unsigned = after_separators (after_sign signed) in
+    let digits = take_while is_ascii_digit unsigned in
+    let size = digits_value 10 digits in
+    let value = if has_minus signed then neg_ℤ (pos size) else pos size in
+    if length digits == 0 then Err E25
+    else if is_integer value then Ok (value, length cs - length unsigned + length digits)
+    else Err E28
+
+-- `t.getint`: the value, and the text with its position after the last digit; where it is refused the text is as before
+abbrev pub item_value : Result (ℤ × ℕ) RunError → Result ℤ RunError
+item_value (Ok (value, used)) = Ok value
+item_value (Err e) = Err e
+
+abbrev pub after_item : TextVal → Result (ℤ × ℕ) RunError → TextVal
+after_item t (Ok (value, used)) = at_position t (used + 1)
+after_item t (Err e) = t
+
+-- `t.putint(i)`: E26 for a text of length 0, then E22
+abbrev pub putint_refusal : List Frame → TextVal → Option RunError
+putint_refusal frames t = if t.length == 0 then Some E26 else constant_refusal frames t
+
+-- these characters at the right end of n places, with blanks before them; n stars where they do not fit
+abbrev pub right_justified : ℕ → List ℕ → List ℕ
+right_justified n cs = if nat_le (length cs) n then replicate (n - length cs) 32 ++ cs else replicate n 42
+
+abbrev pub with_integer : List Frame → TextVal → ℤ → List Frame
+with_integer frames t i = with_characters frames t (right_justified t.length (signed_decimal i))

@@ -1,0 +1,124 @@
+//! Values at the edges of the ranges.
+
+use super::*;
+use sim_base::RunError::{self, E1, E2, E3, E13};
+
+const LEAST: i64 = i64::MIN;
+
+const MOST: i64 = i64::MAX;
+
+#[test]
+fn arithmetic_at_the_edges(rt: HostRuntime) {
+    let sums = [
+        (MOST, 0, Ok(MOST)),
+        (MOST, 1, Err(E1)),
+        (MOST - 1, 1, Ok(MOST)),
+        (LEAST, -1, Err(E1)),
+        (LEAST + 1, -1, Ok(LEAST)),
+        (LEAST, MOST, Ok(-1)),
+    ];
+    for (a, b, want) in sums {
+        assert_eq!(rt; add(a, b), want, "{a} + {b}");
+    }
+    let differences = [
+        (LEAST, 0, Ok(LEAST)),
+        (LEAST, 1, Err(E1)),
+        (0, LEAST, Err(E1)),
+        (-1, LEAST, Ok(MOST)),
+        (7, 9, Ok(-2)),
+    ];
+    for (a, b, want) in differences {
+        assert_eq!(rt; sub(a, b), want, "{a} - {b}");
+    }
+    let products = [
+        (LEAST, -1, Err(E1)),
+        (LEAST, 1, Ok(LEAST)),
+        (3_037_000_500, 3_037_000_500, Err(E1)),
+        (4_294_967_296, -2_147_483_648, Ok(LEAST)),
+        (4_294_967_296, 2_147_483_648, Err(E1)),
+        (-6, 7, Ok(-42)),
+    ];
+    for (a, b, want) in products {
+        assert_eq!(rt; mul(a, b), want, "{a} * {b}");
+    }
+}
+
+#[test]
+fn sizes(rt: HostRuntime) {
+    for (a, negation, size) in [
+        (0, Ok(0), Ok(0)),
+        (-5, Ok(5), Ok(5)),
+        (MOST, Ok(-MOST), Ok(MOST)),
+        (LEAST, Err(E1), Err(E1)),
+    ] {
+        assert_eq!(rt; negate(a), negation, "-{a}");
+        assert_eq!(rt; absolute(a), size, "abs({a})");
+    }
+}
+
+#[test]
+fn quotients_and_remainders(rt: HostRuntime) {
+    let cases = [
+        (7, 2, Ok(3), Ok(1), Ok(1)),
+        (-7, 2, Ok(-3), Ok(-1), Ok(1)),
+        (7, -2, Ok(-3), Ok(1), Ok(-1)),
+        (-7, -2, Ok(3), Ok(-1), Ok(-1)),
+        (6, -3, Ok(-2), Ok(0), Ok(0)),
+        (1, 0, Err(E2), Err(E2), Err(E2)),
+        (LEAST, -1, Err(E1), Ok(0), Ok(0)),
+        (LEAST, 1, Ok(LEAST), Ok(0), Ok(0)),
+        (MOST, LEAST, Ok(0), Ok(MOST), Ok(-1)),
+    ];
+    for (a, b, quotient, rest, modulus) in cases {
+        assert_eq!(rt; div(a, b), quotient, "{a} // {b}");
+        assert_eq!(rt; remainder(a, b), rest, "rem({a}, {b})");
+        assert_eq!(rt; modulo(a, b), modulus, "mod({a}, {b})");
+    }
+}
+
+#[test]
+fn powers(rt: HostRuntime) {
+    let cases: [(i64, i64, Result<i64, RunError>); 17] = [
+        (0, 0, Err(E3)),
+        (5, -1, Err(E3)),
+        (0, -1, Err(E3)),
+        (0, 1, Ok(0)),
+        (0, MOST, Ok(0)),
+        (1, 0, Ok(1)),
+        (1, MOST, Ok(1)),
+        (-1, MOST, Ok(-1)),
+        (-1, MOST - 1, Ok(1)),
+        (2, 62, Ok(4_611_686_018_427_387_904)),
+        (2, 63, Err(E1)),
+        (-2, 63, Ok(LEAST)),
+        (-2, 64, Err(E1)),
+        (2, MOST, Err(E1)),
+        (3, 39, Ok(4_052_555_153_018_976_267)),
+        (-7, 0, Ok(1)),
+        (LEAST, 1, Ok(LEAST)),
+    ];
+    for (base, exponent, want) in cases {
+        assert_eq!(rt; pow(base, exponent), want, "{base} ** {exponent}");
+    }
+}
+
+#[test]
+fn words(rt: HostRuntime) {
+    assert_eq!(rt; words_instance(0, false), 4);
+    assert_eq!(rt; words_instance(4095, true), 4103);
+    for (length, want) in [
+        (0, 0),
+        (1, 3),
+        (8, 3),
+        (9, 4),
+        (u64::MAX, 2_305_843_009_213_693_954),
+    ] {
+        assert_eq!(rt; words_text(length), want, "a text of {length}");
+    }
+    assert_eq!(rt; words_array(&[(1, 10)]), Ok(15));
+    assert_eq!(rt; words_array(&[(-1, 1), (0, 3)]), Ok(19));
+    assert_eq!(rt; words_array(&[(1, 2_147_483_648)]), Ok(2_147_483_653));
+    assert_eq!(rt; words_array(&[(0, 2_147_483_648)]), Err(E13));
+    assert_eq!(rt; words_array(&[(LEAST, MOST), (LEAST, MOST)]), Err(E13));
+    assert_eq!(rt; words_array(&[(LEAST, MOST), (1, 0), (LEAST, MOST)]), Ok(9));
+}
