@@ -1,0 +1,10 @@
+pub mod Answer
+pub mod Arithmetic
+pub mod Evaluating
+pub mod Image
+pub mod Meaning
+pub mod Owing
+pub mod SourceMeaning
+pub mod State
+pub mod Status
+pub mod Words

@@ -1,0 +1,52 @@
+-- The number of each status and the line that it writes.
+use Rattle.std.specs.Prelude.{ℕ, List, [], ◌∷◌, ◌++◌, codes, Bool, true, false}
+use Rattle.std.specs.Fmt.{decimal}
+use Rattle.sim_base.specs.Rule.{rule_text}
+use Rattle.sim_base.specs.RunError.{run_error_text}
+use Rattle.sim_driver.specs.declared.status.Ending.{Ending}
+use Rattle.sim_driver.specs.declared.status.Status.{Status}
+use Rattle.sim_driver.specs.declared.status.Status.TheVariants.{Normal, Refused, RunFault, Usage, FileFault, InputFault, WriteFault, Memory}
+
+-- the status of each ending
+abbrev pub status_of : Ending → Status
+status_of Ending.Normal = Normal
+status_of (Ending.Refused rule line) = Refused rule line
+status_of (Ending.RunFault error line) = RunFault error line
+
+-- the exit status
+abbrev pub status_number : Status → ℕ
+status_number Normal = 0
+status_number (Refused rule line) = 1
+status_number (RunFault error line) = 2
+status_number Usage = 5
+status_number FileFault = 6
+status_number InputFault = 7
+status_number WriteFault = 8
+status_number Memory = 9
+
+-- a text and a line feed
+abbrev pub as_line : List ℕ → List ℕ
+as_line text = text ++ 10 ∷ []
+
+-- what is said of a line of the source
+abbrev pub at_line : ℕ → List ℕ → List ℕ
+at_line line text = codes "line " ++ (decimal line ++ (codes ": " ++ as_line text))
+
+-- the line that a status writes, with its line feed
+abbrev pub line_text : Status → List ℕ
+line_text Normal = []
+line_text (Refused rule line) = at_line line.0 (rule_text rule)
+line_text (RunFault error line) = at_line line.0 (run_error_text error)
+line_text Usage = as_line (codes "usage: simula run FILE")
+line_text FileFault = as_line (codes "cannot read the file")
+line_text InputFault = as_line (codes "input fault")
+line_text WriteFault = as_line (codes "output fault")
+line_text Memory = as_line (codes "want of memory")
+
+-- no fault of the outside and no want of memory
+abbrev pub is_answer : Status → Bool
+is_answer FileFault = false
+is_answer InputFault = false
+is_answer WriteFault = false
+is_answer Memory = false
+is_answer _ = true

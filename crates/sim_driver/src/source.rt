@@ -1,0 +1,83 @@
+// From the bytes of a source to how it ends.
+ghost use Rattle.std.specs.Prelude.{◌≡◌, ◌≤◌, ◌<◌, ◌^◌, ◌-◌, Err, length, List, IfOk, OnOk};
+ghost use Rattle.std.specs.Io.KnownBytes.{Appends};
+ghost use Rattle.sim_ports.specs.Bytes.{AddsPrefix};
+ghost use Rattle.sim_ports.specs.Faults.{Rose};
+ghost use Rattle.sim_driver.specs.Meaning.{program_run};
+ghost use Rattle.sim_driver.specs.SourceMeaning.{Meaning, SourceMeans, TokensMean, run_ending};
+
+use crate::evaluator::run_program;
+use crate::status::Ending;
+use crate::stop::{Fault, RunFailure};
+use sim_base::{Line, Rule, Token, line_of};
+use sim_lexer::{LexRefusal, lex};
+use sim_ports::Sink;
+use small_form::{FormRefusal, Program, parse_form};
+use std::alloc::Global;
+
+/// Does what a source means, and says how it ends.
+pub fn run_source<O: Sink>(alloc: Global, source: &[u8], out: &mut O) -> Result<Ending, RunFailure>
+    requires { length source.now < 2 ^ 32 - 1 }
+    ensures known { OnOk result ((meaning : Meaning) × SourceMeans source.now meaning) }
+    ensures ends { (meaning : Meaning) → SourceMeans source.now meaning → IfOk result (λ ending. ending ≡ meaning.ending) }
+    ensures whole { (meaning : Meaning) → SourceMeans source.now meaning → OnOk result (Appends (O.written out.old) (O.written out.new) meaning.output) }
+    ensures part { (meaning : Meaning) → SourceMeans source.now meaning → AddsPrefix (O.written out.old) (O.written out.new) meaning.output }
+    ensures cause { result ≡ Err RunFailure.Output → Rose (O.faults out.old) (O.faults out.new) }
+    ensures later { O.faults out.old ≤ O.faults out.new }
+{
+    match lex(alloc, source) {
+        Ok(tokens) => run_tokens(alloc, &tokens, out),
+        Err(LexRefusal::Broken { rule, place }) => Ok(Ending::Refused {
+            rule,
+            line: line_of(source, place as usize),
+        }),
+        Err(LexRefusal::Memory) => Err(RunFailure::Memory),
+    }
+}
+
+// Does what tokens mean, and says how they end.
+fn run_tokens<O: Sink>(alloc: Global, tokens: &[Token], out: &mut O) -> Result<Ending, RunFailure>
+    ensures known { OnOk result ((meaning : Meaning) × TokensMean tokens.now meaning) }
+    ensures ends { (meaning : Meaning) → TokensMean tokens.now meaning → IfOk result (λ ending. ending ≡ meaning.ending) }
+    ensures whole { (meaning : Meaning) → TokensMean tokens.now meaning → OnOk result (Appends (O.written out.old) (O.written out.new) meaning.output) }
+    ensures part { (meaning : Meaning) → TokensMean tokens.now meaning → AddsPrefix (O.written out.old) (O.written out.new) meaning.output }
+    ensures cause { result ≡ Err RunFailure.Output → Rose (O.faults out.old) (O.faults out.new) }
+    ensures later { O.faults out.old ≤ O.faults out.new }
+{
+    match parse_form(alloc, tokens) {
+        Ok(program) => run_form(alloc, &program, out),
+        Err(FormRefusal::NotBuilt) => Ok(Ending::Refused {
+            rule: Rule::Z1,
+            line: Line(1),
+        }),
+        Err(FormRefusal::Undeclared { line }) => Ok(Ending::Refused {
+            rule: Rule::S10,
+            line,
+        }),
+        Err(FormRefusal::Memory) => Err(RunFailure::Memory),
+    }
+}
+
+// Runs a program, and says how it ends.
+fn run_form<O: Sink>(alloc: Global, program: &Program, out: &mut O) -> Result<Ending, RunFailure>
+    ensures ends { IfOk result (λ ending. ending ≡ run_ending (program_run program.now).fault) }
+    ensures whole { OnOk result (Appends (O.written out.old) (O.written out.new) (program_run program.now).output) }
+    ensures part { AddsPrefix (O.written out.old) (O.written out.new) (program_run program.now).output }
+    ensures cause { result ≡ Err RunFailure.Output → Rose (O.faults out.old) (O.faults out.new) }
+    ensures later { O.faults out.old ≤ O.faults out.new }
+{
+    match run_program(alloc, program, out) {
+        Ok(fault) => Ok(ending_of(fault)),
+        Err(failure) => Err(failure),
+    }
+}
+
+// How a run ends that this error ends, if one does.
+fn ending_of(fault: Option<Fault>) -> Ending
+    ensures { result ≡ run_ending fault }
+{
+    match fault {
+        Some(Fault { error, line }) => Ending::RunFault { error, line },
+        None => Ending::Normal,
+    }
+}

@@ -1,0 +1,74 @@
+// The top call.
+ghost use Rattle.std.specs.Prelude.{◌≡◌, ◌⊎◌, List, ℕ, None, Some, true, IfSome};
+ghost use Rattle.std.specs.Io.KnownBytes.{Appends, Keeps};
+ghost use Rattle.sim_ports.specs.Bytes.{AddsPrefix};
+ghost use Rattle.sim_ports.specs.Faults.{Rose, Steady};
+ghost use Rattle.sim_driver.specs.Answer.{Answer, Gives, IsAnswer};
+ghost use Rattle.sim_driver.specs.Status.{is_answer, line_text};
+ghost use Rattle.sim_driver.specs.Words.{file_of, texts, TellsFile};
+ghost use Rattle.sim_driver.specs.declared.status.Status.{Status as AnyStatus};
+
+use crate::command::perform;
+use crate::status::Status;
+use crate::telling::tell;
+use sim_ports::{Files, Sink, Source};
+use std::alloc::Global;
+
+/// Does what the words of the command line ask for. The one command is `run FILE`: the source in the file is run, its
+/// output goes to `out`, and one line to `diag` says how it ended, but for a normal end.
+pub fn simula<F: Files, I: Source, O: Sink, D: Sink>(
+    alloc: Global,
+    words: &[String],
+    files: &mut F,
+    input: &mut I,
+    out: &mut O,
+    diag: &mut D,
+) -> Status
+    requires { F.selected files.old ≡ None }
+
+    // Where the file tells its bytes and nothing failed, the status, the output and the line are those of the
+    // answer, unless memory was wanting.
+    ensures headline { (source : List ℕ) (answer : Answer) → TellsFile (F.content files.old) (texts words.now) source
+        → IsAnswer (texts words.now) source answer
+        → Steady (F.faults files.old) (F.faults files.new) → Steady (I.faults input.old) (I.faults input.new)
+        → Steady (O.faults out.old) (O.faults out.new) → Steady (D.faults diag.old) (D.faults diag.new)
+        → (result ≡ Status.Memory) ⊎ Gives answer result (O.written out.old) (O.written out.new)
+        × Appends (D.written diag.old) (D.written diag.new) (line_text result) }
+
+    // The cause of each status that the answer doesn't give.
+    ensures usage { result ≡ Status.Usage → file_of (texts words.now) ≡ None }
+    ensures file_fault { result ≡ Status.FileFault → Rose (F.faults files.old) (F.faults files.new) × Keeps (O.written out.old) (O.written out.new) }
+    ensures input_fault { result ≡ Status.InputFault → Rose (I.faults input.old) (I.faults input.new) }
+    ensures write_fault { result ≡ Status.WriteFault → Rose (O.faults out.old) (O.faults out.new) ⊎ Rose (D.faults diag.old) (D.faults diag.new) }
+
+    // No other file is selected than the one that the words name.
+    ensures chosen { IfSome (F.selected files.new) (λ chosen. file_of (texts words.now) ≡ Some chosen.name) }
+    ensures files_left { file_of (texts words.now) ≡ None → (F.selected files.new ≡ F.selected files.old)
+        × (F.content files.new ≡ F.content files.old) × (F.left files.new ≡ F.left files.old) × (F.faults files.new ≡ F.faults files.old) }
+
+    // Whatever failed: a status that is an answer is the answer, which there is, with its whole output. What was written
+    // begins its output.
+    ensures answered { (source : List ℕ) → TellsFile (F.content files.old) (texts words.now) source → is_answer result ≡ true
+        → (answer : Answer) × IsAnswer (texts words.now) source answer }
+    ensures answer { (source : List ℕ) (answer : Answer) → TellsFile (F.content files.old) (texts words.now) source
+        → IsAnswer (texts words.now) source answer → is_answer result ≡ true → Gives answer result (O.written out.old) (O.written out.new) }
+    ensures prefix { (source : List ℕ) (answer : Answer) → TellsFile (F.content files.old) (texts words.now) source
+        → IsAnswer (texts words.now) source answer → AddsPrefix (O.written out.old) (O.written out.new) answer.output }
+
+    // The line of the status, whole where its output did not fail.
+    ensures line { Steady (D.faults diag.old) (D.faults diag.new) → Appends (D.written diag.old) (D.written diag.new) (line_text result) }
+    // Of a line that was cut short: it is the answer's, or that of a fault or of want of memory.
+    ensures line_part { (status : AnyStatus)
+        × (is_answer status ≡ true → (source : List ℕ) (answer : Answer) → TellsFile (F.content files.old) (texts words.now) source
+        → IsAnswer (texts words.now) source answer → status ≡ answer.status)
+        × AddsPrefix (D.written diag.old) (D.written diag.new) (line_text status) }
+
+    // Input is not read.
+    ensures input_left { I.left input.new ≡ I.left input.old }
+    ensures input_gives { I.can_give input.new ≡ I.can_give input.old }
+    ensures input_faults { I.faults input.new ≡ I.faults input.old }
+{
+    let _ = input;
+    let status = perform(alloc, words, files, out);
+    tell(alloc, status, diag)
+}
