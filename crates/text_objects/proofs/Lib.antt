@@ -1,0 +1,5 @@
+pub mod Moves
+pub mod Blanks
+pub mod Items
+pub mod Justified
+pub mod FrameLemmas

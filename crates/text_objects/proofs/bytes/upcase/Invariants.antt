@@ -1,0 +1,7 @@
+use Rattle.std.proofs.Common.{◌≡◌, ◌++◌, map, take, drop}
+use Rattle.std.specs.Char.{to_ascii_uppercase}
+use Rattle.text_objects.proofs.bytes.upcase.Given as goal
+
+-- the bytes before the place are changed, and the others are as they were
+abbrev pub invariant-loop-byte : goal.invariant-loop-byte
+invariant-loop-byte l = l.bytes ≡ map to_ascii_uppercase (take l.byte-index l.fn.bytes) ++ drop l.byte-index l.fn.bytes
