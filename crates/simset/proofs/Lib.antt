@@ -1,0 +1,10 @@
+pub mod Lists
+pub mod Changes
+pub mod Walks
+pub mod Joins
+pub mod Keeps
+pub mod Adds
+pub mod Neighbours
+pub mod Closings
+pub mod Effects
+pub mod Placing

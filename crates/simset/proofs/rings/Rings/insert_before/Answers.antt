@@ -1,0 +1,15 @@
+use Rattle.std.proofs.Common.{length, ap, ◌∙◌, sym}
+use Rattle.simset.specs.Sets.{Simset}
+use Rattle.simset.proofs.Walks.{sets_of-kept}
+use Rattle.simset.proofs.Keeps.{kept-sets_of}
+use Rattle.simset.proofs.Closings.{kept-view, written-before, in_front_apart, read_previous, within_nodes}
+use Rattle.simset.proofs.rings.Rings.insert_before.Goals as goal
+
+pub put_behind-requires-clause-apart : goal.put_behind-requires-clause-apart
+put_behind-requires-clause-apart c = in_front_apart _ _ _ _ _ (kept-view _ _ (ap (λ (v : Simset). v.sets) c.self.view_is) c.self.invariant) c.requires.link c.requires.outside c.requires.made c.requires.placed (sym (read_previous c.self.inside.nodes.items c.args.place _ (within_nodes _ _ _ (kept-view _ _ (ap (λ (v : Simset). v.sets) c.self.view_is) c.self.invariant) c.requires.made) c.index.ensures))
+
+pub invariant_of-self : goal.invariant_of-self
+invariant_of-self c = kept-sets_of _ _ (written-before _ _ _ _ _ _ _ _ (kept-view _ _ (ap (λ (v : Simset). v.sets) c.self.view_is) c.self.invariant) c.deref_mut.ensures.value (sym c.deref_mut.ensures.len ∙ ap length c.deref_mut.ensures.value) c.requires.link c.requires.outside c.requires.made c.requires.placed (sym (read_previous c.self.inside.nodes.items c.args.place _ (within_nodes _ _ _ (kept-view _ _ (ap (λ (v : Simset). v.sets) c.self.view_is) c.self.invariant) c.requires.made) c.index.ensures)) c.put_behind.ensures)
+
+pub returns-clause-sets : goal.returns-clause-sets
+returns-clause-sets c = sets_of-kept _ _ (written-before _ _ _ _ _ _ _ _ (kept-view _ _ (ap (λ (v : Simset). v.sets) c.self.view_is) c.self.invariant) c.deref_mut.ensures.value (sym c.deref_mut.ensures.len ∙ ap length c.deref_mut.ensures.value) c.requires.link c.requires.outside c.requires.made c.requires.placed (sym (read_previous c.self.inside.nodes.items c.args.place _ (within_nodes _ _ _ (kept-view _ _ (ap (λ (v : Simset). v.sets) c.self.view_is) c.self.invariant) c.requires.made) c.index.ensures)) c.put_behind.ensures)

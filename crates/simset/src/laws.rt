@@ -1,0 +1,48 @@
+//! What follows from the definitions of sets alone: functions without a body, each with its law as its contract.
+ghost use Rattle.std.specs.Prelude.{◌≡◌, ◌≢◌, ℕ, ◌<◌, Option, Some, List};
+ghost use Rattle.simset.specs.Sets.{Linkage, IsLinkAt, IsHeadAt, IsProper, times_in, suc_of, pred_of, cardinal_of, out, follow, precede, into, clear};
+
+/// A link is in at most one set, and there once, after each change: whatever stands in a set before is a link that
+/// was made, and in no other place.
+pub fn a_link_is_in_one_set()
+    ensures out { (sets : List Linkage) (x : ℕ) → IsProper sets → IsProper (out sets x) }
+    ensures follow { (sets : List Linkage) (x : ℕ) (p : Option ℕ) → IsProper sets → IsLinkAt sets x
+        → IsProper (follow sets x p) }
+    ensures precede { (sets : List Linkage) (x : ℕ) (p : Option ℕ) → IsProper sets → IsLinkAt sets x
+        → IsProper (precede sets x p) }
+    ensures into { (sets : List Linkage) (x h : ℕ) → IsProper sets → IsLinkAt sets x → IsHeadAt sets h
+        → IsProper (into sets x (Some h)) }
+    ensures clear { (sets : List Linkage) (h : ℕ) → IsProper sets → IsProper (clear sets h) }
+{}
+
+/// A link that is put beside itself, or beside a link that is in no set, stays outside.
+pub fn beside_no_place_a_link_stays_outside()
+    ensures out { (sets : List Linkage) (x : ℕ) → times_in x (out sets x) ≡ 0 }
+    ensures follow_itself { (sets : List Linkage) (x : ℕ) → IsLinkAt sets x → follow sets x (Some x) ≡ out sets x }
+    ensures precede_itself { (sets : List Linkage) (x : ℕ) → IsLinkAt sets x → precede sets x (Some x) ≡ out sets x }
+    ensures follow_outside { (sets : List Linkage) (x p : ℕ) → IsLinkAt sets p → times_in p sets ≡ 0
+        → follow sets x (Some p) ≡ out sets x }
+    ensures precede_outside { (sets : List Linkage) (x p : ℕ) → IsLinkAt sets p → times_in p sets ≡ 0
+        → precede sets x (Some p) ≡ out sets x }
+{}
+
+/// A link that follows another one in a set is its next link, and one that precedes it the link before it.
+pub fn a_link_beside_a_link_is_its_neighbour()
+    ensures behind { (sets : List Linkage) (x p : ℕ) → IsProper sets → IsLinkAt sets x → p ≢ x
+        → 0 < times_in p sets → suc_of (follow sets x (Some p)) p ≡ Some x }
+    ensures in_front { (sets : List Linkage) (x p : ℕ) → IsProper sets → IsLinkAt sets x → p ≢ x
+        → 0 < times_in p sets → pred_of (follow sets x (Some p)) x ≡ Some p }
+    ensures before { (sets : List Linkage) (x p : ℕ) → IsProper sets → IsLinkAt sets x → p ≢ x
+        → 0 < times_in p sets → pred_of (precede sets x (Some p)) p ≡ Some x }
+    ensures after { (sets : List Linkage) (x p : ℕ) → IsProper sets → IsLinkAt sets x → p ≢ x
+        → 0 < times_in p sets → suc_of (precede sets x (Some p)) x ≡ Some p }
+{}
+
+/// A link that follows a head is the first of its set, one that precedes it or goes into its set the last; after
+/// `clear` the set is empty.
+pub fn the_ends_of_a_set()
+    ensures first { (sets : List Linkage) (x h : ℕ) → IsHeadAt sets h → suc_of (follow sets x (Some h)) h ≡ Some x }
+    ensures last { (sets : List Linkage) (x h : ℕ) → IsHeadAt sets h → pred_of (precede sets x (Some h)) h ≡ Some x }
+    ensures into { (sets : List Linkage) (x h : ℕ) → IsHeadAt sets h → pred_of (into sets x (Some h)) h ≡ Some x }
+    ensures clear { (sets : List Linkage) (h : ℕ) → cardinal_of (clear sets h) h ≡ 0 }
+{}
