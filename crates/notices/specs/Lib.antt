@@ -1,0 +1,3 @@
+pub mod Notices
+pub mod Schedule
+pub mod Seen

@@ -1,0 +1,15 @@
+//! Event notices: the list of the events to come of a simulation block (SIMULA Standard, SIMULATION).
+#![tactic(auto)]
+
+mod laws;
+mod notice;
+mod notice_set;
+mod notice_vec;
+
+pub use laws::{
+    direct_is_prior_at_the_present_time, list_stays_a_schedule, others_keep_their_order,
+    plain_stands_after_equal_times, prior_stands_before_equal_times,
+};
+pub use notice::Notice;
+pub use notice_set::NoticeSet;
+pub use notice_vec::NoticeVec;
