@@ -1,0 +1,10 @@
+//! Who goes on.
+
+/// Where control goes after a scheduling procedure.
+#[derive(Clone, Copy, Debug, PartialEq, Eq)]
+pub enum Next {
+    /// The first notice is still that of the process that operates.
+    Stay,
+    /// The first notice is that of this process now.
+    Resume(u32),
+}
