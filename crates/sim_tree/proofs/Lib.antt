@@ -1,0 +1,11 @@
+pub mod Completion
+pub mod Decide
+pub mod Depth
+pub mod Follow
+pub mod Laws
+pub mod Leads
+pub mod Leaf
+pub mod Prefix
+pub mod ShownLemmas
+pub mod StatementLemmas
+pub mod Steps

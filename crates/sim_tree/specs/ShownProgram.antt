@@ -1,0 +1,319 @@
+-- The derivation that the tree of a program stands for.
+use Rattle.std.specs.Prelude.{ℕ, List, [], ◌∷◌, map, Option, Some, None, nat_lt, if◌then◌else◌}
+use Rattle.sim_base.specs.declared.numbering.TokenNo.{TokenNo}
+use Rattle.sim_base.specs.declared.token.TokenKind.{TokenKind}
+use Rattle.sim_base.specs.declared.token.TokenKind.TheVariants as k
+use Rattle.sim_tree.specs.declared.expr.Expr.{Expr}
+use Rattle.sim_tree.specs.declared.expr.Identifier.{Identifier}
+use Rattle.sim_tree.specs.declared.program.BlockPrefix.{BlockPrefix}
+use Rattle.sim_tree.specs.declared.program.Program.{Program}
+use Rattle.sim_tree.specs.declared.stmt.Activation.{Activation}
+use Rattle.sim_tree.specs.declared.stmt.Activation.TheVariants as activation
+use Rattle.sim_tree.specs.declared.stmt.Assigned.{Assigned}
+use Rattle.sim_tree.specs.declared.stmt.Assignment.{Assignment}
+use Rattle.sim_tree.specs.declared.stmt.Assignment.TheVariants as assignment
+use Rattle.sim_tree.specs.declared.stmt.Block.{Block}
+use Rattle.sim_tree.specs.declared.stmt.Bounds.{Bounds}
+use Rattle.sim_tree.specs.declared.stmt.Constant.{Constant}
+use Rattle.sim_tree.specs.declared.stmt.Constant.TheVariants as constant
+use Rattle.sim_tree.specs.declared.stmt.Decl.{Decl}
+use Rattle.sim_tree.specs.declared.stmt.ForElement.{ForElement}
+use Rattle.sim_tree.specs.declared.stmt.ForElement.TheVariants as for_element
+use Rattle.sim_tree.specs.declared.stmt.Mode.{Mode}
+use Rattle.sim_tree.specs.declared.stmt.Mode.TheVariants as mode
+use Rattle.sim_tree.specs.declared.stmt.ModePart.{ModePart}
+use Rattle.sim_tree.specs.declared.stmt.Protection.{Protection}
+use Rattle.sim_tree.specs.declared.stmt.ReferenceElement.{ReferenceElement}
+use Rattle.sim_tree.specs.declared.stmt.ReferenceElement.TheVariants as reference_element
+use Rattle.sim_tree.specs.declared.stmt.Segment.{Segment}
+use Rattle.sim_tree.specs.declared.stmt.Specification.{Specification}
+use Rattle.sim_tree.specs.declared.stmt.Specifier.{Specifier}
+use Rattle.sim_tree.specs.declared.stmt.Specifier.TheVariants as specifier
+use Rattle.sim_tree.specs.declared.stmt.Stmt.{Stmt}
+use Rattle.sim_tree.specs.declared.stmt.Decl.TheOpen.{Stmt-F, Decl-F, Block-F, Class-F, Procedure-F, When-F}
+use Rattle.sim_tree.specs.declared.stmt.Decl.TheFolds.{fold-Stmt, fold-Decl, fold-Block, fold-Class, fold-Procedure, fold-When}
+use Rattle.sim_tree.specs.declared.stmt.Class.{Class}
+use Rattle.sim_tree.specs.declared.stmt.Procedure.{Procedure}
+use Rattle.sim_tree.specs.declared.stmt.Timing.{Timing}
+use Rattle.sim_tree.specs.declared.stmt.Timing.TheVariants as timing
+use Rattle.sim_tree.specs.declared.stmt.TypeName.{TypeName}
+use Rattle.sim_tree.specs.declared.stmt.TypeName.TheVariants as type_name
+use Rattle.sim_tree.specs.declared.stmt.Variable.{Variable}
+use Rattle.sim_tree.specs.declared.stmt.VirtualSpec.{VirtualSpec}
+use Rattle.sim_tree.specs.declared.stmt.When.{When}
+use Rattle.sim_tree.specs.Grammar as g
+use Rattle.sim_tree.specs.Reading.{Forest, done, leaf, place, node}
+use Rattle.sim_tree.specs.Shown.{shown, raise, expression, row, identifier, arguments, sign_kind}
+
+-- one derivation in a row after the other
+abbrev pub joined : Forest → Forest → Forest
+joined done rest = rest
+joined (leaf i kind f) rest = leaf i kind (joined f rest)
+joined (place i f) rest = place i (joined f rest)
+joined (node n inside f) rest = node n inside (joined f rest)
+
+abbrev pub expr : Expr → Forest → Forest
+expr e rest = node g.Expr (expression e) rest
+
+-- Lists of identifiers, which have at least one.
+abbrev pub next_id : Identifier → Forest
+next_id x = identifier x done
+
+abbrev pub ids : List Identifier → Forest
+ids [] = done
+ids (x ∷ xs) = identifier x (row g.NextId (map next_id xs) done)
+
+-- Types and constants.
+abbrev pub type_shown : TypeName → Forest
+type_shown (type_name.Integer i) = leaf i.0 k.IntegerWord done
+type_shown (type_name.Boolean i) = leaf i.0 k.Boolean done
+type_shown (type_name.Character i) = leaf i.0 k.CharacterWord done
+type_shown (type_name.Text i) = leaf i.0 k.TextWord done
+type_shown (type_name.Reference i class) = leaf i.0 k.Ref (identifier class done)
+
+-- a type, where one is written, and what stands behind it
+abbrev pub typed : Option TypeName → Forest → Forest
+typed None rest = rest
+typed (Some t) rest = node g.TypeName (type_shown t) rest
+
+abbrev pub constant_shown : Constant → Forest
+constant_shown (constant.Integer None i value) = leaf i.0 (k.Integer value) done
+constant_shown (constant.Integer (Some s) i value) = leaf s.token.0 (sign_kind s.sign) (leaf i.0 (k.Integer value) done)
+constant_shown (constant.Character i value) = leaf i.0 (k.Character value) done
+constant_shown (constant.Text i value) = leaf i.0 (k.Text value) done
+constant_shown (constant.True i) = leaf i.0 k.True done
+constant_shown (constant.False i) = leaf i.0 k.False done
+
+abbrev pub value_shown : Option Constant → Forest
+value_shown None = done
+value_shown (Some c) = node g.Value (node g.Constant (constant_shown c) done) done
+
+abbrev pub variable_shown : Variable → Forest
+variable_shown v = identifier v.name (value_shown v.value)
+
+abbrev pub next_variable : Variable → Forest
+next_variable v = node g.Var (variable_shown v) done
+
+abbrev pub variables_shown : List Variable → Forest
+variables_shown [] = done
+variables_shown (v ∷ vs) = node g.Var (variable_shown v) (row g.NextVar (map next_variable vs) done)
+
+-- Arrays.
+abbrev pub bounds_shown : Bounds → Forest
+bounds_shown b = expr b.lower (expr b.upper done)
+
+abbrev pub next_bounds : Bounds → Forest
+next_bounds b = node g.Bounds (bounds_shown b) done
+
+abbrev pub dimensions : List Bounds → Forest
+dimensions [] = done
+dimensions (b ∷ bs) = node g.Bounds (bounds_shown b) (row g.NextBounds (map next_bounds bs) done)
+
+abbrev pub segment_shown : Segment → Forest
+segment_shown s = node g.Ids (ids s.names.items) (dimensions s.bounds.items)
+
+abbrev pub next_segment : Segment → Forest
+next_segment s = node g.Seg (segment_shown s) done
+
+abbrev pub segments_shown : List Segment → Forest
+segments_shown [] = done
+segments_shown (s ∷ ss) = node g.Seg (segment_shown s) (row g.NextSeg (map next_segment ss) done)
+
+-- Formal parameters.
+abbrev pub mode_kind : Mode → TokenKind
+mode_kind mode.Value = k.Value
+mode_kind mode.Name = k.Name
+
+abbrev pub mode_shown : ModePart → Forest
+mode_shown m = leaf m.token.0 (mode_kind m.mode) (node g.Ids (ids m.names.items) done)
+
+abbrev pub specifier_shown : Specifier → Forest → Forest
+specifier_shown (specifier.Simple t) rest = node g.TypeName (type_shown t) rest
+specifier_shown (specifier.Array t i) rest = node g.TypeName (type_shown t) (node g.SpecKind (leaf i.0 k.Array done) rest)
+specifier_shown (specifier.Procedure None i) rest = leaf i.0 k.Procedure rest
+specifier_shown (specifier.Procedure (Some t) i) rest = node g.TypeName (type_shown t) (node g.SpecKind (leaf i.0 k.Procedure done) rest)
+
+abbrev pub specification_shown : Specification → Forest
+specification_shown s = specifier_shown s.specifier (node g.Ids (ids s.names.items) done)
+
+abbrev pub heading_shown : List Identifier → List ModePart → List Specification → Forest
+heading_shown [] [] [] = done
+heading_shown ps ms ss = node g.Ids (ids ps) (row g.Mode (map mode_shown ms) (row g.Spec (map specification_shown ss) done))
+
+-- Protection and virtual procedures.
+abbrev pub protecting : Option TokenNo → Option TokenNo → Forest → Forest
+protecting None None rest = done
+protecting (Some h) None rest = leaf h.0 k.Hidden rest
+protecting None (Some p) rest = leaf p.0 k.Protected rest
+protecting (Some h) (Some p) rest =
+    if nat_lt h.0 p.0
+    then leaf h.0 k.Hidden (node g.AndProtected (leaf p.0 k.Protected done) rest)
+    else leaf p.0 k.Protected (node g.AndHidden (leaf h.0 k.Hidden done) rest)
+
+abbrev pub protection_shown : Protection → Forest
+protection_shown p = protecting p.hidden p.protected (node g.Ids (ids p.names.items) done)
+
+abbrev pub virtual_shown : VirtualSpec → Forest
+virtual_shown v = typed v.result (leaf v.token.0 k.Procedure (node g.Ids (ids v.names.items) done))
+
+abbrev pub virtuals_shown : List VirtualSpec → Forest → Forest
+virtuals_shown [] rest = rest
+virtuals_shown (v ∷ vs) rest = node g.Virt (row g.Vspec (map virtual_shown (v ∷ vs)) done) rest
+
+-- Parts of statements.
+abbrev pub assignment_kind : Assignment → TokenKind
+assignment_kind assignment.Value = k.Assign
+assignment_kind assignment.Reference = k.AssignReference
+
+abbrev pub assigned_shown : Assigned → Forest
+assigned_shown a = leaf a.token.0 (assignment_kind a.sign) (expr a.value done)
+
+-- A left side or a call, and what is assigned. Where an identifier begins it, that and its actuals are taken first.
+abbrev pub acted : Forest → Forest → Forest
+acted (node g.Primary (leaf i (k.Identifier name) actuals) selected) rest =
+    leaf i (k.Identifier name) (joined actuals (node g.AfterHead (joined selected rest) done))
+acted f rest = node g.Postfix f rest
+
+abbrev pub assigning : Expr → List Assigned → Forest
+assigning left [] = done
+assigning left (a ∷ others) = acted (raise 1 (shown left)) (row g.Assigned (map assigned_shown (a ∷ others)) done)
+
+abbrev pub for_element_shown : ForElement → Forest
+for_element_shown (for_element.Value value) = expr value done
+for_element_shown (for_element.Step start i step limit) = expr start (node g.FelemTail (leaf i.0 k.Step (expr step (expr limit done))) done)
+for_element_shown (for_element.While value i condition) = expr value (node g.FelemTail (leaf i.0 k.While (expr condition done)) done)
+
+abbrev pub next_for_element : ForElement → Forest
+next_for_element e = node g.Felem (for_element_shown e) done
+
+abbrev pub for_elements : List ForElement → Forest
+for_elements [] = done
+for_elements (e ∷ es) = node g.Felem (for_element_shown e) (row g.NextFelem (map next_for_element es) done)
+
+abbrev pub reference_element_shown : ReferenceElement → Forest
+reference_element_shown (reference_element.Value value) = expr value done
+reference_element_shown (reference_element.While value i condition) = expr value (node g.RelemTail (leaf i.0 k.While (expr condition done)) done)
+
+abbrev pub next_reference_element : ReferenceElement → Forest
+next_reference_element e = node g.Relem (reference_element_shown e) done
+
+abbrev pub reference_elements : List ReferenceElement → Forest
+reference_elements [] = done
+reference_elements (e ∷ es) = node g.Relem (reference_element_shown e) (row g.NextRelem (map next_reference_element es) done)
+
+abbrev pub activation_kind : Activation → TokenKind
+activation_kind activation.Activate = k.Activate
+activation_kind activation.Reactivate = k.Reactivate
+
+abbrev pub prior_shown : Option TokenNo → Forest
+prior_shown None = done
+prior_shown (Some i) = node g.PriorMark (leaf i.0 k.Prior done) done
+
+abbrev pub timing_inside : Timing → Forest
+timing_inside (timing.At i time prior) = leaf i.0 k.At (expr time (prior_shown prior))
+timing_inside (timing.Delay i time prior) = leaf i.0 k.Delay (expr time (prior_shown prior))
+timing_inside (timing.Before i process) = leaf i.0 k.Before (expr process done)
+timing_inside (timing.After i process) = leaf i.0 k.After (expr process done)
+
+abbrev pub timing_shown : Option Timing → Forest
+timing_shown None = done
+timing_shown (Some t) = node g.Timing (timing_inside t) done
+
+abbrev pub prefix_shown : BlockPrefix → Forest → Forest
+prefix_shown p rest = identifier p.class (arguments (map shown p.arguments.items) rest)
+
+-- Statements. What is inside one is given; a block's is what is inside `begin .. end`.
+-- what is inside a declaration, behind the prefix of a class, if one is written
+pub data Declared : Type 0 where
+  Plain : (inside : Forest) → Declared
+  Prefixed : (prefix : Identifier) → (token : ℕ) → (class : Forest) → Declared
+
+abbrev pub next_statement : Forest → Forest
+next_statement f = node g.Stmt f done
+
+-- The statements of a block and its `end`. Where an identifier begins the first one, it is taken before it.
+abbrev pub begun : Forest → Forest → Forest
+begun (leaf i (k.Identifier name) f) rest = leaf i (k.Identifier name) (node g.AfterId (node g.IdStmt f rest) done)
+begun f rest = node g.Stmt f rest
+
+abbrev pub statements : List Forest → ℕ → Forest
+statements [] end = leaf end k.End done
+statements (f ∷ fs) end = begun f (row g.NextStmt (map next_statement fs) (leaf end k.End done))
+
+abbrev pub contents : List Declared → List Forest → ℕ → Forest
+contents [] fs end = statements fs end
+contents (Plain f ∷ ds) fs end = node g.Decl f (node g.Closing done (node g.Block (contents ds fs end) done))
+contents (Prefixed x i f ∷ ds) fs end =
+    identifier x (node g.AfterId (leaf i k.Class (node g.Cls f (node g.Closing done (node g.Block (contents ds fs end) done)))) done)
+
+abbrev pub block_layer : Block-F Declared Forest Forest Forest Forest Forest → Forest
+block_layer b = leaf b.token.0 k.Begin (node g.Block (contents b.declarations.items b.statements.items b.end.0) done)
+
+abbrev pub procedure_layer : Procedure-F Declared Forest Forest Forest Forest Forest → Forest
+procedure_layer p =
+    identifier p.name (node g.Heading (heading_shown p.parameters.items p.modes.items p.specifications.items) (node g.Stmt p.body.value done))
+
+abbrev pub class_layer : Class-F Declared Forest Forest Forest Forest Forest → Forest
+class_layer c =
+    identifier c.name (node g.Heading (heading_shown c.parameters.items c.modes.items c.specifications.items)
+    (row g.Prot (map protection_shown c.protections.items) (virtuals_shown c.virtuals.items (node g.Stmt c.body.value (place c.end.0 done)))))
+
+abbrev pub when_layer : When-F Declared Forest Forest Forest Forest Forest → Forest
+when_layer w = leaf w.token.0 k.When (identifier w.class (node g.Stmt w.body done))
+
+abbrev pub decl_layer : Decl-F Declared Forest Forest Forest Forest Forest → Declared
+decl_layer (Decl-F.Variables t vs) = Plain (node g.TypeName (type_shown t) (node g.Typed (variables_shown vs.items) done))
+decl_layer (Decl-F.Arrays t i ss) = Plain (node g.TypeName (type_shown t) (node g.Typed (leaf i.0 k.Array (segments_shown ss.items)) done))
+decl_layer (Decl-F.Procedure None i p) = Plain (leaf i.0 k.Procedure (node g.Proc p done))
+decl_layer (Decl-F.Procedure (Some t) i p) = Plain (node g.TypeName (type_shown t) (node g.Typed (leaf i.0 k.Procedure (node g.Proc p done)) done))
+decl_layer (Decl-F.Class None i c) = Plain (leaf i.0 k.Class (node g.Cls c done))
+decl_layer (Decl-F.Class (Some x) i c) = Prefixed x i.0 c
+
+abbrev pub stmt_layer : Stmt-F Declared Forest Forest Forest Forest Forest → Forest
+stmt_layer (Stmt-F.Empty i) = place i.0 done
+stmt_layer (Stmt-F.Block b) = node g.Compound b done
+stmt_layer (Stmt-F.PrefixedBlock p b) = prefix_shown p (node g.AfterHead (node g.Compound b done) done)
+stmt_layer (Stmt-F.Inner i) = leaf i.0 k.Inner done
+stmt_layer (Stmt-F.Call e) = acted (raise 1 (shown e)) done
+stmt_layer (Stmt-F.Assignment left rest) = assigning left rest.items
+stmt_layer (Stmt-F.If i condition first None) = leaf i.0 k.If (expr condition (node g.Stmt first.value done))
+stmt_layer (Stmt-F.If i condition first (Some second)) =
+    leaf i.0 k.If (expr condition (node g.Stmt first.value (node g.ElseBranch (node g.Stmt second.value done) done)))
+stmt_layer (Stmt-F.While i condition body) = leaf i.0 k.While (expr condition (node g.Stmt body.value done))
+stmt_layer (Stmt-F.For i x s elements body) =
+    leaf i.0 k.For (identifier x (node g.ForList (leaf s.0 k.Assign (for_elements elements.items)) (node g.Stmt body.value done)))
+stmt_layer (Stmt-F.ForReference i x s elements body) =
+    leaf i.0 k.For (identifier x (node g.ForList (leaf s.0 k.AssignReference (reference_elements elements.items)) (node g.Stmt body.value done)))
+stmt_layer (Stmt-F.Inspect i object body None) = leaf i.0 k.Inspect (expr object (node g.Arms (node g.Stmt body.value done) done))
+stmt_layer (Stmt-F.Inspect i object body (Some otherwise)) =
+    leaf i.0 k.Inspect (expr object (node g.Arms (node g.Stmt body.value done) (node g.OtherwiseBranch (node g.Stmt otherwise.value done) done)))
+stmt_layer (Stmt-F.InspectWhen i object arms None) = leaf i.0 k.Inspect (expr object (node g.Arms (row g.WhenArm arms.items done) done))
+stmt_layer (Stmt-F.InspectWhen i object arms (Some otherwise)) =
+    leaf i.0 k.Inspect (expr object (node g.Arms (row g.WhenArm arms.items done) (node g.OtherwiseBranch (node g.Stmt otherwise.value done) done)))
+stmt_layer (Stmt-F.Activation i word process time) = leaf i.0 (activation_kind word) (expr process (timing_shown time))
+
+abbrev pub stmt_shown : Stmt → Forest
+stmt_shown = fold-Stmt Declared Forest Forest Forest Forest Forest decl_layer stmt_layer block_layer class_layer procedure_layer when_layer
+
+abbrev pub decl_shown : Decl → Declared
+decl_shown = fold-Decl Declared Forest Forest Forest Forest Forest decl_layer stmt_layer block_layer class_layer procedure_layer when_layer
+
+abbrev pub block_shown : Block → Forest
+block_shown = fold-Block Declared Forest Forest Forest Forest Forest decl_layer stmt_layer block_layer class_layer procedure_layer when_layer
+
+abbrev pub class_shown : Class → Forest
+class_shown = fold-Class Declared Forest Forest Forest Forest Forest decl_layer stmt_layer block_layer class_layer procedure_layer when_layer
+
+abbrev pub procedure_shown : Procedure → Forest
+procedure_shown = fold-Procedure Declared Forest Forest Forest Forest Forest decl_layer stmt_layer block_layer class_layer procedure_layer when_layer
+
+abbrev pub when_shown : When → Forest
+when_shown = fold-When Declared Forest Forest Forest Forest Forest decl_layer stmt_layer block_layer class_layer procedure_layer when_layer
+
+abbrev pub prefixed : Option BlockPrefix → Forest → Forest
+prefixed None rest = rest
+prefixed (Some x) rest = prefix_shown x rest
+
+-- what is inside a program
+abbrev pub program_shown : Program → Forest
+program_shown p = prefixed p.prefix (node g.Compound (block_shown p.block) done)

@@ -1,0 +1,261 @@
+//! Trees of expressions. Each node has the number of its token: the first one, or the operator's in an item of a list.
+
+use sim_base::{ByteString, TokenNo};
+
+/// An occurrence of an identifier.
+#[derive(Debug, Drop)]
+pub struct Identifier {
+    /// Its token.
+    pub token: TokenNo,
+    /// The name in lower case.
+    pub name: ByteString,
+}
+
+/// A sign in front of a sum, or between two of its terms.
+#[derive(Clone, Copy, Debug, PartialEq, Eq)]
+pub enum Sign {
+    /// `+`.
+    Plus,
+    /// `-`.
+    Minus,
+}
+
+/// The sign in front of a sum or a constant.
+#[derive(Clone, Copy, Debug, PartialEq, Eq)]
+pub struct LeadingSign {
+    /// Its token.
+    pub token: TokenNo,
+    /// Which sign.
+    pub sign: Sign,
+}
+
+/// An operator of the level of `*`.
+#[derive(Clone, Copy, Debug, PartialEq, Eq)]
+pub enum Multiplication {
+    /// `*`.
+    Times,
+    /// `//`.
+    Divide,
+}
+
+/// A relation between two values.
+#[derive(Clone, Copy, Debug, PartialEq, Eq)]
+pub enum Relation {
+    /// `<`.
+    Less,
+    /// `<=`.
+    LessEqual,
+    /// `=`.
+    Equal,
+    /// `>=`.
+    GreaterEqual,
+    /// `>`.
+    Greater,
+    /// `<>`.
+    NotEqual,
+    /// `==`.
+    SameReference,
+    /// `=/=`.
+    OtherReference,
+}
+
+/// A test of the class of an object.
+#[derive(Clone, Copy, Debug, PartialEq, Eq)]
+pub enum Membership {
+    /// `is`, the exact class.
+    Is,
+    /// `in`, the class or a subclass.
+    In,
+}
+
+/// An expression. A level of operators with a single operand makes no node, and the operators of one level stand in one
+/// node's list, from left to right. A list of actual parameters or subscripts is empty where none were written.
+#[cycle(expr)]
+#[derive(Drop)]
+pub enum Expr {
+    /// `if condition then first else second`.
+    If {
+        token: TokenNo,
+        condition: Box<Expr>,
+        first: Box<Expr>,
+        second: Box<Expr>,
+    },
+    /// Operands with `or else` between them.
+    OrElse {
+        first: Box<Expr>,
+        rest: Vec<Operand>,
+    },
+    /// Operands with `and then` between them.
+    AndThen {
+        first: Box<Expr>,
+        rest: Vec<Operand>,
+    },
+    /// Operands with `eqv` between them.
+    Eqv {
+        first: Box<Expr>,
+        rest: Vec<Operand>,
+    },
+    /// Operands with `imp` between them.
+    Imp {
+        first: Box<Expr>,
+        rest: Vec<Operand>,
+    },
+    /// Operands with `or` between them.
+    Or {
+        first: Box<Expr>,
+        rest: Vec<Operand>,
+    },
+    /// Operands with `and` between them.
+    And {
+        first: Box<Expr>,
+        rest: Vec<Operand>,
+    },
+    /// `not`, once or several times, and its operand.
+    Not {
+        tokens: Vec<TokenNo>,
+        operand: Box<Expr>,
+    },
+    /// A relation between two values.
+    Related {
+        left: Box<Expr>,
+        token: TokenNo,
+        relation: Relation,
+        right: Box<Expr>,
+    },
+    /// A test of an object's class.
+    Member {
+        object: Box<Expr>,
+        token: TokenNo,
+        membership: Membership,
+        class: Identifier,
+    },
+    /// Operands with `&` between them.
+    Concatenation {
+        first: Box<Expr>,
+        rest: Vec<Operand>,
+    },
+    /// A sum. The sign in front belongs to the whole first term.
+    Sum {
+        sign: Option<LeadingSign>,
+        first: Box<Expr>,
+        rest: Vec<Term>,
+    },
+    /// A product.
+    Product {
+        first: Box<Expr>,
+        rest: Vec<Factor>,
+    },
+    /// Operands with `**` between them.
+    Power {
+        first: Box<Expr>,
+        rest: Vec<Operand>,
+    },
+    /// An operand, and what is taken of it, from left to right.
+    Postfix {
+        primary: Box<Expr>,
+        rest: Vec<Selector>,
+    },
+    /// An integer constant.
+    Integer {
+        token: TokenNo,
+        value: i64,
+    },
+    /// A character constant.
+    Character {
+        token: TokenNo,
+        value: u8,
+    },
+    /// A text constant.
+    Text {
+        token: TokenNo,
+        value: ByteString,
+    },
+    /// `true`.
+    True {
+        token: TokenNo,
+    },
+    /// `false`.
+    False {
+        token: TokenNo,
+    },
+    /// `none`.
+    NoObject {
+        token: TokenNo,
+    },
+    /// `notext`.
+    Notext {
+        token: TokenNo,
+    },
+    /// An identifier, with actual parameters or subscripts or without.
+    Named {
+        name: Identifier,
+        arguments: Vec<Expr>,
+    },
+    /// `this` and a class.
+    This {
+        token: TokenNo,
+        class: Identifier,
+    },
+    /// `new`, a class and its actual parameters.
+    New {
+        token: TokenNo,
+        class: Identifier,
+        arguments: Vec<Expr>,
+    },
+    /// An expression in parentheses.
+    Parentheses {
+        token: TokenNo,
+        inner: Box<Expr>,
+    },
+}
+
+/// An operator that is the only one of its level, and the operand behind it.
+#[cycle(expr)]
+#[derive(Drop)]
+pub struct Operand {
+    /// The operator.
+    pub token: TokenNo,
+    /// What it is applied to.
+    pub operand: Expr,
+}
+
+/// A further term of a sum, with the sign in front.
+#[cycle(expr)]
+#[derive(Drop)]
+pub struct Term {
+    /// The sign's token.
+    pub token: TokenNo,
+    /// Which sign.
+    pub sign: Sign,
+    /// The term.
+    pub term: Expr,
+}
+
+/// A further factor of a product, with the operator in front.
+#[cycle(expr)]
+#[derive(Drop)]
+pub struct Factor {
+    /// The operator's token.
+    pub token: TokenNo,
+    /// Which operator.
+    pub operator: Multiplication,
+    /// The factor.
+    pub factor: Expr,
+}
+
+/// What is taken of an object.
+#[cycle(expr)]
+#[derive(Drop)]
+pub enum Selector {
+    /// `.` and an attribute, with actual parameters or subscripts or without.
+    Dot {
+        token: TokenNo,
+        name: Identifier,
+        arguments: Vec<Expr>,
+    },
+    /// `qua` and a class.
+    Qua {
+        token: TokenNo,
+        class: Identifier,
+    },
+}

@@ -1,0 +1,88 @@
+//! Laws of the grammar, which hold of every token list. Each is a function that does nothing; its clause is the law.
+
+ghost use Rattle.std.specs.Prelude.{List, [], ◌∷◌, ℕ, ◌≡◌, ◌≤◌, ◌<◌, ◌+◌};
+ghost use Rattle.sim_base.specs.declared.token.TokenKind.TheVariants as k;
+ghost use Rattle.sim_base.specs.declared.token.Token.{Token};
+ghost use Rattle.sim_tree.specs.declared.program.Program.{Program as Tree};
+ghost use Rattle.sim_tree.specs.Grammar.{Part, Symbol};
+ghost use Rattle.sim_tree.specs.Grammar as g;
+ghost use Rattle.sim_tree.specs.Examples.{IsProgram, IsBadAt, IsDeepAt, x, y, operand, call, block, end};
+ghost use Rattle.sim_tree.specs.Reading.{done, leaf, node, place, Fails, Fault, Forest, Reads, TooDeep, Unexpected};
+ghost use Rattle.sim_tree.specs.Claim.{Begins, IsFirstBad, SameBelow, one};
+ghost use Rattle.sim_tree.specs.Shown.{expression};
+ghost use Rattle.sim_tree.specs.ShownProgram.{program_shown};
+ghost use Rattle.sim_tree.specs.Tree.{IsTree, deepest, depth_of, limit};
+
+/// A token list has at most one tree.
+pub fn one_tree()
+    ensures { (ws : List Token) (p q : Tree) → IsTree ws p → IsTree ws q → (program_shown p ≡ program_shown q) × (p.lines.items ≡ q.lines.items) }
+{}
+
+/// From a token on, symbols of the grammar have at most one derivation, with one end.
+pub fn one_derivation()
+    ensures { (most : ℕ) (ws : List Token) (d i j m : ℕ) (s : List Symbol) (f h : Forest) → Reads most ws d s i f j → Reads most ws d s i h m → (f ≡ h) × (j ≡ m) }
+{}
+
+/// Where there is a derivation, there is no fault, and there is at most one fault.
+pub fn one_fault()
+    ensures never_both { (most : ℕ) (ws : List Token) (d i j : ℕ) (s : List Symbol) (f : Forest) (e : Fault) → Reads most ws d s i f j → Fails most ws d s i e → ⊥ }
+    ensures one_fault { (most : ℕ) (ws : List Token) (d i : ℕ) (s : List Symbol) (e h : Fault) → Fails most ws d s i e → Fails most ws d s i h → e ≡ h }
+{}
+
+/// The fault of an unexpected token names the first bad token, and there is one such token at most. Before a token that
+/// would nest too deeply none is bad, and what goes on with that token and the next one nests too deeply. (The next one is
+/// looked at since an identifier in front of `class` begins no statement.) A list with a bad token is no program.
+pub fn first_bad_token()
+    ensures unexpected { (most : ℕ) (ws : List Token) (d i k : ℕ) (n : Part) → Fails most ws d (one n) i (Unexpected k) → IsFirstBad ws (one n) i k }
+    ensures too_deep { (most : ℕ) (ws : List Token) (d i k : ℕ) (n : Part) → Fails most ws d (one n) i (TooDeep k) → Begins ws (one n) i k }
+    ensures deep { (most : ℕ) (ws : List Token) (d i k : ℕ) (n : Part) → Fails most ws d (one n) i (TooDeep k) → (whole : List Token) → SameBelow (k + 2) ws whole
+        → (other : ℕ) (f : Forest) (end : ℕ) → Reads other whole d (one n) i f end → most < d + deepest f }
+    ensures one_bad { (ws : List Token) (s : List Symbol) (i k m : ℕ) → IsFirstBad ws s i k → IsFirstBad ws s i m → k ≡ m }
+    ensures no_program { (ws : List Token) (p : Tree) (k : ℕ) → IsTree ws p → IsFirstBad ws (one g.Program) 0 k → ⊥ }
+{}
+
+/// What the grammar gives nests no deeper than its limit.
+pub fn bounded_depth()
+    ensures derivation { (most : ℕ) (ws : List Token) (d i j : ℕ) (s : List Symbol) (f : Forest) → d ≤ most → Reads most ws d s i f j → d + deepest f ≤ most }
+    ensures program { (ws : List Token) (p : Tree) → IsTree ws p → depth_of p ≤ limit }
+{}
+
+/// The grammar at work: trees of some small sources, and the first bad token of others.
+pub fn examples()
+    // begin end
+    ensures empty { IsProgram (k.Begin ∷ k.End ∷ []) (block (end 1)) }
+    // begin x; end has two statements, the second of which is empty.
+    ensures two { IsProgram (k.Begin ∷ x ∷ k.Semicolon ∷ k.End ∷ [])
+        (block (leaf 1 x (node g.AfterId (node g.IdStmt (node g.AfterHead done done) (node g.NextStmt (node g.Stmt (place 3 done) done) (end 3))) done))) }
+    // begin if true then if false then x else y end: the `else` belongs to the inner `if`.
+    ensures nearest { IsProgram (k.Begin ∷ k.If ∷ k.True ∷ k.Then ∷ k.If ∷ k.False ∷ k.Then ∷ x ∷ k.Else ∷ y ∷ k.End ∷ [])
+        (block (node g.Stmt (leaf 1 k.If (node g.Expr (operand 2 k.True) (node g.Stmt (leaf 4 k.If (node g.Expr (operand 5 k.False)
+        (node g.Stmt (call 7 x) (node g.ElseBranch (node g.Stmt (call 9 y) done) done)))) done))) (end 10))) }
+    // begin x class y; ; end: the identifier is the prefix of a class with an empty body.
+    ensures prefix { IsProgram (k.Begin ∷ x ∷ k.Class ∷ y ∷ k.Semicolon ∷ k.Semicolon ∷ k.End ∷ [])
+        (block (leaf 1 x (node g.AfterId (leaf 2 k.Class (node g.Cls (leaf 3 y (node g.Heading done (node g.Stmt (place 5 done) (place 5 done))))
+        (node g.Closing done (node g.Block (end 6) done)))) done))) }
+    // x (y) begin end;: a prefixed block, and a semicolon after it.
+    ensures prefixed { IsProgram (x ∷ k.Open ∷ y ∷ k.Close ∷ k.Begin ∷ k.End ∷ k.Semicolon ∷ [])
+        (leaf 0 x (node g.Args (node g.Expr (operand 2 y) done) (node g.Compound (leaf 4 k.Begin (node g.Block (end 5) done)) done))) }
+    // The empty source is bad at its end.
+    ensures nothing { IsBadAt [] 0 }
+    // begin x := end lacks a value.
+    ensures no_value { IsBadAt (k.Begin ∷ x ∷ k.Assign ∷ k.End ∷ []) 3 }
+    // begin x; integer y end declares after a statement.
+    ensures late { IsBadAt (k.Begin ∷ x ∷ k.Semicolon ∷ k.IntegerWord ∷ y ∷ k.End ∷ []) 3 }
+    // begin integer x y end lacks the comma.
+    ensures no_comma { IsBadAt (k.Begin ∷ k.IntegerWord ∷ x ∷ y ∷ k.End ∷ []) 3 }
+    // begin if x = y = x then y end has two relations in one.
+    ensures chained { IsBadAt (k.Begin ∷ k.If ∷ x ∷ k.Equal ∷ y ∷ k.Equal ∷ x ∷ k.Then ∷ y ∷ k.End ∷ []) 5 }
+    // begin x class ; end lacks the class.
+    ensures no_class { IsBadAt (k.Begin ∷ x ∷ k.Class ∷ k.Semicolon ∷ k.End ∷ []) 3 }
+    // begin x end end goes on after its end.
+    ensures behind { IsBadAt (k.Begin ∷ x ∷ k.End ∷ k.End ∷ []) 3 }
+    // begin x := (y) end, with two levels allowed: y would be an expression at the third.
+    ensures deep_expression { IsDeepAt 2 (k.Begin ∷ x ∷ k.Assign ∷ k.Open ∷ y ∷ k.Close ∷ k.End ∷ []) 4 }
+    // begin x end, with no level allowed: the statement begins at its identifier.
+    ensures deep_statement { IsDeepAt 0 (k.Begin ∷ x ∷ k.End ∷ []) 1 }
+    // begin x class y; x end, with no level allowed: the prefix of a class begins no statement, the body does.
+    ensures deep_body { IsDeepAt 0 (k.Begin ∷ x ∷ k.Class ∷ y ∷ k.Semicolon ∷ x ∷ k.End ∷ []) 5 }
+{}

@@ -1,0 +1,24 @@
+//! Trees of programs, and the grammar: which token lists are programs, and with which tree.
+#![tactic(auto)]
+
+mod expr;
+pub mod grammar;
+mod measure;
+mod program;
+mod stmt;
+mod terminal;
+#[cfg(test)]
+mod tests;
+
+pub use expr::{
+    Expr, Factor, Identifier, LeadingSign, Membership, Multiplication, Operand, Relation, Selector,
+    Sign, Term,
+};
+pub use measure::first_token;
+pub use program::{BlockPrefix, Program};
+pub use stmt::{
+    Activation, Assigned, Assignment, Block, Bounds, Class, Constant, Decl, ForElement, Mode,
+    ModePart, Procedure, Protection, ReferenceElement, Segment, Specification, Specifier, Stmt,
+    Timing, TypeName, Variable, VirtualSpec, When,
+};
+pub use terminal::Terminal;
