@@ -1,11 +1,15 @@
+pub mod Bounded
 pub mod Completion
 pub mod Decide
-pub mod Depth
 pub mod Follow
+pub mod Full
 pub mod Laws
 pub mod Leads
 pub mod Leaf
+pub mod Nests
 pub mod Prefix
 pub mod ShownLemmas
+pub mod Sizes
 pub mod StatementLemmas
+pub mod Statements
 pub mod Steps

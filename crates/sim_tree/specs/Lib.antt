@@ -1,6 +1,7 @@
 pub mod Claim
 pub mod Examples
 pub mod Grammar
+pub mod Nesting
 pub mod Reading
 pub mod Shown
 pub mod ShownProgram

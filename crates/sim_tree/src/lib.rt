@@ -4,6 +4,7 @@
 mod expr;
 pub mod grammar;
 mod measure;
+mod nesting;
 mod program;
 mod stmt;
 mod terminal;
@@ -15,6 +16,7 @@ pub use expr::{
     Sign, Term,
 };
 pub use measure::first_token;
+pub use nesting::depth;
 pub use program::{BlockPrefix, Program};
 pub use stmt::{
     Activation, Assigned, Assignment, Block, Bounds, Class, Constant, Decl, ForElement, Mode,

@@ -1,6 +1,9 @@
 //! Tests of what no clause says: that trees can be built, and taken apart again.
 
-use crate::{Expr, Identifier, LeadingSign, Operand, Sign, Terminal, first_token};
+use crate::{
+    Block, Expr, Identifier, LeadingSign, Operand, Program, Sign, Stmt, Terminal, depth,
+    first_token,
+};
 use sim_base::{ByteString, TokenKind, TokenNo};
 use std::alloc::{AllocError, Global};
 use std::test::Fail;
@@ -37,6 +40,37 @@ fn builds_trees(rt: HostRuntime) -> Result<(), Fail> {
         rest: Vec::new(alloc),
     };
     assert_eq!(rt; first_token(&sum).0, 4);
+    Ok(())
+}
+
+#[test]
+fn measures_depth(rt: HostRuntime) -> Result<(), Fail> {
+    let alloc = rt.alloc();
+    // begin x((x)); end
+    let inner = Box::new(alloc, named(alloc, 3)?)?;
+    let token = TokenNo(2);
+    let mut arguments = Vec::new(alloc);
+    arguments.push(Expr::Parentheses { token, inner })?;
+    let token = TokenNo(1);
+    let name = ByteString::new(Vec::from_slice(alloc, b"x")?);
+    let name = Identifier { token, name };
+    let call = Expr::Named { name, arguments };
+    let end = TokenNo(5);
+    let mut statements = Vec::new(alloc);
+    statements.push(Stmt::Call { call })?;
+    statements.push(Stmt::Empty { token: end })?;
+    let program = Program {
+        prefix: None,
+        block: Block {
+            token: TokenNo(0),
+            declarations: Vec::new(alloc),
+            statements,
+            end,
+        },
+        lines: Vec::new(alloc),
+    };
+    // the statement, its actual parameter, and what is in the parentheses
+    assert_eq!(rt; depth(&program), 3);
     Ok(())
 }
 

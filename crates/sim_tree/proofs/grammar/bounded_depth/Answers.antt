@@ -1,5 +1,5 @@
 use Rattle.std.proofs.Common.{arith}
-use Rattle.sim_tree.proofs.Depth.{bounded}
+use Rattle.sim_tree.proofs.Bounded.{bounded}
 use Rattle.sim_tree.proofs.grammar.bounded_depth.Goals as goal
 
 pub returns-clause-derivation : goal.returns-clause-derivation

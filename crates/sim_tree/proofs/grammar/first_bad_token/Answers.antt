@@ -5,7 +5,7 @@ use Rattle.sim_tree.specs.Grammar.{Symbol}
 use Rattle.sim_tree.specs.Reading.{TooDeep}
 use Rattle.sim_tree.specs.Claim.{IsFirstBad}
 use Rattle.sim_tree.proofs.Completion.{begun, first_bad}
-use Rattle.sim_tree.proofs.Depth.{too_deep}
+use Rattle.sim_tree.proofs.Bounded.{too_deep}
 use Rattle.sim_tree.proofs.grammar.first_bad_token.Goals as goal
 
 -- a bad token before another would have to be good

@@ -1,0 +1,15 @@
+use Rattle.std.proofs.Common.{arith, refl}
+use Rattle.sim_tree.proofs.Nests as nests
+use Rattle.sim_tree.proofs.Statements as st
+use Rattle.sim_tree.proofs.nesting.segments.Goals as goal
+
+pub loop-item-init : goal.loop-item-init
+loop-item-init c = nests.begins c.args.list.now
+
+pub loop-item-preserved : goal.loop-item-preserved
+loop-item-preserved c =
+    let x = c.item-item.result in
+    nests.goes_on c.args.list.now c.loop-item.item-index x c.bounds.result c.loop-item.deepest c.max-deepest.result c.loop-item-test.true c.item-item.is (st.before refl (st.flat_ids x.names.items) (st.nests_dimensions (nests.at_list c.deref.ensures.value c.bounds.ensures))) (omega arith) c.loop-item.invariant
+
+pub returns : goal.returns
+returns c = nests.ends c.args.list.now c.loop-item.item-index c.loop-item.deepest c.loop-item-test.false c.loop-item.invariant
