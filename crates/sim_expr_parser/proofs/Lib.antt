@@ -1,0 +1,5 @@
+pub mod Terminals
+pub mod Steps
+pub mod Tables
+pub mod Shapes
+pub mod Ranges

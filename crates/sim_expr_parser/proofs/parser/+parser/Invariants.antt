@@ -1,0 +1,108 @@
+use Rattle.std.proofs.Common.{◌+◌, ◌*◌, ◌-◌, ◌<◌, ◌≤◌, ℕ, length, map, List, ◌∷◌}
+use Rattle.sim_tree.specs.Grammar as g
+use Rattle.sim_tree.specs.Grammar.{Symbol, Once, Many, Of}
+use Rattle.sim_tree.specs.Shown.{shown, item, operand_shown, term_shown, factor_shown, selector_shown}
+use Rattle.sim_tree.proofs.Steps.{Leads}
+use Rattle.sim_expr_parser.specs.Level.{under, word_kind, many}
+use Rattle.sim_expr_parser.specs.Parsing.{listed}
+use Rattle.sim_expr_parser.proofs.Steps.{Row}
+use Rattle.sim_expr_parser.proofs.parser.+parser.Given as goal
+
+abbrev pub decreases-expression : goal.decreases-expression
+decreases-expression l = (length l.tokens.now - l.at) * 64 + 40
+
+abbrev pub decreases-negation : goal.decreases-negation
+decreases-negation l = (length l.tokens.now - l.at) * 64 + 16
+
+abbrev pub decreases-relation : goal.decreases-relation
+decreases-relation l = (length l.tokens.now - l.at) * 64 + 15
+
+abbrev pub decreases-sum : goal.decreases-sum
+decreases-sum l = (length l.tokens.now - l.at) * 64 + 10
+
+abbrev pub decreases-product : goal.decreases-product
+decreases-product l = (length l.tokens.now - l.at) * 64 + 9
+
+abbrev pub decreases-postfix : goal.decreases-postfix
+decreases-postfix l = (length l.tokens.now - l.at) * 64 + 4
+
+abbrev pub decreases-selector : goal.decreases-selector
+decreases-selector l = (length l.tokens.now - l.at) * 64 + 2
+
+abbrev pub decreases-primary : goal.decreases-primary
+decreases-primary l = (length l.tokens.now - l.at) * 64 + 3
+
+abbrev pub decreases-arguments : goal.decreases-arguments
+decreases-arguments l = (length l.tokens.now - l.at) * 64 + 1
+
+abbrev pub decreases-operated : goal.decreases-operated
+decreases-operated l = (length l.tokens.now - l.at) * 64 + (under l.level * 2 + 4)
+
+abbrev pub decreases-operand : goal.decreases-operand
+decreases-operand l = (length l.tokens.now - l.at) * 64 + (under l.level * 2 + 3)
+
+abbrev pub decreases-operands : goal.decreases-operands
+decreases-operands l = (length l.tokens.now - l.start) * 64 + (under l.level * 2 + 3)
+
+abbrev pub decreases-terms : goal.decreases-terms
+decreases-terms l = (length l.tokens.now - l.start) * 64 + 5
+
+abbrev pub decreases-factors : goal.decreases-factors
+decreases-factors l = (length l.tokens.now - l.start) * 64 + 5
+
+abbrev pub decreases-selectors : goal.decreases-selectors
+decreases-selectors l = (length l.tokens.now - l.start) * 64 + 3
+
+abbrev pub decreases-argument_list : goal.decreases-argument_list
+decreases-argument_list l = (length l.tokens.now - l.start) * 64 + 41
+
+abbrev pub invariant-operands-loop-next : goal.invariant-operands-loop-next
+invariant-operands-loop-next l = record {
+  goes : Row l.tokens l.depth (many l.level) l.start (map (λ o. item (under l.level) (word_kind l.level) (operand_shown o)) l.rest.items) l.at;
+  ahead : l.start ≤ l.at;
+  within : l.at < length l.tokens;
+}
+
+abbrev pub decreases-operands-loop-next : goal.decreases-operands-loop-next
+decreases-operands-loop-next l = length l.tokens - l.at
+
+abbrev pub invariant-terms-loop-sign : goal.invariant-terms-loop-sign
+invariant-terms-loop-sign l = record {
+  goes : Row l.tokens l.depth g.Added l.start (map term_shown l.rest.items) l.at;
+  ahead : l.start ≤ l.at;
+  within : l.at < length l.tokens;
+}
+
+abbrev pub decreases-terms-loop-sign : goal.decreases-terms-loop-sign
+decreases-terms-loop-sign l = length l.tokens - l.at
+
+abbrev pub invariant-factors-loop-operator : goal.invariant-factors-loop-operator
+invariant-factors-loop-operator l = record {
+  goes : Row l.tokens l.depth g.Multiplied l.start (map factor_shown l.rest.items) l.at;
+  ahead : l.start ≤ l.at;
+  within : l.at < length l.tokens;
+}
+
+abbrev pub decreases-factors-loop-operator : goal.decreases-factors-loop-operator
+decreases-factors-loop-operator l = length l.tokens - l.at
+
+abbrev pub invariant-selectors-loop-rest : goal.invariant-selectors-loop-rest
+invariant-selectors-loop-rest l = record {
+  goes : Row l.tokens l.depth g.Selected l.start (map selector_shown l.rest.items) l.at;
+  ahead : l.start ≤ l.at;
+  within : l.at < length l.tokens;
+}
+
+abbrev pub decreases-selectors-loop-rest : goal.decreases-selectors-loop-rest
+decreases-selectors-loop-rest l = length l.tokens - l.at
+
+abbrev pub invariant-argument_list-loop-next : goal.invariant-argument_list-loop-next
+invariant-argument_list-loop-next l = record {
+  goes : (s : List Symbol) → Leads l.tokens l.depth (Of Once g.Expr ∷ Of Many g.NextArg ∷ s) l.start (listed (map shown l.list.items)) l.depth (Of Many g.NextArg ∷ s) l.at;
+  some : 0 < length l.list.items;
+  ahead : l.start ≤ l.at;
+  within : l.at < length l.tokens;
+}
+
+abbrev pub decreases-argument_list-loop-next : goal.decreases-argument_list-loop-next
+decreases-argument_list-loop-next l = length l.tokens - l.at

@@ -1,0 +1,15 @@
+use Rattle.std.proofs.Common.{ℕ, ◌-◌, ◌≤◌, ◌<◌, length, map}
+use Rattle.sim_tree.specs.Grammar as g
+use Rattle.sim_tree.specs.Shown.{not_mark}
+use Rattle.sim_expr_parser.proofs.Steps.{Row}
+use Rattle.sim_expr_parser.proofs.parser.not_marks.Given as goal
+
+abbrev pub invariant-loop-next : goal.invariant-loop-next
+invariant-loop-next l = record {
+  goes : (d : ℕ) → Row l.tokens d g.NotMark l.start (map not_mark l.marks.items) l.at;
+  ahead : l.start ≤ l.at;
+  within : l.at < length l.tokens;
+}
+
+abbrev pub decreases-loop-next : goal.decreases-loop-next
+decreases-loop-next l = length l.tokens - l.at

@@ -1,0 +1,14 @@
+use Rattle.std.proofs.Common.{refl}
+use Rattle.sim_base.specs.declared.token.TokenKind.TheVariants as k
+use Rattle.sim_tree.specs.Grammar.{is, signs}
+use Rattle.sim_expr_parser.specs.Parsing.{operators, tests}
+use Rattle.sim_expr_parser.proofs.Terminals.{took}
+use Rattle.sim_expr_parser.proofs.signs.sign_at.Goals as goal
+
+pub returns-in-Some : goal.returns-in-Some
+unfolding is
+returns-in-Some c = took c.args.tokens.now c.args.at c.in-Some.next signs k.Plus refl refl c.in-Some.ensures
+
+pub returns : goal.returns
+unfolding is
+returns c = took c.args.tokens.now c.args.at c.in_ok-next.next signs k.Minus refl refl c.in_ok-next.ensures

@@ -1,0 +1,62 @@
+//! The levels of operators that have one operator each.
+
+ghost use Rattle.std.specs.Prelude.{◌≡◌, map};
+ghost use Rattle.sim_tree.specs.Shown.{operated, operand_shown, shown};
+ghost use Rattle.sim_expr_parser.specs.Level.{many, under, word, word_kind};
+
+use sim_tree::{Expr, Operand, Terminal};
+
+/// A level with one operator, from the loosest.
+#[derive(Clone, Copy, Debug, PartialEq, Eq)]
+pub enum Level {
+    /// `or else`.
+    OrElse,
+    /// `and then`.
+    AndThen,
+    /// `eqv`.
+    Eqv,
+    /// `imp`.
+    Imp,
+    /// `or`.
+    Or,
+    /// `and`.
+    And,
+    /// `&`.
+    Concatenation,
+    /// `**`.
+    Power,
+}
+
+impl Level {
+    /// Its operator.
+    pub fn operator(self) -> Terminal
+        ensures { result ≡ word self }
+    {
+        match self {
+            Level::OrElse => Terminal::OrElse,
+            Level::AndThen => Terminal::AndThen,
+            Level::Eqv => Terminal::Eqv,
+            Level::Imp => Terminal::Imp,
+            Level::Or => Terminal::Or,
+            Level::And => Terminal::And,
+            Level::Concatenation => Terminal::Ampersand,
+            Level::Power => Terminal::Power,
+        }
+    }
+
+    /// The node of its operands.
+    pub fn node(self, first: Box<Expr>, rest: Vec<Operand>) -> Expr
+        ensures { shown result ≡ operated (under self) (word_kind self) (many self) (shown first.value) (map operand_shown rest.items) }
+    {
+        match self {
+            Level::OrElse => Expr::OrElse { first, rest },
+            Level::AndThen => Expr::AndThen { first, rest },
+            Level::Eqv => Expr::Eqv { first, rest },
+            Level::Imp => Expr::Imp { first, rest },
+            Level::Or => Expr::Or { first, rest },
+            Level::And => Expr::And { first, rest },
+            Level::Concatenation => Expr::Concatenation { first, rest },
+            Level::Power => Expr::Power { first, rest },
+        }
+    }
+}

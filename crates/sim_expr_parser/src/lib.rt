@@ -1,0 +1,16 @@
+//! Expressions: the tree that the grammar gives, or the first bad token, or the first one that nests too deeply.
+#![tactic(auto)]
+
+mod cursor;
+mod level;
+mod parser;
+mod refusal;
+mod signs;
+#[cfg(test)]
+mod tests;
+
+pub use cursor::{eat, expect, identifier_at, terminal_at_token, token_no};
+pub use level::Level;
+pub use parser::{LIMIT, arguments, expression, parse_expr, postfix, selectors};
+pub use refusal::{Stop, SyntaxRefusal};
+pub use signs::leading_sign;
