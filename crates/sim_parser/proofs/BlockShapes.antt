@@ -1,0 +1,70 @@
+-- What blocks, declarations and connection stand for, made of the parts that were read.
+use Rattle.std.proofs.Common.{◌≡◌, ◌<◌, ℕ, true, false, List, [], ◌∷◌, ◌++◌, length, Option, Some, None, map, refl, sym, ap, ◌∙◌, arith}
+use Rattle.std.proofs.lemmas.Bool.{false≢true}
+use Rattle.std.specs.declared.alloc.Global.{Global}
+use Rattle.std.specs.declared.boxed.Box.{Box}
+use Rattle.std.specs.declared.vec.Vec.{Vec}
+use Rattle.sim_base.specs.declared.numbering.TokenNo.{TokenNo}
+use Rattle.sim_base.specs.declared.token.TokenKind.{TokenKind}
+use Rattle.sim_base.specs.declared.token.TokenKind.TheVariants as k
+use Rattle.sim_tree.specs.declared.expr.Expr.{Expr}
+use Rattle.sim_tree.specs.declared.stmt.Stmt.{Stmt}
+use Rattle.sim_tree.specs.declared.stmt.Stmt.TheVariants as s
+use Rattle.sim_tree.specs.declared.stmt.When.{When}
+use Rattle.sim_tree.specs.declared.terminal.Terminal.TheVariants as t
+use Rattle.sim_tree.specs.Terminal.{terminal_of}
+use Rattle.sim_tree.specs.Grammar as g
+use Rattle.sim_tree.specs.Grammar.{is}
+use Rattle.sim_tree.specs.Reading.{Forest, done, leaf, node}
+use Rattle.sim_tree.specs.Shown.{row}
+use Rattle.sim_tree.specs.ShownProgram.{Declared, Plain, Prefixed, begun, contents, expr, next_statement, statements, stmt_shown, when_shown}
+use Rattle.sim_tree.proofs.ShownLemmas.{map-append, row-append}
+use Rattle.sim_tree.proofs.StatementLemmas.{shown-Inspect, shown-Inspect-two, shown-InspectWhen, shown-InspectWhen-two}
+use Rattle.sim_parser.specs.declared.statement.Branch.TheVariants as branch
+use Rattle.sim_parser.specs.Parsing.{branch_shown, declared, statement_list}
+
+pub inspect_shown : (n : TokenNo) (e : Expr) (x : Stmt) (a : Box Stmt Global) (o : Option (Box Stmt Global)) → a.value ≡ x
+    → leaf n.0 k.Inspect (expr e (node g.Arms (node g.Stmt (stmt_shown x) done) (branch_shown branch.Otherwise o))) ≡ stmt_shown (s.Inspect n e a o)
+inspect_shown n e x a None h = ap (λ z. leaf n.0 k.Inspect (expr e (node g.Arms (node g.Stmt (stmt_shown z) done) done))) (sym h) ∙ sym (shown-Inspect n e a)
+inspect_shown n e x a (Some o) h =
+    ap (λ z. leaf n.0 k.Inspect (expr e (node g.Arms (node g.Stmt (stmt_shown z) done) (node g.OtherwiseBranch (node g.Stmt (stmt_shown o.value) done) done)))) (sym h)
+    ∙ sym (shown-Inspect-two n e a o)
+
+pub inspect_when_shown : (n : TokenNo) (e : Expr) (v : Vec When Global) (o : Option (Box Stmt Global))
+    → leaf n.0 k.Inspect (expr e (node g.Arms (row g.WhenArm (map when_shown v.items) done) (branch_shown branch.Otherwise o))) ≡ stmt_shown (s.InspectWhen n e v o)
+inspect_when_shown n e v None = sym (shown-InspectWhen n e v)
+inspect_when_shown n e v (Some o) = sym (shown-InspectWhen-two n e v o)
+
+-- one more declaration
+pub declared-append : (ds : List Declared) (x : Declared) (f : Forest) → declared (ds ++ x ∷ []) f ≡ declared ds (declared (x ∷ []) f)
+declared-append [] (Plain p) f = refl
+declared-append [] (Prefixed y i p) f = refl
+declared-append (Plain p ∷ ds) x f = ap (λ z. node g.Decl p (node g.Closing done (node g.Block z done))) (declared-append ds x f)
+declared-append (Prefixed y i p ∷ ds) x f =
+    ap (λ z. leaf y.token.0 (k.Identifier y.name) (node g.AfterId (leaf i k.Class (node g.Cls p (node g.Closing done (node g.Block z done)))) done)) (declared-append ds x f)
+
+pub contents_declared : (ds : List Declared) (fs : List Forest) (end : ℕ) → declared ds (statements fs end) ≡ contents ds fs end
+contents_declared [] fs end = refl
+contents_declared (Plain p ∷ ds) fs end = ap (λ z. node g.Decl p (node g.Closing done (node g.Block z done))) (contents_declared ds fs end)
+contents_declared (Prefixed y i p ∷ ds) fs end =
+    ap (λ z. leaf y.token.0 (k.Identifier y.name) (node g.AfterId (leaf i k.Class (node g.Cls p (node g.Closing done (node g.Block z done)))) done)) (contents_declared ds fs end)
+
+-- one more statement
+pub statements-more : (xs ys : List Stmt) (y : Stmt) (f : Forest) → 0 < length xs → ys ≡ xs ++ y ∷ []
+    → statement_list (map stmt_shown xs) (node g.NextStmt (next_statement (stmt_shown y)) f) ≡ statement_list (map stmt_shown ys) f
+statements-more [] ys y f some e = absurd (omega (arith, some))
+statements-more (x ∷ xs) ys y f some e =
+    sym (ap (λ l. statement_list (map stmt_shown l) f) e ∙ ap (λ l. node g.Stmt (stmt_shown x) (row g.NextStmt (map next_statement l) f)) (map-append stmt_shown xs y)
+    ∙ ap (λ l. node g.Stmt (stmt_shown x) (row g.NextStmt l f)) (map-append next_statement (map stmt_shown xs) (stmt_shown y))
+    ∙ ap (node g.Stmt (stmt_shown x)) (row-append g.NextStmt (map next_statement (map stmt_shown xs)) (next_statement (stmt_shown y)) f))
+
+-- the first statement of a block, where an identifier begins it and where none does
+pub begun_named : (x : ℕ) (kind : TokenKind) (f h : Forest) → is (terminal_of kind) t.Identifier ≡ true → begun (leaf x kind f) h ≡ leaf x kind (node g.AfterId (node g.IdStmt f h) done)
+unfolding is
+begun_named x (k.Identifier name) f h e = refl
+begun_named x _ f h e = absurd (false≢true e)
+
+pub begun_other : (x : ℕ) (kind : TokenKind) (f h : Forest) → is (terminal_of kind) t.Identifier ≡ false → begun (leaf x kind f) h ≡ node g.Stmt (leaf x kind f) h
+unfolding is
+begun_other x (k.Identifier name) f h e = absurd (false≢true (sym e))
+begun_other x _ f h e = refl

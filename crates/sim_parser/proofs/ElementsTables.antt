@@ -1,0 +1,53 @@
+-- The grammar's table, at what the lists of `for` statements are read by.
+use Rattle.std.proofs.Common.{◌≡◌, ◌∙◌, ap, refl, false, List, [], ◌∷◌, Some, None, if◌then◌else◌}
+use Rattle.std.specs.Prelude.{◌||◌}
+use Rattle.sim_tree.specs.declared.terminal.Terminal.{Terminal}
+use Rattle.sim_tree.specs.declared.terminal.Terminal.TheVariants as t
+use Rattle.sim_tree.specs.Grammar as g
+use Rattle.sim_tree.specs.Grammar.{Symbol, Kept, Mark, Of, Once, Maybe, Many, just, is, right_side}
+
+abbrev pub values_symbols : List Symbol
+values_symbols = Kept (just t.Assign) ∷ Of Once g.Felem ∷ Of Many g.NextFelem ∷ []
+
+abbrev pub references_symbols : List Symbol
+references_symbols = Kept (just t.AssignReference) ∷ Of Once g.Relem ∷ Of Many g.NextRelem ∷ []
+
+pub values_row : right_side g.ForList t.Assign ≡ Some values_symbols
+unfolding right_side is
+values_row = refl
+
+pub references_row : right_side g.ForList t.AssignReference ≡ Some references_symbols
+unfolding right_side is
+references_row = refl
+
+pub no_list : (a : Terminal) → is a t.Assign ≡ false → is a t.AssignReference ≡ false → right_side g.ForList a ≡ None
+unfolding right_side
+no_list a h e =
+    ap (λ x. if x || false then Some values_symbols else (if is a t.AssignReference || false then Some references_symbols else None)) h
+    ∙ ap (λ x. if x || false then Some references_symbols else None) e
+
+abbrev pub element_symbols : List Symbol
+element_symbols = Of Once g.Expr ∷ Of Maybe g.FelemTail ∷ []
+
+abbrev pub reference_symbols : List Symbol
+reference_symbols = Of Once g.Expr ∷ Of Maybe g.RelemTail ∷ []
+
+abbrev pub step_symbols : List Symbol
+step_symbols = Kept (just t.Step) ∷ Of Once g.Expr ∷ Mark t.Until ∷ Of Once g.Expr ∷ []
+
+abbrev pub while_symbols : List Symbol
+while_symbols = Kept (just t.While) ∷ Of Once g.Expr ∷ []
+
+pub step_row : right_side g.FelemTail t.Step ≡ Some step_symbols
+unfolding right_side is
+step_row = refl
+
+pub while_row : right_side g.FelemTail t.While ≡ Some while_symbols
+unfolding right_side is
+while_row = refl
+
+pub no_tail : (a : Terminal) → is a t.Step ≡ false → is a t.While ≡ false → right_side g.FelemTail a ≡ None
+unfolding right_side
+no_tail a h e =
+    ap (λ x. if x || false then Some step_symbols else (if is a t.While || false then Some while_symbols else None)) h
+    ∙ ap (λ x. if x || false then Some while_symbols else None) e

@@ -1,0 +1,15 @@
+pub mod Along
+pub mod BlockShapes
+pub mod BlockSteps
+pub mod BlockTables
+pub mod DeclarationConstants
+pub mod DeclarationLists
+pub mod DeclarationTables
+pub mod ElementsTables
+pub mod HeadingSteps
+pub mod NameSteps
+pub mod OperationTables
+pub mod ProgramSteps
+pub mod StatementRows
+pub mod StatementShapes
+pub mod WordSteps

@@ -1,0 +1,15 @@
+use Rattle.std.proofs.Common.{ℕ, ◌-◌, ◌≤◌, ◌<◌, length, map}
+use Rattle.sim_tree.specs.Grammar as g
+use Rattle.sim_tree.specs.ShownProgram.{protection_shown}
+use Rattle.sim_expr_parser.proofs.Steps.{Row}
+use Rattle.sim_parser.proofs.heading.protections.Given as goal
+
+abbrev pub invariant-loop-words : goal.invariant-loop-words
+invariant-loop-words l = record {
+  goes : (d : ℕ) → Row l.tokens d g.Prot l.start (map protection_shown l.list.items) l.at;
+  ahead : l.start ≤ l.at;
+  within : l.at < length l.tokens;
+}
+
+abbrev pub decreases-loop-words : goal.decreases-loop-words
+decreases-loop-words l = length l.tokens - l.at

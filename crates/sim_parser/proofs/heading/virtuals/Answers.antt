@@ -1,0 +1,37 @@
+use Rattle.std.proofs.Common.{map, refl, sym, ap}
+use Rattle.sim_tree.specs.declared.terminal.Terminal.TheVariants as t
+use Rattle.sim_tree.specs.Grammar as g
+use Rattle.sim_tree.specs.Grammar.{Of, Maybe}
+use Rattle.sim_tree.specs.Reading.{done, node}
+use Rattle.sim_tree.specs.Shown.{row}
+use Rattle.sim_tree.specs.ShownProgram.{virtual_shown, virtuals_shown}
+use Rattle.sim_expr_parser.specs.Parsing.{GivesTo}
+use Rattle.sim_expr_parser.proofs.Steps.{to, to-as, stops-in, stops-at, exit, passed, maybe, marked, mark-stops}
+use Rattle.sim_parser.specs.Fronts.{GivesSome}
+use Rattle.sim_parser.proofs.Along.{closed-by}
+use Rattle.sim_parser.proofs.HeadingSteps.{open-virtual, no-virtual, virtuals-some}
+use Rattle.sim_parser.proofs.heading.virtuals.Goals as goal
+
+pub returns-in_default : goal.returns-in_default
+returns-in_default c = λ d.
+    to-as (λ f. f) (virtuals_shown c.new.result.items) (λ f. ap (λ l. virtuals_shown l f) (sym c.new.ensures.items))
+    (no-virtual c.args.tokens.now d c.args.at c.in_default.ensures c.requires.within)
+
+pub returns-in_err-next : goal.returns-in_err-next
+returns-in_err-next c = λ d.
+    let ws = c.args.tokens.now in
+    let i = c.args.at in
+    let e = c.in_err-next.field-0.0 in
+    let r = c.from_residual in
+    exit (λ r. GivesTo ws d (Of Maybe g.Virt) i (λ v. virtuals_shown v.items) r) r.result e r.ensures.1
+    (stops-in Maybe (open-virtual ws d i c.in-Some.next c.requires.within c.in-Some.ensures) e (mark-stops ws d c.in-Some.next t.Colon e c.in_err-next.ensures))
+
+pub returns : goal.returns
+returns c = λ d.
+    let ws = c.args.tokens.now in
+    let i = c.args.at in
+    let w = to (open-virtual ws d i c.in-Some.next c.requires.within c.in-Some.ensures) (marked c.in_ok-next.ensures) in
+    passed (GivesSome ws d g.Vspec c.in_ok-next.next virtual_shown) (GivesTo ws d (Of Maybe g.Virt) i (λ v. virtuals_shown v.items))
+    (λ x h. to-as (node g.Virt (row g.Vspec (map virtual_shown x.0.items) done)) (virtuals_shown x.0.items) (λ f. virtuals-some x.0.items f h.0) (maybe (closed-by w _ h.1 _ refl)))
+    (λ e h. stops-at Maybe w e h)
+    c.virtual_list.result (c.virtual_list.ensures d)

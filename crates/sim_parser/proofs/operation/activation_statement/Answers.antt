@@ -1,0 +1,56 @@
+use Rattle.std.proofs.Common.{◌∙◌, sym, ap}
+use Rattle.sim_tree.specs.Grammar as g
+use Rattle.sim_tree.specs.Reading.{leaf}
+use Rattle.sim_tree.specs.ShownProgram.{activation_kind, expr, stmt_shown, timing_shown}
+use Rattle.sim_tree.proofs.StatementLemmas.{shown-Activation}
+use Rattle.sim_expr_parser.proofs.Steps.{exit, once, once-stops}
+use Rattle.sim_parser.specs.Parsing.{GivesAll, activation_row}
+use Rattle.sim_parser.proofs.Along.{along, past, left, along-stops, along-ends}
+use Rattle.sim_parser.proofs.operation.activation_statement.Goals as goal
+
+pub returns-in_err-activation : goal.returns-in_err-activation
+returns-in_err-activation c =
+    let ws = c.args.tokens.now in
+    let d = c.args.depth in
+    let at = c.args.at in
+    let w0 = along d at activation_row c.requires.within in
+    let e = c.in_err-activation.field-0.0 in
+    exit (λ r. GivesAll ws d activation_row at stmt_shown r) c.from_residual.result e c.from_residual.ensures.1
+    (along-stops w0 e (c.in_err-activation.ensures d))
+
+pub expression-requires-clause-within : goal.expression-requires-clause-within
+expression-requires-clause-within c = (c.in_ok-activation.ensures c.args.depth).within
+
+pub returns-in_err-process : goal.returns-in_err-process
+returns-in_err-process c =
+    let ws = c.args.tokens.now in
+    let d = c.args.depth in
+    let at = c.args.at in
+    let w1 = past (along d at activation_row c.requires.within) (c.in_ok-activation.ensures d) in
+    let e = c.in_err-process.field-0.0 in
+    let r = c.from_residual-in_err-process in
+    exit (λ r. GivesAll ws d activation_row at stmt_shown r) r.result e r.ensures.1
+    (along-stops w1 e (once-stops ws d c.in_ok-activation.next g.Expr e c.in_err-process.ensures))
+
+pub returns-in_err-timing : goal.returns-in_err-timing
+returns-in_err-timing c =
+    let ws = c.args.tokens.now in
+    let d = c.args.depth in
+    let at = c.args.at in
+    let w2 = past (past (along d at activation_row c.requires.within) (c.in_ok-activation.ensures d)) (once c.in_ok-process.ensures.1) in
+    let e = c.in_err-timing.field-0.0 in
+    let r = c.from_residual-in_err-timing in
+    exit (λ r. GivesAll ws d activation_row at stmt_shown r) r.result e r.ensures.1
+    (along-ends w2 e c.in_err-timing.ensures)
+
+pub returns : goal.returns
+returns c =
+    let d = c.args.depth in
+    let at = c.args.at in
+    let n = c.token_no-token.result in
+    let word = c.in_ok-activation.activation in
+    let process = c.in_ok-process.process in
+    let time = c.in_ok-timing.timing in
+    let w2 = past (past (along d at activation_row c.requires.within) (c.in_ok-activation.ensures d)) (once c.in_ok-process.ensures.1) in
+    left w2 (timing_shown time) c.in_ok-timing.ensures _
+    (ap (λ i. leaf i (activation_kind word) (expr process (timing_shown time))) (sym c.token_no-token.ensures) ∙ sym (shown-Activation n word process time))

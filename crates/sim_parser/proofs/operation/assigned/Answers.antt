@@ -1,0 +1,51 @@
+use Rattle.std.proofs.Common.{refl, arith, true, false, [], ◌∷◌, map}
+use Rattle.sim_tree.specs.Grammar as g
+use Rattle.sim_tree.specs.Grammar.{Kept, Many, Of, Once, assignments}
+use Rattle.sim_tree.specs.Reading.{terminal_at, leaf, done}
+use Rattle.sim_tree.specs.ShownProgram.{assigned_shown, assignment_kind, expr}
+use Rattle.sim_expr_parser.specs.Parsing.{GivesRow}
+use Rattle.sim_expr_parser.proofs.Tables.{one_row}
+use Rattle.sim_expr_parser.proofs.Steps.{exit, opened, to, kept, gone, once, once-stops, row-start, row-more, row-end, row-stops, stops-in}
+use Rattle.sim_parser.proofs.operation.assigned.Goals as goal
+
+pub loop-sign-init : goal.loop-sign-init
+loop-sign-init c = record {
+  goes = row-start assigned_shown c.new-rest.result.items c.new-rest.ensures.items;
+  ahead = omega arith;
+  within = c.requires.within;
+}
+
+pub returns-in_err-value : goal.returns-in_err-value
+returns-in_err-value c =
+    let ws = c.args.tokens.now in
+    let d = c.args.depth in
+    let l = c.loop-sign in
+    let w = c.in-Some.ensures in
+    let e = c.in_err-value.field-0.0 in
+    let sy = Kept assignments ∷ Of Once g.Expr ∷ [] in
+    let m1 = to (opened ws d l.at g.Assigned sy refl (one_row g.Assigned assignments sy (terminal_at ws l.at) true refl w.among) l.invariant.within) (kept l.at refl w) in
+    exit (λ r. GivesRow ws d g.Assigned c.args.start (λ v. map assigned_shown v.items) r) c.from_residual.result e c.from_residual.ensures.1
+    (row-stops ws d c.args.start l.at g.Assigned _ l.invariant.goes e (stops-in Many m1 e (once-stops ws d c.in-Some.next g.Expr e c.in_err-value.ensures)))
+
+pub loop-sign-preserved : goal.loop-sign-preserved
+loop-sign-preserved c =
+    let ws = c.args.tokens.now in
+    let d = c.args.depth in
+    let l = c.loop-sign in
+    let w = c.in-Some.ensures in
+    let n = c.token_no-token.result in
+    let sy = Kept assignments ∷ Of Once g.Expr ∷ [] in
+    let p = c.in_ok-value.ensures.1 in
+    let m2 = to (to (opened ws d l.at g.Assigned sy refl (one_row g.Assigned assignments sy (terminal_at ws l.at) true refl w.among) l.invariant.within) (kept n.0 c.token_no-token.ensures w)) (once p) in
+    let made = leaf n.0 (assignment_kind c.in-Some.sign) (expr c.in_ok-value.value done) in
+    record {
+      goes = row-more assigned_shown l.rest.items c.push.new.self.items _ made l.invariant.goes (gone m2 made refl) c.in_ok-push.ensures.items refl;
+      ahead = omega (arith, l.invariant.ahead, w.ahead, p.ahead);
+      within = p.within;
+    }
+
+pub returns : goal.returns
+returns c =
+    let ws = c.args.tokens.now in
+    let l = c.loop-sign in
+    row-end assigned_shown l.rest.items l.invariant.goes (one_row g.Assigned assignments (Kept assignments ∷ Of Once g.Expr ∷ []) (terminal_at ws l.at) false refl c.in_default.ensures) l.invariant.ahead l.invariant.within

@@ -1,0 +1,5 @@
+pub mod Dimensions
+pub mod Elements
+pub mod Fronts
+pub mod Parsing
+pub mod Program

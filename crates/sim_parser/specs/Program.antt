@@ -1,0 +1,39 @@
+-- What the functions of a whole program promise.
+use Rattle.std.specs.Prelude.{◌<◌, ℕ, List, [], ◌∷◌, length, Option, Result, Ok, Err}
+use Rattle.sim_base.specs.declared.token.Token.{Token}
+use Rattle.sim_tree.specs.declared.program.BlockPrefix.{BlockPrefix}
+use Rattle.sim_tree.specs.declared.program.Program.{Program}
+use Rattle.sim_tree.specs.declared.terminal.Terminal.TheVariants as t
+use Rattle.sim_tree.specs.Grammar as g
+use Rattle.sim_tree.specs.Grammar.{Symbol, Of, Once, Mark, Any}
+use Rattle.sim_tree.specs.Reading.{Forest, done, node, Reads, Fails, Fault}
+use Rattle.sim_tree.specs.Claim.{one}
+use Rattle.sim_tree.specs.ShownProgram.{prefixed}
+use Rattle.sim_tree.specs.Tree.{limit, IsTree}
+use Rattle.sim_expr_parser.specs.declared.refusal.Stop.{Stop}
+use Rattle.sim_expr_parser.specs.declared.refusal.Stop.TheVariants as stop
+use Rattle.sim_expr_parser.specs.Parsing.{Stops}
+
+-- a program behind the prefix of its block
+abbrev pub program_rest : List Symbol
+program_rest = Of Once g.Compound ∷ Any t.Semicolon ∷ Mark t.EndOfSource ∷ []
+
+-- the prefix is read up to j, and the program is what stands there then
+pub record ReadsPrefix (ws : List Token) (prefix : Option BlockPrefix) (j : ℕ) : Type 0 where
+  pub reads : (f : Forest) (m : ℕ) → Reads limit ws 0 program_rest j f m → Reads limit ws 0 (one g.Program) 0 (node g.Program (prefixed prefix f) done) m
+  pub fails : (e : Fault) → Fails limit ws 0 program_rest j e → Fails limit ws 0 (one g.Program) 0 e
+  pub within : j < length ws
+
+-- a token is named, if one is
+abbrev pub NamesToken : List Token → Stop → Type 0
+NamesToken ws (stop.Unexpected k) = k < length ws
+NamesToken ws (stop.TooDeep k) = k < length ws
+NamesToken ws stop.Memory = Unit {0}
+
+abbrev pub GivesPrefix : List Token → Result (Option BlockPrefix × ℕ) Stop → Type 0
+GivesPrefix ws (Ok r) = ReadsPrefix ws r.0 r.1
+GivesPrefix ws (Err e) = Stops ws 0 (one g.Program) 0 e × NamesToken ws e
+
+abbrev pub GivesProgram : List Token → Result Program Stop → Type 0
+GivesProgram ws (Ok p) = IsTree ws p
+GivesProgram ws (Err e) = Stops ws 0 (one g.Program) 0 e × NamesToken ws e

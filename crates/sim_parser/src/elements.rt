@@ -1,0 +1,169 @@
+//! The lists of `for` statements.
+#![tactic(auto, unfolding(sim_tree::specs::Grammar::is))]
+
+ghost use Rattle.std.specs.Prelude.{◌≡◌, ◌≤◌, ◌<◌, ℕ, List, [], ◌∷◌, map, length};
+ghost use Rattle.sim_tree.specs.Grammar as g;
+ghost use Rattle.sim_tree.specs.Grammar.{Of, Once, Many};
+ghost use Rattle.sim_tree.specs.ShownProgram.{for_element_shown, for_elements as for_elements_shown, reference_element_shown, reference_elements as reference_elements_shown};
+ghost use Rattle.sim_expr_parser.specs.Parsing.{IsSource};
+ghost use Rattle.sim_parser.specs.Parsing.{GivesAll, GivesPart};
+ghost use Rattle.sim_parser.specs.Elements.{for_list_shown};
+
+use sim_base::{Token, TokenNo};
+use sim_expr_parser::{LIMIT, Stop, eat, expect, expression, token_no};
+use sim_tree::{ForElement, ReferenceElement, Terminal};
+use std::alloc::Global;
+
+/// The sign and the elements of a `for` list.
+#[derive(Drop)]
+pub enum ForList {
+    /// Over values, with the token of `:=`.
+    Values {
+        sign: TokenNo,
+        elements: Vec<ForElement>,
+    },
+    /// Over references, with the token of `:-`.
+    References {
+        sign: TokenNo,
+        elements: Vec<ReferenceElement>,
+    },
+}
+
+/// The `for` list at its sign, and the index after it.
+pub fn for_list(
+    alloc: Global,
+    tokens: &[Token],
+    at: usize,
+    depth: u32,
+) -> Result<(ForList, usize), Stop>
+    requires source { IsSource tokens.now }
+    requires within { at < length tokens.now }
+    requires shallow { depth ≤ LIMIT }
+    ensures { GivesPart tokens.now depth g.ForList at for_list_shown result }
+{
+    let sign = token_no(tokens, at);
+    if let Some(next) = eat(tokens, at, Terminal::Assign) {
+        let (elements, end) = for_elements(alloc, tokens, next, depth)?;
+        return Ok((ForList::Values { sign, elements }, end));
+    }
+    let next = expect(tokens, at, Terminal::AssignReference)?;
+    let (elements, end) = reference_elements(alloc, tokens, next, depth)?;
+    Ok((ForList::References { sign, elements }, end))
+}
+
+// The elements over values, at least one.
+fn for_elements(
+    alloc: Global,
+    tokens: &[Token],
+    start: usize,
+    depth: u32,
+) -> Result<(Vec<ForElement>, usize), Stop>
+    requires source { IsSource tokens.now }
+    requires within { start < length tokens.now }
+    requires shallow { depth ≤ LIMIT }
+    ensures { GivesAll tokens.now depth (Of Once g.Felem ∷ Of Many g.NextFelem ∷ []) start (λ v. for_elements_shown v.items) result }
+{
+    let mut list = Vec::new(alloc);
+    let (first, mut at) = for_element(alloc, tokens, start, depth)?;
+    list.push(first)?;
+    while let Some(next) = eat(tokens, at, Terminal::Comma) {
+        let (element, end) = for_element(alloc, tokens, next, depth)?;
+        list.push(element)?;
+        at = end;
+    }
+    Ok((list, at))
+}
+
+// An element over values.
+fn for_element(
+    alloc: Global,
+    tokens: &[Token],
+    at: usize,
+    depth: u32,
+) -> Result<(ForElement, usize), Stop>
+    requires source { IsSource tokens.now }
+    requires within { at < length tokens.now }
+    requires shallow { depth ≤ LIMIT }
+    ensures { GivesPart tokens.now depth g.Felem at for_element_shown result }
+{
+    let (value, next) = expression(alloc, tokens, at, depth)?;
+    let token = token_no(tokens, next);
+    if let Some(next) = eat(tokens, next, Terminal::Step) {
+        let (step, next) = expression(alloc, tokens, next, depth)?;
+        let next = expect(tokens, next, Terminal::Until)?;
+        let (limit, end) = expression(alloc, tokens, next, depth)?;
+        let start = value;
+        return Ok((
+            ForElement::Step {
+                start,
+                token,
+                step,
+                limit,
+            },
+            end,
+        ));
+    }
+    let Some(next) = eat(tokens, next, Terminal::While) else {
+        return Ok((ForElement::Value { value }, next));
+    };
+    let (condition, end) = expression(alloc, tokens, next, depth)?;
+    Ok((
+        ForElement::While {
+            value,
+            token,
+            condition,
+        },
+        end,
+    ))
+}
+
+// The elements over references, at least one.
+fn reference_elements(
+    alloc: Global,
+    tokens: &[Token],
+    start: usize,
+    depth: u32,
+) -> Result<(Vec<ReferenceElement>, usize), Stop>
+    requires source { IsSource tokens.now }
+    requires within { start < length tokens.now }
+    requires shallow { depth ≤ LIMIT }
+    ensures { GivesAll tokens.now depth (Of Once g.Relem ∷ Of Many g.NextRelem ∷ []) start (λ v. reference_elements_shown v.items) result }
+{
+    let mut list = Vec::new(alloc);
+    let (first, mut at) = reference_element(alloc, tokens, start, depth)?;
+    list.push(first)?;
+    while let Some(next) = eat(tokens, at, Terminal::Comma) {
+        let (element, end) = reference_element(alloc, tokens, next, depth)?;
+        list.push(element)?;
+        at = end;
+    }
+    Ok((list, at))
+}
+
+// An element over references.
+fn reference_element(
+    alloc: Global,
+    tokens: &[Token],
+    at: usize,
+    depth: u32,
+) -> Result<(ReferenceElement, usize), Stop>
+    requires source { IsSource tokens.now }
+    requires within { at < length tokens.now }
+    requires shallow { depth ≤ LIMIT }
+    ensures { GivesPart tokens.now depth g.Relem at reference_element_shown result }
+{
+    let (value, next) = expression(alloc, tokens, at, depth)?;
+    let token = token_no(tokens, next);
+    let Some(next) = eat(tokens, next, Terminal::While) else {
+        return Ok((ReferenceElement::Value { value }, next));
+    };
+    let (condition, end) = expression(alloc, tokens, next, depth)?;
+    Ok((
+        ReferenceElement::While {
+            value,
+            token,
+            condition,
+        },
+        end,
+    ))
+}

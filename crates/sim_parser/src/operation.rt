@@ -1,0 +1,182 @@
+//! Statements that an operand begins, and activations.
+#![tactic(auto, unfolding(sim_tree::specs::Grammar::is))]
+
+ghost use Rattle.std.specs.Prelude.{◌≡◌, ◌≤◌, ◌<◌, ℕ, List, [], ◌∷◌, map, length, true, false, IfOk, MatchOption};
+ghost use Rattle.sim_tree.specs.declared.terminal.Terminal.TheVariants as t;
+ghost use Rattle.sim_tree.specs.Grammar as g;
+ghost use Rattle.sim_tree.specs.Grammar.{Kept, Of, Maybe, assignments, one_of};
+ghost use Rattle.sim_tree.specs.Reading.{done, leaf, node, terminal_at};
+ghost use Rattle.sim_tree.specs.Shown.{raise, row, selector_shown, shown};
+ghost use Rattle.sim_tree.specs.ShownProgram.{acted, activation_kind, assigned_shown, assignment_kind, prior_shown, stmt_shown, timing_shown};
+ghost use Rattle.sim_expr_parser.specs.Parsing.{GivesRow, GivesTo, IsSource, Took};
+ghost use Rattle.sim_parser.specs.Parsing.{GivesAll, ReadsAll, activation_row, activation_words, operation_row};
+
+use sim_base::{Token, TokenNo};
+use sim_expr_parser::{LIMIT, Stop, eat, expect, expression, postfix, token_no};
+use sim_tree::{Activation, Assigned, Assignment, Expr, Selector, Stmt, Terminal, Timing};
+use std::alloc::{AllocError, Global};
+
+/// Each assignment sign at a token with what stands on its right, and the index after them.
+pub fn assigned(
+    alloc: Global,
+    tokens: &[Token],
+    start: usize,
+    depth: u32,
+) -> Result<(Vec<Assigned>, usize), Stop>
+    requires source { IsSource tokens.now }
+    requires within { start < length tokens.now }
+    requires shallow { depth ≤ LIMIT }
+    ensures { GivesRow tokens.now depth g.Assigned start (λ v. map assigned_shown v.items) result }
+{
+    let mut at = start;
+    let mut rest = Vec::new(alloc);
+    while let Some((sign, next)) = assignment_at(tokens, at) {
+        let (value, end) = expression(alloc, tokens, next, depth)?;
+        let token = token_no(tokens, at);
+        rest.push(Assigned { token, sign, value })?;
+        at = end;
+    }
+    Ok((rest, at))
+}
+
+// The assignment sign at a token, if one stands there, and the index after it.
+fn assignment_at(tokens: &[Token], at: usize) -> Option<(Assignment, usize)>
+    requires source { IsSource tokens.now }
+    requires within { at < length tokens.now }
+    ensures { MatchOption result (one_of assignments (terminal_at tokens.now at) ≡ false) (λ r. Took tokens.now at assignments (assignment_kind r.0) r.1) }
+{
+    if let Some(next) = eat(tokens, at, Terminal::Assign) {
+        return Some((Assignment::Value, next));
+    }
+    let next = eat(tokens, at, Terminal::AssignReference)?;
+    Some((Assignment::Reference, next))
+}
+
+/// A primary with what is taken of it.
+pub fn operand(alloc: Global, primary: Expr, selectors: Vec<Selector>) -> Result<Expr, AllocError>
+    ensures { (shown primary).level ≡ 0 → IfOk result (λ e. raise 1 (shown e) ≡ node g.Primary (raise 0 (shown primary)) (row g.Selected (map selector_shown selectors.items) done)) }
+{
+    if selectors.is_empty() {
+        return Ok(primary);
+    }
+    let primary = Box::new(alloc, primary)?;
+    Ok(Expr::Postfix {
+        primary,
+        rest: selectors,
+    })
+}
+
+/// The statement of an operand: an assignment to it, or a call of it where nothing is assigned.
+pub fn operation(left: Expr, rest: Vec<Assigned>) -> Stmt
+    ensures { stmt_shown result ≡ acted (raise 1 (shown left)) (row g.Assigned (map assigned_shown rest.items) done) }
+{
+    if rest.is_empty() {
+        Stmt::Call { call: left }
+    } else {
+        Stmt::Assignment { left, rest }
+    }
+}
+
+/// The statement that begins with `this`, `new` or a parenthesis, and the index after it.
+pub fn operation_statement(
+    alloc: Global,
+    tokens: &[Token],
+    at: usize,
+    depth: u32,
+) -> Result<(Stmt, usize), Stop>
+    requires source { IsSource tokens.now }
+    requires within { at < length tokens.now }
+    requires shallow { depth ≤ LIMIT }
+    requires begins { one_of (t.This ∷ t.New ∷ t.Open ∷ []) (terminal_at tokens.now at) ≡ true }
+    ensures { GivesAll tokens.now depth operation_row at stmt_shown result }
+{
+    let (left, next) = postfix(alloc, tokens, at, depth)?;
+    let (rest, end) = assigned(alloc, tokens, next, depth)?;
+    Ok((operation(left, rest), end))
+}
+
+/// The statement that begins with `activate` or `reactivate`, and the index after it.
+pub fn activation_statement(
+    alloc: Global,
+    tokens: &[Token],
+    at: usize,
+    depth: u32,
+) -> Result<(Stmt, usize), Stop>
+    requires source { IsSource tokens.now }
+    requires within { at < length tokens.now }
+    requires shallow { depth ≤ LIMIT }
+    ensures { GivesAll tokens.now depth activation_row at stmt_shown result }
+{
+    let token = token_no(tokens, at);
+    let (activation, next) = activation_at(tokens, at)?;
+    let (process, next) = expression(alloc, tokens, next, depth)?;
+    let (timing, end) = timing(alloc, tokens, next, depth)?;
+    Ok((
+        Stmt::Activation {
+            token,
+            activation,
+            process,
+            timing,
+        },
+        end,
+    ))
+}
+
+// The word of an activation, and the index after it.
+fn activation_at(tokens: &[Token], at: usize) -> Result<(Activation, usize), Stop>
+    requires source { IsSource tokens.now }
+    requires within { at < length tokens.now }
+    ensures { (d : ℕ) → GivesTo tokens.now d (Kept activation_words) at (λ a f. leaf at (activation_kind a) f) result }
+{
+    if let Some(next) = eat(tokens, at, Terminal::Activate) {
+        return Ok((Activation::Activate, next));
+    }
+    let next = expect(tokens, at, Terminal::Reactivate)?;
+    Ok((Activation::Reactivate, next))
+}
+
+// When a process is scheduled for, if it is said.
+fn timing(
+    alloc: Global,
+    tokens: &[Token],
+    at: usize,
+    depth: u32,
+) -> Result<(Option<Timing>, usize), Stop>
+    requires source { IsSource tokens.now }
+    requires within { at < length tokens.now }
+    requires shallow { depth ≤ LIMIT }
+    ensures { GivesAll tokens.now depth (Of Maybe g.Timing ∷ []) at timing_shown result }
+{
+    let token = token_no(tokens, at);
+    if let Some(next) = eat(tokens, at, Terminal::At) {
+        let (time, next) = expression(alloc, tokens, next, depth)?;
+        let (prior, end) = prior(tokens, next);
+        return Ok((Some(Timing::At { token, time, prior }), end));
+    }
+    if let Some(next) = eat(tokens, at, Terminal::Delay) {
+        let (time, next) = expression(alloc, tokens, next, depth)?;
+        let (prior, end) = prior(tokens, next);
+        return Ok((Some(Timing::Delay { token, time, prior }), end));
+    }
+    if let Some(next) = eat(tokens, at, Terminal::Before) {
+        let (process, end) = expression(alloc, tokens, next, depth)?;
+        return Ok((Some(Timing::Before { token, process }), end));
+    }
+    let Some(next) = eat(tokens, at, Terminal::After) else {
+        return Ok((None, at));
+    };
+    let (process, end) = expression(alloc, tokens, next, depth)?;
+    Ok((Some(Timing::After { token, process }), end))
+}
+
+// The token of `prior`, if it stands there, and the index after it.
+fn prior(tokens: &[Token], at: usize) -> (Option<TokenNo>, usize)
+    requires source { IsSource tokens.now }
+    requires within { at < length tokens.now }
+    ensures { (d : ℕ) → ReadsAll tokens.now d (Of Maybe g.PriorMark ∷ []) at (prior_shown result.0) result.1 }
+{
+    match eat(tokens, at, Terminal::Prior) {
+        Some(next) => (Some(token_no(tokens, at)), next),
+        None => (None, at),
+    }
+}

@@ -1,0 +1,98 @@
+//! Tests of the next token, and steps over semicolons.
+#![tactic(auto, unfolding(sim_tree::specs::Grammar::is))]
+
+ghost use Rattle.std.specs.Prelude.{◌≡◌, ◌+◌, ◌<◌, ℕ, true, false, length, MatchOption};
+ghost use Rattle.sim_tree.specs.Grammar.{Any, is, one_of, types};
+ghost use Rattle.sim_tree.specs.Reading.{terminal_at};
+ghost use Rattle.sim_tree.specs.declared.terminal.Terminal.TheVariants as t;
+ghost use Rattle.sim_expr_parser.specs.Parsing.{IsSource, ReadsTo};
+ghost use Rattle.sim_parser.specs.Parsing.{Closes, begins as begins_spec, begins_declaration as declaration_spec};
+
+use sim_base::Token;
+use sim_expr_parser::{Stop, eat, terminal_at_token};
+use sim_tree::Terminal;
+
+/// Whether a terminal begins a type.
+pub fn begins_type(terminal: Terminal) -> bool
+    ensures { result ≡ one_of types terminal }
+{
+    matches!(
+        terminal,
+        Terminal::IntegerWord
+            | Terminal::Boolean
+            | Terminal::CharacterWord
+            | Terminal::TextWord
+            | Terminal::Ref
+    )
+}
+
+/// Whether a terminal begins a declaration. The prefix of a class is not looked at.
+pub fn begins_declaration(terminal: Terminal) -> bool
+    ensures { result ≡ one_of declaration_spec terminal }
+{
+    terminal == Terminal::Procedure || terminal == Terminal::Class || begins_type(terminal)
+}
+
+/// Whether a terminal begins a statement that is not empty.
+pub fn begins_statement(terminal: Terminal) -> bool
+    ensures { result ≡ one_of begins_spec terminal }
+{
+    matches!(
+        terminal,
+        Terminal::Identifier
+            | Terminal::Begin
+            | Terminal::Inner
+            | Terminal::This
+            | Terminal::New
+            | Terminal::Open
+            | Terminal::If
+            | Terminal::While
+            | Terminal::For
+            | Terminal::Inspect
+            | Terminal::Activate
+            | Terminal::Reactivate
+    )
+}
+
+/// The index after all semicolons at a token.
+pub fn past_semicolons(tokens: &[Token], start: usize) -> usize
+    requires source { IsSource tokens.now }
+    requires within { start < length tokens.now }
+    ensures { (d : ℕ) → ReadsTo tokens.now d (Any t.Semicolon) start (λ f. f) result }
+{
+    let mut at = start;
+    while let Some(next) = eat(tokens, at, Terminal::Semicolon) {
+        at = next;
+    }
+    at
+}
+
+/// The index after what ends a declaration: a semicolon and all further ones, or nothing in front of `end`.
+pub fn past_closing(tokens: &[Token], at: usize) -> Result<usize, Stop>
+    requires source { IsSource tokens.now }
+    requires within { at < length tokens.now }
+    ensures { (d : ℕ) → Closes tokens.now d at result }
+{
+    if let Some(next) = eat(tokens, at, Terminal::Semicolon) {
+        return Ok(past_semicolons(tokens, next));
+    }
+    if terminal_at_token(tokens, at) != Terminal::End {
+        return Err(Stop::Unexpected(at));
+    }
+    Ok(at)
+}
+
+/// The index of `class` behind an identifier, where an identifier stands at a token and `class` behind it.
+pub fn prefixed_class_at(tokens: &[Token], at: usize) -> Option<usize>
+    requires source { IsSource tokens.now }
+    requires within { at < length tokens.now }
+    ensures { MatchOption result (is (terminal_at tokens.now at) t.Identifier ≡ true → is (terminal_at tokens.now (at + 1)) t.Class ≡ false)
+        (λ next. (is (terminal_at tokens.now at) t.Identifier ≡ true) × (next ≡ at + 1) × (next < length tokens.now) × (is (terminal_at tokens.now next) t.Class ≡ true)) }
+{
+    let next = eat(tokens, at, Terminal::Identifier)?;
+    if terminal_at_token(tokens, next) == Terminal::Class {
+        Some(next)
+    } else {
+        None
+    }
+}
