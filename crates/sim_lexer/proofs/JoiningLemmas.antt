@@ -1,7 +1,8 @@
 -- A token put behind others meets the last of them alone.
-use Rattle.std.proofs.Common.{◌≡◌, List, [], ◌∷◌, ◌++◌, Option, Some, None, refl, ap, ◌∙◌}
+use Rattle.std.proofs.Common.{◌≡◌, ◌≤◌, ◌+◌, List, [], ◌∷◌, ◌++◌, Option, Some, None, length, refl, ap, arith, ◌∙◌}
 use Rattle.sim_base.specs.declared.token.Token.{Token}
 use Rattle.sim_base.specs.declared.token.TokenKind.{TokenKind}
+use Rattle.sim_base.specs.declared.token.TokenKind.TheVariants as k
 use Rattle.sim_lexer.specs.Joining.{pair_of}
 use Rattle.sim_lexer.specs.Spelling.{joined_kind, neighbours, with_next}
 use Rattle.sim_lexer.specs.declared.joining.Pair.TheVariants.{One, Two}
@@ -28,3 +29,29 @@ two_neighbours None first next kind other same =
     ap (λ (k : TokenKind). let t : Token = record { kind = k; place = first.place; line = first.line } in let u : Token = record { kind = other; place = next.place; line = next.line } in t ∷ u ∷ []) left
     ∙ ap (λ (k : TokenKind). let u : Token = record { kind = k; place = next.place; line = next.line } in first ∷ u ∷ []) right
 two_neighbours (Some made) first next kind other same = cc
+
+-- The end of the source is joined to no token.
+
+no_joined_end : (kind : TokenKind) → joined_kind kind k.EndOfSource ≡ None
+no_joined_end (k.Text bytes) = refl
+no_joined_end k.And = refl
+no_joined_end k.Or = refl
+no_joined_end _ = refl
+
+-- it stands behind all other tokens
+pub end_behind : (tokens : List Token) (next : Token) → next.kind ≡ k.EndOfSource → with_next tokens next ≡ tokens ++ next ∷ []
+end_behind [] next end = refl
+end_behind (last ∷ []) next end =
+    ap (λ kind. neighbours (joined_kind last.kind kind) last next) end ∙ ap (λ made. neighbours made last next) (no_joined_end last.kind)
+end_behind (first ∷ second ∷ rest) next end = ap (λ (tokens : List Token). first ∷ tokens) (end_behind (second ∷ rest) next end)
+
+-- a token more at most
+
+few_neighbours : (made : Option TokenKind) (first next : Token) → length (neighbours made first next) ≤ 2
+few_neighbours None first next = omega arith
+few_neighbours (Some kind) first next = omega arith
+
+pub few : (tokens : List Token) (next : Token) → length (with_next tokens next) ≤ length tokens + 1
+few [] next = omega arith
+few (last ∷ []) next = omega (arith, few_neighbours (joined_kind last.kind next.kind) last next)
+few (first ∷ second ∷ rest) next = omega (arith, few (second ∷ rest) next)

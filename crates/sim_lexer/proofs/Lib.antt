@@ -3,6 +3,7 @@ pub mod Fronts
 pub mod JoiningLemmas
 pub mod Lines
 pub mod LongestSign
+pub mod NoEnd
 pub mod Numbers
 pub mod OneAnswer
 pub mod TextLemmas

@@ -1,6 +1,6 @@
 //! The lexer: from the bytes of a source to its tokens.
-ghost use Rattle.std.specs.Prelude.{◌≡◌, ◌≤◌, MatchResult, length};
-ghost use Rattle.sim_lexer.specs.Claims.{Refused, Refuses};
+ghost use Rattle.std.specs.Prelude.{◌≡◌, ◌≤◌, ◌+◌, IfOk, MatchResult, length};
+ghost use Rattle.sim_lexer.specs.Claims.{IsEnded, Refused, Refuses};
 ghost use Rattle.sim_lexer.specs.Spelling.{Lexed, Reads, Spelled, is_end, token};
 
 use crate::item::{Item, front_item};
@@ -25,6 +25,8 @@ pub fn lex(alloc: Global, source: &[u8]) -> Result<Vec<Token>, LexRefusal>
     ensures sound { MatchResult result (λ tokens. Reads source.now (Spelled tokens.items)) (Refuses source.now) }
     ensures exact { (answer : Lexed) → Reads source.now answer
         → MatchResult result (λ tokens. answer ≡ Spelled tokens.items) (Refused answer) }
+    ensures ended { IfOk result (λ tokens. IsEnded tokens.items) }
+    ensures few { IfOk result (λ tokens. length tokens.items ≤ length source.now + 1) }
 {
     if source.len() > SOURCE_LIMIT {
         return Err(LexRefusal::Broken {
@@ -39,6 +41,8 @@ pub fn lex(alloc: Global, source: &[u8]) -> Result<Vec<Token>, LexRefusal>
 fn read(alloc: Global, source: &[u8]) -> Result<Vec<Token>, LexRefusal>
     requires { length source.now ≤ SOURCE_LIMIT }
     ensures sound { MatchResult result (λ tokens. Reads source.now (Spelled tokens.items)) (Refuses source.now) }
+    ensures ended { IfOk result (λ tokens. IsEnded tokens.items) }
+    ensures few { IfOk result (λ tokens. length tokens.items ≤ length source.now + 1) }
 {
     let mut tokens = Vec::new(alloc);
     let mut at = Position {

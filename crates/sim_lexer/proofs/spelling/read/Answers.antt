@@ -1,4 +1,6 @@
-use Rattle.std.proofs.Common.{◌≡◌, List, ap, ◌∙◌, take, sym, subst, refl, arith}
+use Rattle.std.proofs.Common.{◌≡◌, List, length, ap, ◌∙◌, take, sym, subst, refl, arith}
+use Rattle.std.specs.List.{All}
+use Rattle.std.proofs.lemmas.List.Elements.{All-nil}
 use Rattle.sim_base.specs.declared.token.Token.{Token}
 use Rattle.sim_base.specs.declared.token.TokenKind.TheVariants as k
 use Rattle.sim_lexer.specs.Items.{front_item}
@@ -7,6 +9,8 @@ use Rattle.sim_lexer.specs.Within.{IsWithin}
 use Rattle.sim_lexer.specs.declared.item.Item.{Item}
 use Rattle.sim_lexer.specs.declared.item.Item.TheVariants.{Finish, Passed, Lexeme, Fault}
 use Rattle.sim_lexer.proofs.Following.{follows-start, follows-passes, follows-gives, follows-ends, follows-breaks, follows-same, behind-same}
+use Rattle.sim_lexer.proofs.JoiningLemmas.{end_behind, few}
+use Rattle.sim_lexer.proofs.NoEnd.{GivesNoEnd, IsInside, inside-next, no_end-front}
 use Rattle.sim_lexer.proofs.spelling.read.Goals as goal
 
 pub items-init : goal.items-init
@@ -14,6 +18,8 @@ items-init c = record {
   follows = follows-same (follows-start c.requires) c.new-tokens.ensures.items refl refl;
   place = omega arith;
   line = omega arith;
+  inside = subst (All IsInside) (sym c.new-tokens.ensures.items) (All-nil IsInside);
+  few = omega (arith, ap length c.new-tokens.ensures.items);
 }
 
 pub returns-in-Finish : goal.returns-in-Finish
@@ -21,7 +27,17 @@ returns-in-Finish c =
     let front : front_item c.items.at.is_fresh c.items.at.is_behind_end c.items.rest.now ≡ Finish = sym c.in_ok-front_item.ensures.item ∙ c.in-Finish.is in
     let tokens : c.add.new.tokens.items ≡ with_next c.items.tokens.items (token c.items.at k.EndOfSource) =
     c.in_ok-add-in-Finish.ensures.tokens ∙ ap (with_next c.items.tokens.items) c.token.ensures.token in
-    record { sound = subst (λ (ts : List Token). Reads c.args.source.now (Spelled ts)) (sym tokens) (follows-ends c.items.invariant.follows front) }
+    record {
+      sound = subst (λ (ts : List Token). Reads c.args.source.now (Spelled ts)) (sym tokens) (follows-ends c.items.invariant.follows front);
+      ended = record {
+        before = c.items.tokens.items;
+        last = token c.items.at k.EndOfSource;
+        split = tokens ∙ end_behind c.items.tokens.items (token c.items.at k.EndOfSource) refl;
+        end = refl;
+        only = c.items.invariant.inside;
+      };
+      few = omega (arith, ap length tokens, few c.items.tokens.items (token c.items.at k.EndOfSource), c.items.invariant.few);
+    }
 
 pub items-preserved-in-Passed : goal.items-preserved-in-Passed
 items-preserved-in-Passed c =
@@ -32,6 +48,8 @@ items-preserved-in-Passed c =
       follows = follows-same (follows-passes c.items.invariant.follows c.in-Passed.size within.within front) refl at c.split_at.ensures.back;
       place = omega (arith, c.past-at.ensures.place, c.split_at.ensures.front_len, c.split_at.ensures.back_len, c.items.invariant.place);
       line = c.past-at.ensures.line;
+      inside = c.items.invariant.inside;
+      few = omega (arith, c.split_at.ensures.back_len, c.items.invariant.few);
     }
 
 pub items-preserved : goal.items-preserved
@@ -48,9 +66,15 @@ items-preserved c =
           c.split_at-in-Lexeme.ensures.back;
       place = omega (arith, c.past.ensures.place, c.split_at-in-Lexeme.ensures.front_len, c.split_at-in-Lexeme.ensures.back_len, c.items.invariant.place);
       line = c.past.ensures.line;
+      inside =
+          subst (All IsInside) (sym tokens)
+          (inside-next c.items.tokens.items (token c.items.at c.in-Lexeme.kind) c.items.invariant.inside
+          (subst GivesNoEnd front (no_end-front c.items.at.is_fresh c.items.at.is_behind_end c.items.rest.now)));
+      few =
+          omega (arith, c.split_at-in-Lexeme.ensures.back_len, c.items.invariant.few, within.some, within.within, ap length tokens, few c.items.tokens.items (token c.items.at c.in-Lexeme.kind));
     }
 
 pub returns-in-Fault : goal.returns-in-Fault
 returns-in-Fault c =
     let front : front_item c.items.at.is_fresh c.items.at.is_behind_end c.items.rest.now ≡ Fault c.in-Fault.rule = sym c.in_ok-front_item.ensures.item ∙ c.in-Fault.is in
-    record { sound = follows-breaks c.items.invariant.follows c.in-Fault.rule front }
+    record { sound = follows-breaks c.items.invariant.follows c.in-Fault.rule front; ended = tt; few = tt }
