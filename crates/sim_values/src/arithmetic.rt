@@ -102,8 +102,8 @@ pub fn pow(base: i64, exponent: i64) -> Result<i64, RunError>
 }
 
 /// The integer of this size and sign, if it is in the range.
-fn with_sign(negative: bool, size: u64) -> Option<i64>
-    ensures { let z = if negative then neg_ℤ (pos size) else pos size in SomeIff result (IsTrue (is_integer z)) z }
+pub fn with_sign(negative: bool, size: u64) -> Option<i64>
+    ensures value { let z = if negative then neg_ℤ (pos size) else pos size in SomeIff result (IsTrue (is_integer z)) z }
 {
     if !negative {
         i64::try_from(size).ok()

@@ -7,6 +7,7 @@ ghost use Rattle.sim_values.specs.Arithmetic.{is_integer};
 ghost use Rattle.sim_values.specs.Texts.{is_separator, after_separators, after_sign, has_minus, integer_item};
 
 use sim_base::RunError;
+use sim_values::with_sign;
 
 /// The integer that the bytes begin with, and how many bytes it takes: blanks or tabs, an optional sign, blanks or tabs, then
 /// digits. E25 where no digit follows, E28 where the integer is outside the range.
@@ -23,19 +24,6 @@ pub fn integer_item(bytes: &[u8]) -> Result<(i64, usize), RunError>
     let size = capped_value(&unsigned[..digits]);
     let value = with_sign(has_minus(signed), size).ok_or(RunError::E28)?;
     Ok((value, bytes.len() - unsigned.len() + digits))
-}
-
-/// The integer of this size and sign, if it is in the range.
-fn with_sign(negative: bool, size: u64) -> Option<i64>
-    ensures value { let z = if negative then neg_ℤ (pos size) else pos size in SomeIff result (IsTrue (is_integer z)) z }
-{
-    if !negative {
-        i64::try_from(size).ok()
-    } else if size <= i64::MIN.unsigned_abs() {
-        Some(0i64.wrapping_sub_unsigned(size))
-    } else {
-        None
-    }
 }
 
 /// Whether the byte is a blank or a tab.
