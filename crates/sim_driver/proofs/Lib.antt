@@ -6,3 +6,4 @@ pub mod Places
 pub mod Prefixes
 pub mod Runs
 pub mod SourceReads
+pub mod Whole

@@ -4,6 +4,8 @@
 mod arithmetic;
 mod command;
 mod evaluator;
+#[cfg(test)]
+mod grammar_tests;
 mod image;
 mod reading;
 mod source;

@@ -8,24 +8,24 @@ use std::test::Fail;
 
 // What is done to a command: the source in the file `source.sim`, and the calls that fail.
 #[derive(Clone, Copy)]
-struct Setting<'a> {
-    source: &'a [u8],
-    files_failing: &'a [u64],
-    out_failing: &'a [u64],
-    out_room: usize,
-    diag_failing: &'a [u64],
+pub struct Setting<'a> {
+    pub source: &'a [u8],
+    pub files_failing: &'a [u64],
+    pub out_failing: &'a [u64],
+    pub out_room: usize,
+    pub diag_failing: &'a [u64],
 }
 
 // How a command ended, and what it wrote.
 #[derive(Drop)]
-struct Outcome {
-    status: Status,
-    out: Vec<u8>,
-    diag: Vec<u8>,
+pub struct Outcome {
+    pub status: Status,
+    pub out: Vec<u8>,
+    pub diag: Vec<u8>,
 }
 
 // Nothing fails.
-fn sound(source: &[u8]) -> Setting<'_> {
+pub fn sound(source: &[u8]) -> Setting<'_> {
     Setting {
         source,
         files_failing: &[],
@@ -43,7 +43,7 @@ fn texts(alloc: Global, words: &[&str]) -> Result<Vec<String>, AllocError> {
     Ok(texts)
 }
 
-fn outcome_of(alloc: Global, words: &[&str], setting: Setting) -> Result<Outcome, Fail> {
+pub fn outcome_of(alloc: Global, words: &[&str], setting: Setting) -> Result<Outcome, Fail> {
     let words = texts(alloc, words)?;
     let file = (
         String::from_str(alloc, "source.sim")?,
@@ -61,7 +61,7 @@ fn outcome_of(alloc: Global, words: &[&str], setting: Setting) -> Result<Outcome
     })
 }
 
-fn check(rt: &impl Abort, row: usize, outcome: &Outcome, number: u8, out: &[u8], diag: &[u8]) {
+pub fn check(rt: &impl Abort, row: usize, outcome: &Outcome, number: u8, out: &[u8], diag: &[u8]) {
     assert!(rt; outcome.status.number() == number, "status of row {row}");
     assert!(rt; outcome.out.as_slice() == out, "output of row {row}");
     assert!(rt; outcome.diag.as_slice() == diag, "line of row {row}");
@@ -100,7 +100,71 @@ fn sources(rt: HostRuntime) -> Result<(), Fail> {
             b"",
             b"line 1: Z1 form not built\n",
         ),
-        (b"", 1, b"", b"line 1: Z1 form not built\n"),
+        (b"", 1, b"", b"line 1: Y1 unexpected token\n"),
+        (
+            b"begin integer i i := 1 end",
+            1,
+            b"",
+            b"line 1: Y1 unexpected token\n",
+        ),
+        (
+            b"begin\ninteger i;\ni = 1 end",
+            1,
+            b"",
+            b"line 3: Y1 unexpected token\n",
+        ),
+        (
+            b"begin\nx := 1;\ny :=\nend",
+            1,
+            b"",
+            b"line 4: Y1 unexpected token\n",
+        ),
+        (
+            b"begin outimage end\nend",
+            1,
+            b"",
+            b"line 2: Y1 unexpected token\n",
+        ),
+        (b"begin end;", 0, b"", b""),
+        (b"begin integer i end", 0, b"", b""),
+        (b"begin ; outimage; end ; ;", 0, b"\n", b""),
+        (b"link\nbegin end", 1, b"", b"line 1: Z1 form not built\n"),
+        (
+            b"begin x := 1;\nif true then outimage end",
+            1,
+            b"",
+            b"line 1: Z1 form not built\n",
+        ),
+        (
+            b"begin integer i;\ni := -1 end",
+            1,
+            b"",
+            b"line 1: Z1 form not built\n",
+        ),
+        (
+            b"begin integer i;\ni := (1) end",
+            1,
+            b"",
+            b"line 1: Z1 form not built\n",
+        ),
+        (
+            b"begin integer i, j, i; end",
+            1,
+            b"",
+            b"line 1: Z1 form not built\n",
+        ),
+        (
+            b"begin integer sin; end",
+            1,
+            b"",
+            b"line 1: Z1 form not built\n",
+        ),
+        (
+            b"begin integer i; i := 1 *\ni +\nj; k := 2 end",
+            1,
+            b"",
+            b"line 3: S10 identifier not declared\n",
+        ),
         (
             b"begin\ni := 1.5\nend",
             1,

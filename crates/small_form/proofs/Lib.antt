@@ -1,9 +1,7 @@
-pub mod Answer
-pub mod Bodies
-pub mod Declared
+pub mod Blocks
 pub mod Exits
+pub mod Heads
+pub mod Levels
 pub mod Mapped
-pub mod Roles
-pub mod Spelling
-pub mod Steps
-pub mod Unspelled
+pub mod Rows
+pub mod Views

@@ -1,5 +1,6 @@
 pub mod Reserved
-pub mod Symbol
-pub mod Written
+pub mod Pieces
+pub mod Sums
+pub mod Statements
 pub mod Formed
-pub mod Reading
+pub mod Building

@@ -1,21 +1,19 @@
-//! The small form of a program: one block of integer variables with assignments and output. From the tokens of a source
-//! to its tree, in which each variable stands as the number of its declaration.
+//! The small form of a program: one block of integer variables with assignments and output. From the tree of a program
+//! to the tree of this form, in which each variable stands as the number of its declaration.
 #![tactic(auto)]
 
-mod form;
+mod block;
+mod declarations;
+mod identifiers;
 mod items;
-mod mark;
 mod names;
-mod reader;
 mod refusal;
 mod reserved;
-mod role;
 mod statements;
 mod sums;
-mod symbol;
 mod tree;
 
-pub use form::parse_form;
+pub use block::form;
 pub use items::{Boxed, Items};
 pub use refusal::FormRefusal;
 pub use tree::{Addition, Factor, Multiplication, Program, Sign, Statement, Sum, Term};

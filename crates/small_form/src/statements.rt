@@ -1,101 +1,139 @@
-//! The parser of statements.
-ghost use Rattle.std.specs.Prelude.{◌≡◌, ◌≤◌, length, suc};
-ghost use Rattle.small_form.specs.Reading.{Reads, ReadsAll, ends, read_assignment, read_body, read_output, read_statement};
+//! Statements.
+ghost use Rattle.std.specs.Prelude.{◌≡◌, ◌∷◌, [], map, Ok, Err, codes, if◌then◌else◌};
+ghost use Rattle.std.specs.Str.{bytes_eq};
+ghost use Rattle.sim_tree.specs.Grammar as g;
+ghost use Rattle.sim_tree.specs.Reading.{done, node};
+ghost use Rattle.sim_tree.specs.Shown.{arguments as actuals_of, raise, shown};
+ghost use Rattle.sim_tree.specs.ShownProgram.{acted, assigning, stmt_shown};
+ghost use Rattle.small_form.specs.Building.{Builds, sequence};
+ghost use Rattle.small_form.specs.Statements.{behind_in, statement_in};
 
-use crate::mark::Mark;
-use crate::names::Names;
-use crate::reader::Reader;
-use crate::sums::sum;
-use crate::{Boxed, FormRefusal, Items, Statement, symbol};
-use sim_base::{DeclNo, Line};
+use crate::identifiers::Identifiers;
+use crate::sums::{line_of, sum, variable};
+use crate::{Boxed, FormRefusal, Items, Statement};
+use sim_base::Line;
+use sim_tree::{Assigned, Assignment, Expr, Identifier, Stmt};
 use std::alloc::Global;
 
-/// Parses an assignment after its left side.
+/// An assignment of one sum to a variable.
 fn assignment(
     alloc: Global,
-    names: &Names,
-    variable: DeclNo,
-    reader: &mut Reader,
+    lines: &[Line],
+    identifiers: &mut Identifiers,
+    left: &Expr,
+    rest: &[Assigned],
 ) -> Result<Statement, FormRefusal>
-    ensures reads { Reads (read_assignment names.now variable reader.old) result reader.new }
-    ensures kept { length reader.new ≤ length reader.old }
+    ensures { Builds (statement_in identifiers.old.names lines.now (assigning left.now rest.now)) identifiers.old identifiers.new result }
 {
-    if !reader.eat(Mark::Assign) {
+    let Expr::Named { name, arguments } = left else {
+        return Err(FormRefusal::NotBuilt);
+    };
+    if rest.len() != 1 {
         return Err(FormRefusal::NotBuilt);
     }
-    let value = sum(alloc, names, reader)?;
-    let value = Boxed::new(alloc, value)?;
-    Ok(Statement::Assignment { variable, value })
+    let assigned = &rest[0];
+    match assigned.sign {
+        Assignment::Value => {
+            let variable = variable(lines, identifiers, name, arguments)?;
+            let value = sum(alloc, lines, identifiers, &assigned.value)?;
+            let value = Boxed::new(alloc, value)?;
+            Ok(Statement::Assignment { variable, value })
+        }
+        Assignment::Reference => Err(FormRefusal::NotBuilt),
+    }
 }
 
-/// Parses a call of `outint` after that word.
+/// The end of a line.
+fn end_of_line(name: &[u8]) -> Result<Statement, FormRefusal>
+    ensures { result ≡ (if bytes_eq name.now (codes "outimage") then Ok Statement.OutImage else Err FormRefusal.NotBuilt) }
+{
+    if name == b"outimage".as_slice() {
+        Ok(Statement::OutImage)
+    } else {
+        Err(FormRefusal::NotBuilt)
+    }
+}
+
+/// The output of a value in a field.
 fn output(
     alloc: Global,
-    names: &Names,
-    line: Line,
-    reader: &mut Reader,
+    lines: &[Line],
+    identifiers: &mut Identifiers,
+    name: &Identifier,
+    value: &Expr,
+    width: &Expr,
 ) -> Result<Statement, FormRefusal>
-    ensures reads { Reads (read_output names.now line reader.old) result reader.new }
-    ensures kept { length reader.new ≤ length reader.old }
+    ensures { Builds (behind_in identifiers.old.names lines.now name.now.token.0 name.now.name (actuals_of (shown value.now ∷ shown width.now ∷ []) (node g.AfterHead done done))) identifiers.old identifiers.new result }
 {
-    if !reader.eat(Mark::Open) {
+    if name.name.as_bytes() != b"outint".as_slice() {
         return Err(FormRefusal::NotBuilt);
     }
-    let value = sum(alloc, names, reader)?;
-    if !reader.eat(Mark::Comma) {
-        return Err(FormRefusal::NotBuilt);
-    }
-    let width = sum(alloc, names, reader)?;
-    if !reader.eat(Mark::Close) {
-        return Err(FormRefusal::NotBuilt);
-    }
+    let line = line_of(lines, name.token);
+    let value = sum(alloc, lines, identifiers, value)?;
+    let width = sum(alloc, lines, identifiers, width)?;
     let value = Boxed::new(alloc, value)?;
     let width = Boxed::new(alloc, width)?;
     Ok(Statement::OutInt { line, value, width })
 }
 
-/// Parses a statement.
-fn statement(alloc: Global, names: &Names, reader: &mut Reader) -> Result<Statement, FormRefusal>
-    ensures reads { Reads (read_statement names.now reader.old) result reader.new }
-    ensures kept { length reader.new ≤ length reader.old }
-{
-    if reader.eat(Mark::OutImage) {
-        return Ok(Statement::OutImage);
-    }
-    if let Some(line) = reader.outint() {
-        return output(alloc, names, line, reader);
-    }
-    if let Some(name) = reader.name() {
-        return assignment(alloc, names, symbol::variable(names, name), reader);
-    }
-    Ok(Statement::Empty)
-}
-
-/// Takes the end of a program, and says whether it was there and nothing follows.
-fn end(reader: &mut Reader) -> bool
-    ensures { result ≡ ends reader.old }
-{
-    reader.eat(Mark::End) && reader.eat(Mark::Finish) && reader.is_empty()
-}
-
-/// Parses the statements to the end of the program.
-pub fn body(
+/// A call of an output procedure.
+fn call(
     alloc: Global,
-    names: &Names,
-    reader: &mut Reader,
-) -> Result<Items<Statement>, FormRefusal>
-    ensures reads { ReadsAll (read_body names.now (suc (length reader.old)) reader.old) result }
+    lines: &[Line],
+    identifiers: &mut Identifiers,
+    call: &Expr,
+) -> Result<Statement, FormRefusal>
+    ensures { Builds (statement_in identifiers.old.names lines.now (acted (raise 1 (shown call.now)) done)) identifiers.old identifiers.new result }
 {
-    let mut statements = Vec::new(alloc);
-    'statements: loop {
-        let statement = statement(alloc, names, reader)?;
-        statements.push(statement)?;
-        if !reader.eat(Mark::Semicolon) {
-            break;
-        }
+    let Expr::Named { name, arguments } = call else {
+        return Err(FormRefusal::NotBuilt);
+    };
+    if arguments.is_empty() {
+        return end_of_line(name.name.as_bytes());
     }
-    if !end(reader) {
+    if arguments.len() != 2 {
         return Err(FormRefusal::NotBuilt);
     }
-    Ok(Items::new(statements))
+    output(
+        alloc,
+        lines,
+        identifiers,
+        name,
+        &arguments[0],
+        &arguments[1],
+    )
+}
+
+/// A statement.
+fn statement(
+    alloc: Global,
+    lines: &[Line],
+    identifiers: &mut Identifiers,
+    statement: &Stmt,
+) -> Result<Statement, FormRefusal>
+    ensures { Builds (statement_in identifiers.old.names lines.now (stmt_shown statement.now)) identifiers.old identifiers.new result }
+{
+    match statement {
+        Stmt::Empty { .. } => Ok(Statement::Empty),
+        Stmt::Call { call } => self::call(alloc, lines, identifiers, call),
+        Stmt::Assignment { left, rest } => assignment(alloc, lines, identifiers, left, rest),
+        _ => Err(FormRefusal::NotBuilt),
+    }
+}
+
+/// The statements of a block.
+pub fn statements(
+    alloc: Global,
+    lines: &[Line],
+    identifiers: &mut Identifiers,
+    statements: &[Stmt],
+) -> Result<Items<Statement>, FormRefusal>
+    ensures { Builds (sequence (map (λ statement. statement_in identifiers.old.names lines.now (stmt_shown statement)) statements.now)) identifiers.old identifiers.new result }
+{
+    let mut built = Vec::new(alloc);
+    for statement in statements {
+        let next = self::statement(alloc, lines, identifiers, statement)?;
+        built.push(next)?;
+    }
+    Ok(Items::new(built))
 }

@@ -1,154 +1,104 @@
-//! Tests of the parser: tables of sources, whose words stand for their tokens.
+//! Tests of the form of trees that are built by hand.
 
-use crate::{FormRefusal, parse_form};
-use sim_base::{ByteString, Line, Token, TokenKind};
+use crate::{FormRefusal, form};
+use sim_base::{ByteString, Line, TokenNo};
+use sim_tree::{
+    Assigned, Assignment, Block, Decl, Expr, Factor, Identifier, Multiplication, Program, Stmt,
+    TypeName, Variable,
+};
 use std::alloc::{AllocError, Global};
 use std::test::Fail;
 
-/// The kind of token that a word of a test's source stands for.
-fn kind(alloc: Global, word: &str) -> Result<TokenKind, AllocError> {
-    let kind = match word {
-        "begin" => TokenKind::Begin,
-        "end" => TokenKind::End,
-        "integer" => TokenKind::IntegerWord,
-        "class" => TokenKind::Class,
-        "(" => TokenKind::Open,
-        ")" => TokenKind::Close,
-        "," => TokenKind::Comma,
-        ";" => TokenKind::Semicolon,
-        ":=" => TokenKind::Assign,
-        "+" => TokenKind::Plus,
-        "-" => TokenKind::Minus,
-        "*" => TokenKind::Times,
-        _ => match word.parse::<i64>() {
-            Ok(value) => TokenKind::Integer(value),
-            Err(_) => {
-                TokenKind::Identifier(ByteString::new(Vec::from_slice(alloc, word.as_bytes())?))
-            }
-        },
-    };
-    Ok(kind)
+/// An identifier at a token.
+fn identifier(alloc: Global, token: u32, name: &str) -> Result<Identifier, AllocError> {
+    Ok(Identifier {
+        token: TokenNo(token),
+        name: ByteString::new(Vec::from_slice(alloc, name.as_bytes())?),
+    })
 }
 
-/// The tokens of a test's source, each word on its line.
-fn tokens(alloc: Global, source: &str) -> Result<Vec<Token>, AllocError> {
-    let mut tokens = Vec::new(alloc);
-    let mut line = 1u32;
-    for text in source.lines() {
-        for word in text.split_whitespace() {
-            let kind = kind(alloc, word)?;
-            tokens.push(Token {
-                kind,
-                place: 0,
-                line: Line(line),
-            })?;
-        }
-        line = line.wrapping_add(1);
+/// An identifier alone.
+fn named(alloc: Global, token: u32, name: &str) -> Result<Expr, AllocError> {
+    Ok(Expr::Named {
+        name: identifier(alloc, token, name)?,
+        arguments: Vec::new(alloc),
+    })
+}
+
+/// `begin integer a, b; b := used * 2; outimage end`, each token on the line of its number, counted from 1.
+fn program(alloc: Global, used: &str) -> Result<Program, AllocError> {
+    let mut variables = Vec::new(alloc);
+    for (token, name) in [(2, "a"), (4, "b")] {
+        let name = identifier(alloc, token, name)?;
+        variables.push(Variable { name, value: None })?;
     }
-    tokens.push(Token {
-        kind: TokenKind::EndOfSource,
-        place: 0,
-        line: Line(line),
+    let mut declarations = Vec::new(alloc);
+    let type_name = TypeName::Integer(TokenNo(1));
+    declarations.push(Decl::Variables {
+        type_name,
+        variables,
     })?;
-    Ok(tokens)
-}
-
-/// A source that declares so many variables, and nothing else.
-fn declarations(alloc: Global, count: u32) -> Result<String, AllocError> {
-    let mut source = String::from_str(alloc, "begin integer v0")?;
-    for number in 1..count {
-        source.push_str(format!(in alloc; " , v{number}")?.as_str())?;
+    let mut rest = Vec::new(alloc);
+    rest.push(Factor {
+        token: TokenNo(9),
+        operator: Multiplication::Times,
+        factor: Expr::Integer {
+            token: TokenNo(10),
+            value: 2,
+        },
+    })?;
+    let first = Box::new(alloc, named(alloc, 8, used)?)?;
+    let mut assigned = Vec::new(alloc);
+    assigned.push(Assigned {
+        token: TokenNo(7),
+        sign: Assignment::Value,
+        value: Expr::Product { first, rest },
+    })?;
+    let mut statements = Vec::new(alloc);
+    statements.push(Stmt::Assignment {
+        left: named(alloc, 6, "b")?,
+        rest: assigned,
+    })?;
+    statements.push(Stmt::Call {
+        call: named(alloc, 12, "outimage")?,
+    })?;
+    let mut lines = Vec::new(alloc);
+    for line in 1..16 {
+        lines.push(Line(line))?;
     }
-    source.push_str(" ; end")?;
-    Ok(source)
-}
-
-const NOT_BUILT: Option<FormRefusal> = Some(FormRefusal::NotBuilt);
-
-/// The refusal of an identifier that isn't declared.
-fn undeclared(line: u32) -> Option<FormRefusal> {
-    Some(FormRefusal::Undeclared { line: Line(line) })
-}
-
-#[test]
-fn refuses(rt: HostRuntime) -> Result<(), Fail> {
-    let cases = [
-        ("begin end", None),
-        ("begin ; ; end", None),
-        (
-            "begin integer a , b ; integer c ; a := b * 2 + c - 1 end",
-            None,
-        ),
-        (
-            "begin integer a ; outint ( a * a , 5 ) ; outimage end",
-            None,
-        ),
-        ("", NOT_BUILT),
-        ("begin", NOT_BUILT),
-        ("begin end ;", NOT_BUILT),
-        ("begin end end", NOT_BUILT),
-        ("begin integer ; end", NOT_BUILT),
-        ("begin integer a end", NOT_BUILT),
-        ("begin integer a , ; end", NOT_BUILT),
-        ("begin integer a , a ; end", NOT_BUILT),
-        ("begin integer a ; integer a ; end", NOT_BUILT),
-        ("begin integer sin ; end", NOT_BUILT),
-        ("begin integer outint ; end", NOT_BUILT),
-        ("begin integer a ; ; integer b ; end", NOT_BUILT),
-        ("begin integer a ; a := end", NOT_BUILT),
-        ("begin integer a ; a := - 1 end", NOT_BUILT),
-        ("begin integer a ; a := ( 1 ) end", NOT_BUILT),
-        ("begin integer a ; a := 1 * end", NOT_BUILT),
-        ("begin integer a ; a := 1 + end", NOT_BUILT),
-        ("begin integer a ; a := pos end", NOT_BUILT),
-        ("begin outint ( 1 ) end", NOT_BUILT),
-        ("begin outint ( 1 , 2 end", NOT_BUILT),
-        ("begin outimage outimage end", NOT_BUILT),
-        ("begin outtext ( 1 , 2 ) end", NOT_BUILT),
-        ("begin class a ; end", NOT_BUILT),
-        ("begin\nx := 1\nend", undeclared(2)),
-        ("begin integer a ;\na := b ;\nc := 1 end", undeclared(2)),
-        (
-            "begin integer a ; a := a *\na +\nb ;\noutint ( c , 1 ) end",
-            undeclared(3),
-        ),
-        ("begin\nx := 1 ;\ny :=\nend", NOT_BUILT),
-        ("begin\nx := sin end", NOT_BUILT),
-    ];
-    for (source, refusal) in cases.iter() {
-        let tokens = tokens(rt.alloc(), source)?;
-        let found = parse_form(rt.alloc(), &tokens).err();
-        assert_eq!(rt; found, *refusal, "{source}");
-    }
-    Ok(())
+    Ok(Program {
+        prefix: None,
+        block: Block {
+            token: TokenNo(0),
+            declarations,
+            statements,
+            end: TokenNo(13),
+        },
+        lines,
+    })
 }
 
 #[test]
 fn numbers_variables(rt: HostRuntime) -> Result<(), Fail> {
-    let source = "begin integer a , b ; b := a * 2 + 7 ;\noutint ( b ,\n4 ) ; ; outimage end";
-    let tokens = tokens(rt.alloc(), source)?;
-    let program = parse_form(rt.alloc(), &tokens)?;
-    assert_eq!(rt; program.variables, 2);
-    assert_eq!(rt; program.statements.as_slice().len(), 4);
-    let shown = format!(in rt.alloc(); "{program:?}")?;
+    let alloc = rt.alloc();
+    let found = form(alloc, &program(alloc, "a")?)?;
+    let shown = format!(in alloc; "{found:?}")?;
     let wanted = "Program { variables: 2, statements: Items { items: [\
         Assignment { variable: DeclNo(1), value: Boxed { inner: Sum { \
-        first: Term { first: Variable(DeclNo(0)), rest: Items { items: [Multiplication { line: Line(1), factor: Constant(2) }] } }, \
-        rest: Items { items: [Addition { sign: Plus, line: Line(1), term: Term { first: Constant(7), rest: Items { items: [] } } }] } } } }, \
-        OutInt { line: Line(2), value: Boxed { inner: Sum { first: Term { first: Variable(DeclNo(1)), rest: Items { items: [] } }, rest: Items { items: [] } } }, \
-        width: Boxed { inner: Sum { first: Term { first: Constant(4), rest: Items { items: [] } }, rest: Items { items: [] } } } }, \
-        Empty, OutImage] } }";
+        first: Term { first: Variable(DeclNo(0)), rest: Items { items: [Multiplication { line: Line(10), factor: Constant(2) }] } }, \
+        rest: Items { items: [] } } } }, OutImage] } }";
     assert_eq!(rt; shown.as_str(), wanted);
     Ok(())
 }
 
 #[test]
-fn counts_variables(rt: HostRuntime) -> Result<(), Fail> {
-    for (count, refusal) in [(4095, None), (4096, NOT_BUILT)].iter() {
-        let source = declarations(rt.alloc(), *count)?;
-        let tokens = tokens(rt.alloc(), source.as_str())?;
-        let found = parse_form(rt.alloc(), &tokens).err();
-        assert_eq!(rt; found, *refusal, "{count} variables");
-    }
+fn refuses(rt: HostRuntime) -> Result<(), Fail> {
+    let alloc = rt.alloc();
+    let undeclared = FormRefusal::Undeclared { line: Line(9) };
+    assert_eq!(rt; form(alloc, &program(alloc, "c")?).err(), Some(undeclared));
+    assert_eq!(rt;
+        form(alloc, &program(alloc, "sin")?).err(),
+        Some(FormRefusal::NotBuilt)
+    );
     Ok(())
 }

@@ -85,6 +85,6 @@ pub enum Statement {
 pub struct Program {
     /// The number of declared variables, at most 4,095. Each number of a declaration in the tree is below it.
     pub variables: usize,
-    /// The statements in text order, at least one.
+    /// The statements in text order.
     pub statements: Items<Statement>,
 }

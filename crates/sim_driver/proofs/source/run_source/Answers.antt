@@ -1,15 +1,19 @@
-use Rattle.std.proofs.Common.{refl}
+use Rattle.std.proofs.Common.{refl, arith}
 use Rattle.std.proofs.lemmas.Result.{on_ok_weaker}
 use Rattle.sim_base.specs.Place.{line_at}
 use Rattle.sim_lexer.specs.Spelling.{Broken, Spelled}
 use Rattle.sim_driver.specs.SourceMeaning.{refused}
 use Rattle.sim_driver.proofs.Known.{known_source}
 use Rattle.sim_driver.proofs.Places.{read_places}
+use Rattle.sim_driver.proofs.Whole.{whole_source}
 use Rattle.sim_driver.proofs.source.run_source.Goals as goal
 
 pub line_of-requires-clause-within : goal.line_of-requires-clause-within
 line_of-requires-clause-within g c =
     rw c.in-Err-Broken.field-0-is (read_places c.args.source.now (Broken c.in-Err-Broken.rule c.in-Err-Broken.place) (rw c.in-Err-Broken.field-0-is at c.in-Err-Broken.ensures.sound))
+
+pub run_tokens-requires : goal.run_tokens-requires
+run_tokens-requires g c = rw c.deref.ensures.value (whole_source c.in-Ok.tokens.items c.in-Ok.ensures.ended (omega (arith, c.in-Ok.ensures.few, c.requires)))
 
 pub returns-in-Err-Broken-clause-known : goal.returns-in-Err-Broken-clause-known
 returns-in-Err-Broken-clause-known g c =
