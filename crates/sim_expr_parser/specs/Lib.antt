@@ -1,2 +1,3 @@
 pub mod Level
 pub mod Parsing
+pub mod Recursion

@@ -22,7 +22,7 @@ use Rattle.sim_expr_parser.specs.declared.refusal.Stop.TheVariants as stop
 use Rattle.sim_expr_parser.specs.Parsing.{Stops, ReadsTo}
 use Rattle.sim_expr_parser.proofs.Steps.{Within, once-stops, opened, stops}
 use Rattle.sim_expr_parser.proofs.Tables.{by_test, just_is, only}
-use Rattle.sim_parser.specs.Parsing.{Closes, ReadsAll, ReadsDeclarations, NoDeclaration, begins, declared, identified_row, statement_list}
+use Rattle.sim_parser.specs.Parsing.{Closes, ReadsDeclarations, NoDeclaration, begins, declared, identified_row, statement_list}
 use Rattle.sim_parser.proofs.BlockShapes.{begun_named, begun_other, declared-append}
 use Rattle.sim_parser.proofs.BlockTables.{decl_typed, no_decl, no_type, typed_row, behind, begun_row, begun_symbols, named_row, sequence_row, after_other, block_named, block_sequence, statement_named, or_other}
 
@@ -31,17 +31,6 @@ none_some e = cc
 
 some_same : {a b : List Symbol} → Some a ≡ Some b → a ≡ b
 some_same e = cc
-
--- Inside a part, all that is left of it.
-pub closes : {ws : List Token} {d i j e m : ℕ} {n : Part} {F : Forest → Forest} {s : List Symbol} → Within ws d n i F e s j → (f : Forest) → ReadsAll ws e s j f m → (h : Forest) → F f ≡ h → ReadsPart ws d n i h m
-closes {ws} {d} {i} {j} {e} {m} {n} w f r h same = record {
-  right = w.right;
-  begins = w.begins;
-  shallow = w.shallow;
-  inside = subst (λ x. Reads limit ws x w.right i h m) (sym w.depth) (subst (λ y. Reads limit ws e w.right i y m) same (w.leads.reads f m r.reads));
-  ahead = omega (arith, w.ahead, r.ahead);
-  within = r.within;
-}
 
 -- the place of the next token
 pub at_place : {ws : List Token} {d i : ℕ} (x : ℕ) → x ≡ i → i < length ws → ReadsTo ws d Here i (place x) i
@@ -113,10 +102,6 @@ type_stops ws d i x p c within h = go (one_of types (terminal_at ws i)) refl
 -- one token that is kept is one token
 pub kept_one : {ws : List Token} {d i j : ℕ} {any : List Terminal} {f : Forest} → Reads limit ws d (Kept any ∷ []) i f j → j ≡ i + 1
 kept_one (reads-kept h reads-done) = refl
-
--- a token that is kept is one step ahead
-pub named_ahead : {ws : List Token} {d i j : ℕ} {any : List Terminal} {G : Forest → Forest} → ReadsTo ws d (Kept any) i G j → j ≡ i + 1
-named_ahead {j = j} r = kept_one (r.reads [] done j reads-done)
 
 -- the parts that begin with a token that is kept
 abbrev taker : Part → Bool

@@ -3,3 +3,4 @@ pub mod Elements
 pub mod Fronts
 pub mod Parsing
 pub mod Program
+pub mod Recursion

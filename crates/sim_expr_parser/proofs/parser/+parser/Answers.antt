@@ -1,4 +1,4 @@
-use Rattle.std.proofs.Common.{◌≡◌, ◌<◌, ◌≤◌, length, ◌+◌, ℕ, suc, true, false, List, [], ◌∷◌, ◌++◌, refl, map, sym, ap, ◌∙◌, subst, arith, length-append, Ok, Err}
+use Rattle.std.proofs.Common.{◌≡◌, length, ◌+◌, suc, true, false, [], ◌∷◌, ◌++◌, refl, map, sym, ap, ◌∙◌, subst, arith, length-append, Ok}
 use Rattle.std.proofs.Common.{◌⊎◌, inl, inr}
 use Rattle.std.proofs.lemmas.Bool.{eqb-true}
 use Rattle.std.specs.Prelude.{vec_len}
@@ -6,17 +6,17 @@ use Rattle.sim_base.specs.declared.token.TokenKind.TheVariants as k
 use Rattle.sim_tree.specs.declared.terminal.Terminal.TheVariants as t
 use Rattle.sim_tree.specs.Grammar as g
 use Rattle.sim_tree.specs.Grammar.{Once, Maybe, Many, Of, Kept, Mark, Symbol, is, just, one_of, literals, signs, relations, right_side}
-use Rattle.sim_tree.specs.Reading.{Forest, done, leaf, node, terminal_at, kind_at, reads-skip, after-skip, fails-part, fails-deep}
+use Rattle.sim_tree.specs.Reading.{done, leaf, node, terminal_at, reads-skip, after-skip}
 use Rattle.sim_tree.specs.Claim.{one}
-use Rattle.sim_tree.specs.Shown.{Shown, shown, summed, raise, row, item, operand_shown, term_shown, factor_shown, selector_shown, not_mark, sign_kind, multiplication_kind, relation_kind, membership_kind, identifier, level_part, whole, argument, arguments}
+use Rattle.sim_tree.specs.Shown.{shown, summed, raise, row, item, operand_shown, term_shown, factor_shown, selector_shown, not_mark, sign_kind, multiplication_kind, relation_kind, membership_kind, identifier, level_part, whole, argument, arguments}
 use Rattle.sim_tree.proofs.ShownLemmas.{shown-If, shown-Named, shown-This, shown-New, shown-Parentheses, shown-Member, shown-Related, shown-Dot, shown-Qua, shown-Sum, shown-Product, shown-Postfix, shown-Not, shown-operand, shown-term, shown-factor}
-use Rattle.sim_expr_parser.specs.Level.{under, word, word_kind, many}
+use Rattle.sim_expr_parser.specs.Level.{under, word_kind, many}
 use Rattle.sim_expr_parser.specs.Parsing.{GivesConstant, listed, GivesLevel, GivesRow, GivesTo, GivesNext, GivesList, operators}
 use Rattle.sim_expr_parser.proofs.Tables.{no_end, no_expression, deep-expression, simple-begins, under-limit, open-if, open-simple, name_symbols, this_symbols, new_symbols, open_symbols, primary_name, primary_this, primary_new, primary_open, primary_constant, no_primary, by_test, related, related_symbols, member_symbols, test_alone, args_symbols, more_symbols, dot_symbols, qua_symbols, selected_dot, selected_qua, no_selected, only, one_row, just_is, open-level, open-item, no-item, took-item}
 use Rattle.sim_tree.proofs.Steps.{start, past-one, leads-as}
 use Rattle.sim_expr_parser.proofs.Terminals.{took_one, not_is}
 use Rattle.sim_expr_parser.proofs.Shapes.{front, front-none, summed-is, if-forest, arguments-some, listed-more, operated-some, negated-some, multiplied-some, selected-some, summed-some, sign-to, some-mapped}
-use Rattle.sim_expr_parser.proofs.Steps.{memory-stops, unexpected-primary, to-as, to-list, stops-at, leads-stops, Within, opened, to, stops, stops-in, gone, level-made, level-up, once, maybe, skipped, marked, kept, once-stops, mark-stops, exit, passed, row-start, row-more, row-end, row-stops, no-items, some-items, map-twice}
+use Rattle.sim_expr_parser.proofs.Steps.{memory-stops, unexpected-primary, to-as, to-list, stops-at, leads-stops, opened, to, stops, stops-in, gone, level-made, level-up, once, maybe, skipped, marked, kept, once-stops, mark-stops, exit, passed, row-start, row-more, row-end, row-stops, no-items, some-items, map-twice}
 use Rattle.sim_expr_parser.proofs.parser.+parser.Goals as goal
 use Rattle.sim_expr_parser.proofs.parser.+parser.Goals.{expression-else-ne-via-then-ne+else-not-begins_simple, expression-else-ne-via-else-ne, sum-else-is_none-via-then-is_none+else-is_empty, sum-else-is_none-via-else-is_none}
 
@@ -1113,22 +1113,22 @@ operands-eat-requires-clause-no_end u c = ap (is t.EndOfSource) c.operator.ensur
 pub negation-relation-requires : goal.negation-relation-requires
 negation-relation-requires u c =
     let q = c.in_ok-marks.ensures 0 in
-    (omega (arith, q.ahead, q.within, c.decreases), (c.requires.source, (q.within, c.requires.shallow)))
+    (omega (arith, c.decreases), (c.requires.source, (q.within, c.requires.shallow)))
 
 pub primary-arguments-requires : goal.primary-arguments-requires
 primary-arguments-requires u c =
     let q = c.in_ok-class-2.ensures 0 in
-    (omega (arith, q.ahead, q.within, c.in-Some-eat-2.ensures.1, c.requires.within, c.decreases), (c.requires.source, (q.within, c.requires.shallow)))
+    (omega (arith, c.decreases), (c.requires.source, (q.within, c.requires.shallow)))
 
 pub primary-arguments-requires-2 : goal.primary-arguments-requires-2
 primary-arguments-requires-2 u c =
     let q = c.in_ok-name.ensures 0 in
-    (omega (arith, q.ahead, q.within, c.requires.within, c.decreases), (c.requires.source, (q.within, c.requires.shallow)))
+    (omega (arith, c.decreases), (c.requires.source, (q.within, c.requires.shallow)))
 
 pub selector-arguments-requires : goal.selector-arguments-requires
 selector-arguments-requires u c =
     let q = c.in_ok-name.ensures 0 in
-    (omega (arith, q.ahead, q.within, c.in-Some.ensures.1, c.requires.within, c.decreases), (c.requires.source, (q.within, c.requires.shallow)))
+    (omega (arith, c.decreases), (c.requires.source, (q.within, c.requires.shallow)))
 
 pub selectors-loop-rest-smaller : goal.selectors-loop-rest-smaller
 selectors-loop-rest-smaller u c =

@@ -1,60 +1,61 @@
-use Rattle.std.proofs.Common.{◌+◌, ◌*◌, ◌-◌, ◌<◌, ◌≤◌, ℕ, length, map, List, ◌∷◌}
+use Rattle.std.proofs.Common.{◌+◌, ◌*◌, ◌-◌, ◌<◌, ◌≤◌, length, map, List, ◌∷◌}
 use Rattle.sim_tree.specs.Grammar as g
 use Rattle.sim_tree.specs.Grammar.{Symbol, Once, Many, Of}
 use Rattle.sim_tree.specs.Shown.{shown, item, operand_shown, term_shown, factor_shown, selector_shown}
 use Rattle.sim_tree.proofs.Steps.{Leads}
 use Rattle.sim_expr_parser.specs.Level.{under, word_kind, many}
 use Rattle.sim_expr_parser.specs.Parsing.{listed}
+use Rattle.sim_expr_parser.specs.Recursion.{calls_left, calls}
 use Rattle.sim_expr_parser.proofs.Steps.{Row}
 use Rattle.sim_expr_parser.proofs.parser.+parser.Given as goal
 
 abbrev pub decreases-expression : goal.decreases-expression
-decreases-expression l = (length l.tokens.now - l.at) * 64 + 40
+decreases-expression l = calls_left calls l.depth 0
 
 abbrev pub decreases-negation : goal.decreases-negation
-decreases-negation l = (length l.tokens.now - l.at) * 64 + 16
+decreases-negation l = calls_left calls l.depth 19
 
 abbrev pub decreases-relation : goal.decreases-relation
-decreases-relation l = (length l.tokens.now - l.at) * 64 + 15
+decreases-relation l = calls_left calls l.depth 18
 
 abbrev pub decreases-sum : goal.decreases-sum
-decreases-sum l = (length l.tokens.now - l.at) * 64 + 10
+decreases-sum l = calls_left calls l.depth 12
 
 abbrev pub decreases-product : goal.decreases-product
-decreases-product l = (length l.tokens.now - l.at) * 64 + 9
+decreases-product l = calls_left calls l.depth 10
 
 abbrev pub decreases-postfix : goal.decreases-postfix
-decreases-postfix l = (length l.tokens.now - l.at) * 64 + 4
+decreases-postfix l = calls_left calls l.depth 5
 
 abbrev pub decreases-selector : goal.decreases-selector
-decreases-selector l = (length l.tokens.now - l.at) * 64 + 2
+decreases-selector l = calls_left calls l.depth 3
 
 abbrev pub decreases-primary : goal.decreases-primary
-decreases-primary l = (length l.tokens.now - l.at) * 64 + 3
+decreases-primary l = calls_left calls l.depth 3
 
 abbrev pub decreases-arguments : goal.decreases-arguments
-decreases-arguments l = (length l.tokens.now - l.at) * 64 + 1
+decreases-arguments l = calls_left calls l.depth 2
 
 abbrev pub decreases-operated : goal.decreases-operated
-decreases-operated l = (length l.tokens.now - l.at) * 64 + (under l.level * 2 + 4)
+decreases-operated l = calls_left calls l.depth (under l.level * 3 + 5)
 
 abbrev pub decreases-operand : goal.decreases-operand
-decreases-operand l = (length l.tokens.now - l.at) * 64 + (under l.level * 2 + 3)
+decreases-operand l = calls_left calls l.depth (under l.level * 3 + 3)
 
 abbrev pub decreases-operands : goal.decreases-operands
-decreases-operands l = (length l.tokens.now - l.start) * 64 + (under l.level * 2 + 3)
+decreases-operands l = calls_left calls l.depth (under l.level * 3 + 4)
 
 abbrev pub decreases-terms : goal.decreases-terms
-decreases-terms l = (length l.tokens.now - l.start) * 64 + 5
+decreases-terms l = calls_left calls l.depth 11
 
 abbrev pub decreases-factors : goal.decreases-factors
-decreases-factors l = (length l.tokens.now - l.start) * 64 + 5
+decreases-factors l = calls_left calls l.depth 9
 
 abbrev pub decreases-selectors : goal.decreases-selectors
-decreases-selectors l = (length l.tokens.now - l.start) * 64 + 3
+decreases-selectors l = calls_left calls l.depth 4
 
 abbrev pub decreases-argument_list : goal.decreases-argument_list
-decreases-argument_list l = (length l.tokens.now - l.start) * 64 + 41
+decreases-argument_list l = calls_left calls l.depth 1
 
 abbrev pub invariant-operands-loop-next : goal.invariant-operands-loop-next
 invariant-operands-loop-next l = record {

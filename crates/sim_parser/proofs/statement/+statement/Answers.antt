@@ -7,9 +7,9 @@ use Rattle.sim_expr_parser.proofs.Tables.{by_test, just_is, under-limit, one_row
 use Rattle.sim_expr_parser.proofs.Terminals.{made_is, took_one}
 use Rattle.sim_expr_parser.specs.Parsing.{ReadsTo, Stops}
 use Rattle.sim_expr_parser.specs.declared.refusal.Stop.TheVariants as stop
-use Rattle.sim_parser.proofs.Along.{all, along, along-ends, along-stops, left, past}
+use Rattle.sim_parser.proofs.Along.{all, along, along-ends, along-stops, closed-by, left, past}
 use Rattle.sim_parser.proofs.BlockShapes.{contents_declared, inspect_shown, inspect_when_shown, statements-more}
-use Rattle.sim_parser.proofs.BlockSteps.{at_place, closes, declares_more, declares_none, kept_one, many_of_one, many_reads, many_stops, named_ahead, part_ahead, sequence_reads, sequence_stops, to_closed, type_stops, unexpected}
+use Rattle.sim_parser.proofs.BlockSteps.{at_place, declares_more, declares_none, kept_one, many_of_one, many_reads, many_stops, part_ahead, sequence_reads, sequence_stops, to_closed, type_stops, unexpected}
 use Rattle.sim_parser.proofs.BlockTables.{after_class, arm_row, arms_do, arms_row, arms_when, array_row, block_declares, block_ends, block_named, class_row, cls_row, compound_row, decl_class, decl_procedure, decl_typed, declaring_row, end_row, named_row, next_row, no_arms, no_block, no_do, no_typed, or_left, or_right, plain_class_row, proc_row, procedure_row, type_begins, typed_array, typed_procedure, typed_row, typed_variables, variables_row}
 use Rattle.sim_parser.proofs.StatementRows.{after_head, block_at, branch_no_end, branch_row, branch_uncounted, for_at, from_inside, identified_at, if_at, inner_at, inside, inspect_at, nothing_read, operation_begins, operation_stands, too_deep, while_at, activate_at, reactivate_at}
 use Rattle.sim_parser.proofs.StatementShapes.{acted_named, for_reference_shown, for_shown, if_shown, while_shown}
@@ -491,18 +491,16 @@ for_statement-for_list-requires-clause-within u c = (c.in_ok-variable.ensures 0)
 
 pub for_statement-body-requires : goal.for_statement-body-requires
 for_statement-body-requires u c =
-    let x = c.in_ok-variable.ensures 0 in
     let q = c.in_ok-list.ensures in
-    (omega (arith, x.ahead, q.ahead, q.within, c.in_ok-next.ensures.1, c.requires.within, c.decreases), (c.requires.source, (q.within, c.requires.shallow)))
+    (omega (arith, c.decreases), (c.requires.source, (q.within, c.requires.shallow)))
 
 pub identified_statement-arguments-requires-clause-within : goal.identified_statement-arguments-requires-clause-within
 identified_statement-arguments-requires-clause-within u c = (c.in_ok-name.ensures 0).within
 
 pub identified_statement-compound-requires : goal.identified_statement-compound-requires
 identified_statement-compound-requires u c =
-    let x = c.in_ok-name.ensures 0 in
     let q = c.in_ok-arguments.ensures in
-    (omega (arith, named_ahead x, q.ahead, q.within, c.requires.within, c.decreases), (c.requires.source, (q.within, c.requires.shallow)))
+    (omega (arith, c.decreases), (c.requires.source, (q.within, c.requires.shallow)))
 
 pub inspect_statement-returns-in_err-next : goal.inspect_statement-returns-in_err-next
 inspect_statement-returns-in_err-next u c =
@@ -554,7 +552,7 @@ inspect_statement-returns-in_err-otherwise u c =
     let j = c.in_ok-object.next in
     let h = ap (λ z. is z t.Do) (sym c.terminal_at_token.ensures) ∙ made_is _ _ true c.if-eq.ensures in
     let m0 = opened ws d j g.Arms body_row refl (by_test g.Arms (terminal_at ws j) t.Do body_row h arms_do) w2.within in
-    let w3 = past w2 (once (closes m0 (node g.Stmt (stmt_shown c.in_ok-body.body) done) c.in_ok-body.ensures (node g.Stmt (stmt_shown c.in_ok-body.body) done) refl)) in
+    let w3 = past w2 (once (closed-by m0 (node g.Stmt (stmt_shown c.in_ok-body.body) done) c.in_ok-body.ensures (node g.Stmt (stmt_shown c.in_ok-body.body) done) refl)) in
     let e = c.in_err-otherwise.field-0.0 in
     let r = c.from_residual-in_err-otherwise in
     exit (λ r. GivesAll ws d inspect_row i stmt_shown r) r.result e r.ensures.1
@@ -572,7 +570,7 @@ inspect_statement-returns-then-eq u c =
     let j = c.in_ok-object.next in
     let h = ap (λ z. is z t.Do) (sym c.terminal_at_token.ensures) ∙ made_is _ _ true c.if-eq.ensures in
     let m0 = opened ws d j g.Arms body_row refl (by_test g.Arms (terminal_at ws j) t.Do body_row h arms_do) w2.within in
-    let w3 = past w2 (once (closes m0 (node g.Stmt (stmt_shown c.in_ok-body.body) done) c.in_ok-body.ensures (node g.Stmt (stmt_shown c.in_ok-body.body) done) refl)) in
+    let w3 = past w2 (once (closed-by m0 (node g.Stmt (stmt_shown c.in_ok-body.body) done) c.in_ok-body.ensures (node g.Stmt (stmt_shown c.in_ok-body.body) done) refl)) in
     let a = c.in_ok-body-2.body in
     let o = c.in_ok-otherwise.otherwise in
     let x = c.in_ok-object.object in
@@ -680,7 +678,7 @@ when_arms-returns u c =
     let no = ap (λ z. is z t.When) (sym c.terminal_at_token.ensures) ∙ made_is _ _ false c.loop-alloc-test.ensures in
     let to_end = row-end when_shown l.arms.items l.invariant.goes (one_row g.WhenArm (just t.When) arm_row (terminal_at ws l.at) false refl (just_is _ _ _ no)) l.invariant.ahead l.invariant.within in
     let read = to_end.reads [] done l.at reads-done in
-    closes w0 (row g.WhenArm fs done) (record { reads = many_reads (one_row g.WhenArm (just t.When) arm_row (terminal_at ws i) true refl (just_is _ _ _ h)) read; ahead = l.invariant.ahead; within = l.invariant.within }) (row g.WhenArm fs done) refl
+    closed-by w0 (row g.WhenArm fs done) (record { reads = many_reads (one_row g.WhenArm (just t.When) arm_row (terminal_at ws i) true refl (just_is _ _ _ h)) read; ahead = l.invariant.ahead; within = l.invariant.within }) (row g.WhenArm fs done) refl
 
 pub when_arm-returns-in_err-next : goal.when_arm-returns-in_err-next
 when_arm-returns-in_err-next u c =
@@ -727,7 +725,7 @@ when_arm-returns u c =
     let m1 = to m0 (kept n.0 c.token_no-token.ensures (took_one ws i c.in_ok-next.next k.When refl c.in_ok-next.ensures)) in
     let m2 = to m1 (c.in_ok-class.ensures d) in
     let b = c.in_ok-body.body in
-    closes m2 (node g.Stmt (stmt_shown b) done) c.in_ok-body.ensures _ (sym (shown-when n c.in_ok-class.class b))
+    closed-by m2 (node g.Stmt (stmt_shown b) done) c.in_ok-body.ensures _ (sym (shown-when n c.in_ok-class.class b))
 
 pub compound-returns-in_err-next : goal.compound-returns-in_err-next
 compound-returns-in_err-next u c =
@@ -1073,7 +1071,7 @@ typed_declaration-returns-in-Some-eat u c =
     let w0 = opened ws d i g.Typed array_row refl (by_test g.Typed (terminal_at ws i) t.Array array_row c.in-Some-eat.ensures.0 typed_array) c.requires.within in
     let w1 = to w0 (kept n.0 c.token_no-token.ensures (took_one ws i c.in-Some-eat.next k.Array refl c.in-Some-eat.ensures)) in
     let v = c.in_ok-segments.segments in
-    record { inside = leaf n.0 k.Array (segments_shown v.items); shown_is = shown-Arrays x n v; part = closes w1 (segments_shown v.items) c.in_ok-segments.ensures _ refl }
+    record { inside = leaf n.0 k.Array (segments_shown v.items); shown_is = shown-Arrays x n v; part = closed-by w1 (segments_shown v.items) c.in_ok-segments.ensures _ refl }
 
 pub typed_declaration-returns-in_err-expect : goal.typed_declaration-returns-in_err-expect
 typed_declaration-returns-in_err-expect u c =
@@ -1106,7 +1104,7 @@ typed_declaration-returns u c =
     let x = c.args.type_name in
     let w0 = opened ws d i g.Typed variables_row refl (by_test g.Typed (terminal_at ws i) t.Identifier variables_row c.in_ok-expect.ensures.0 typed_variables) c.requires.within in
     let v = c.in_ok-variables.variables in
-    record { inside = variables_shown v.items; shown_is = shown-Variables x v; part = closes w0 (variables_shown v.items) (c.in_ok-variables.ensures d) _ refl }
+    record { inside = variables_shown v.items; shown_is = shown-Variables x v; part = closed-by w0 (variables_shown v.items) (c.in_ok-variables.ensures d) _ refl }
 
 pub procedure-returns-in_err-name : goal.procedure-returns-in_err-name
 procedure-returns-in_err-name u c =
@@ -1394,23 +1392,22 @@ when_arms-loop-alloc-smaller u c =
 pub when_arm-body-requires : goal.when_arm-body-requires
 when_arm-body-requires u c =
     let q = c.in_ok-class.ensures 0 in
-    (omega (arith, q.ahead, q.within, c.in_ok-next.ensures.1, c.requires.within, c.decreases), (c.requires.source, (q.within, c.requires.shallow)))
+    (omega (arith, c.decreases), (c.requires.source, (q.within, c.requires.shallow)))
 
 pub compound-declarations-requires : goal.compound-declarations-requires
 compound-declarations-requires u c =
     let q = c.past_semicolons-next.ensures 0 in
-    (omega (arith, q.ahead, q.within, c.in_ok-next.ensures.1, c.requires.within, c.decreases), (c.requires.source, (q.within, c.requires.shallow)))
+    (omega (arith, c.decreases), (c.requires.source, (q.within, c.requires.shallow)))
 
 pub compound-sequence_at-requires : goal.compound-sequence_at-requires
 compound-sequence_at-requires u c =
-    let q = c.past_semicolons-next.ensures 0 in
     let p = c.in_ok-declarations.ensures in
-    (omega (arith, q.ahead, q.within, c.in_ok-next.ensures.1, p.0.ahead, p.0.within, c.requires.within, c.decreases), (c.requires.source, (p.0.within, (c.requires.shallow, p.1))))
+    (omega (arith, c.decreases), (c.requires.source, (p.0.within, (c.requires.shallow, p.1))))
 
 pub plain_declaration-typed_declaration-requires : goal.plain_declaration-typed_declaration-requires
 plain_declaration-typed_declaration-requires u c =
     let q = c.in_ok-name.ensures 0 in
-    (omega (arith, q.ahead, q.within, c.requires.within, c.decreases), (c.requires.source, (q.within, c.requires.shallow)))
+    (omega (arith, c.decreases), (c.requires.source, (q.within, c.requires.shallow)))
 
 pub procedure-heading_at-requires-clause-within : goal.procedure-heading_at-requires-clause-within
 procedure-heading_at-requires-clause-within u c =
@@ -1422,9 +1419,8 @@ class-heading_at-requires-clause-within u c =
 
 pub procedure-statement-requires : goal.procedure-statement-requires
 procedure-statement-requires u c =
-    let x = c.in_ok-name.ensures 0 in
     let q = c.in_ok-heading.ensures 0 in
-    (omega (arith, x.ahead, q.ahead, q.within, named_ahead x, c.requires.within, c.decreases), (c.requires.source, (q.within, c.requires.shallow)))
+    (omega (arith, c.decreases), (c.requires.source, (q.within, c.requires.shallow)))
 
 pub class-protections-requires-clause-within : goal.class-protections-requires-clause-within
 class-protections-requires-clause-within u c =
@@ -1436,8 +1432,5 @@ class-virtuals-requires-clause-within u c =
 
 pub class-statement-requires : goal.class-statement-requires
 class-statement-requires u c =
-    let x = c.in_ok-name.ensures 0 in
-    let h = c.in_ok-heading.ensures 0 in
-    let p = c.in_ok-protections.ensures 0 in
     let q = c.in_ok-virtuals.ensures 0 in
-    (omega (arith, x.ahead, h.ahead, p.ahead, q.ahead, q.within, named_ahead x, c.requires.within, c.decreases), (c.requires.source, (q.within, c.requires.shallow)))
+    (omega (arith, c.decreases), (c.requires.source, (q.within, c.requires.shallow)))

@@ -1,74 +1,76 @@
-use Rattle.std.proofs.Common.{◌+◌, ◌*◌, ◌-◌, ◌<◌, ◌≤◌, length, map, List, ◌∷◌}
+use Rattle.std.proofs.Common.{◌-◌, ◌<◌, ◌≤◌, length, map, List, ◌∷◌}
 use Rattle.sim_tree.specs.Grammar as g
 use Rattle.sim_tree.specs.Grammar.{Symbol, Many, Of}
 use Rattle.sim_tree.specs.ShownProgram.{decl_shown, stmt_shown, when_shown}
 use Rattle.sim_tree.proofs.Steps.{Leads}
 use Rattle.sim_expr_parser.proofs.Steps.{Row}
+use Rattle.sim_expr_parser.specs.Recursion.{calls_left}
+use Rattle.sim_parser.specs.Recursion.{calls}
 use Rattle.sim_parser.specs.Parsing.{ReadsDeclarations, statement_list, statements_then}
 use Rattle.sim_parser.proofs.statement.+statement.Given as goal
 
 abbrev pub decreases-when_arm : goal.decreases-when_arm
-decreases-when_arm l = (length l.tokens.now - l.at) * 32
+decreases-when_arm l = calls_left calls l.depth 2
 
 abbrev pub decreases-when_arms : goal.decreases-when_arms
-decreases-when_arms l = (length l.tokens.now - l.start) * 32 + 1
+decreases-when_arms l = calls_left calls l.depth 3
 
 abbrev pub decreases-procedure : goal.decreases-procedure
-decreases-procedure l = (length l.tokens.now - l.at) * 32
+decreases-procedure l = calls_left calls l.depth 1
 
 abbrev pub decreases-class : goal.decreases-class
-decreases-class l = (length l.tokens.now - l.at) * 32
+decreases-class l = calls_left calls l.depth 1
 
 abbrev pub decreases-typed_declaration : goal.decreases-typed_declaration
-decreases-typed_declaration l = (length l.tokens.now - l.at) * 32
+decreases-typed_declaration l = calls_left calls l.depth 2
 
 abbrev pub decreases-plain_declaration : goal.decreases-plain_declaration
-decreases-plain_declaration l = (length l.tokens.now - l.at) * 32 + 1
+decreases-plain_declaration l = calls_left calls l.depth 3
 
 abbrev pub decreases-declaration : goal.decreases-declaration
-decreases-declaration l = (length l.tokens.now - l.at) * 32 + 2
+decreases-declaration l = calls_left calls l.depth 4
 
 abbrev pub decreases-declarations : goal.decreases-declarations
-decreases-declarations l = (length l.tokens.now - l.start) * 32 + 3
+decreases-declarations l = calls_left calls l.depth 5
 
 abbrev pub decreases-compound : goal.decreases-compound
-decreases-compound l = (length l.tokens.now - l.at) * 32
+decreases-compound l = calls_left calls l.depth 6
 
 abbrev pub decreases-block_statement : goal.decreases-block_statement
-decreases-block_statement l = (length l.tokens.now - l.at) * 32 + 1
+decreases-block_statement l = calls_left calls l.depth 7
 
 abbrev pub decreases-identified_statement : goal.decreases-identified_statement
-decreases-identified_statement l = (length l.tokens.now - l.at) * 32
+decreases-identified_statement l = calls_left calls l.depth 7
 
 abbrev pub decreases-if_statement : goal.decreases-if_statement
-decreases-if_statement l = (length l.tokens.now - l.at) * 32
+decreases-if_statement l = calls_left calls l.depth 2
 
 abbrev pub decreases-while_statement : goal.decreases-while_statement
-decreases-while_statement l = (length l.tokens.now - l.at) * 32
+decreases-while_statement l = calls_left calls l.depth 2
 
 abbrev pub decreases-for_statement : goal.decreases-for_statement
-decreases-for_statement l = (length l.tokens.now - l.at) * 32
+decreases-for_statement l = calls_left calls l.depth 2
 
 abbrev pub decreases-inspect_statement : goal.decreases-inspect_statement
-decreases-inspect_statement l = (length l.tokens.now - l.at) * 32
+decreases-inspect_statement l = calls_left calls l.depth 4
 
 abbrev pub decreases-begun_statement : goal.decreases-begun_statement
-decreases-begun_statement l = (length l.tokens.now - l.at) * 32 + 2
+decreases-begun_statement l = calls_left calls l.depth 8
 
 abbrev pub decreases-statement : goal.decreases-statement
-decreases-statement l = (length l.tokens.now - l.at) * 32 + 3
+decreases-statement l = calls_left calls l.depth 0
 
 abbrev pub decreases-statements : goal.decreases-statements
-decreases-statements l = (length l.tokens.now - l.start) * 32 + 4
+decreases-statements l = calls_left calls l.depth 1
 
 abbrev pub decreases-sequence_at : goal.decreases-sequence_at
-decreases-sequence_at l = (length l.tokens.now - l.at) * 32 + 5
+decreases-sequence_at l = calls_left calls l.depth 2
 
 abbrev pub decreases-body : goal.decreases-body
-decreases-body l = (length l.tokens.now - l.at) * 32
+decreases-body l = calls_left calls l.depth 1
 
 abbrev pub decreases-optional_branch : goal.decreases-optional_branch
-decreases-optional_branch l = (length l.tokens.now - l.at) * 32
+decreases-optional_branch l = calls_left calls l.depth 1
 
 abbrev pub invariant-statements-loop-next : goal.invariant-statements-loop-next
 invariant-statements-loop-next l = record {
