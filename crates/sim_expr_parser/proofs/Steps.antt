@@ -1,5 +1,5 @@
 -- How a part is read, step by step from the left.
-use Rattle.std.proofs.Common.{◌≡◌, ◌≤◌, ◌<◌, ℕ, ◌+◌, suc, Bool, true, false, List, [], ◌∷◌, ◌++◌, map, length, Option, Some, None, Result, Ok, Err, refl, sym, subst, ap, ◌∙◌, arith, if◌then◌else◌}
+use Rattle.std.proofs.Common.{◌≡◌, ◌≤◌, ◌<◌, ℕ, ◌+◌, suc, true, false, List, [], ◌∷◌, ◌++◌, map, length, Some, None, Result, Ok, Err, refl, sym, subst, ap, ◌∙◌, arith, if◌then◌else◌}
 use Rattle.std.specs.Result.{IsErrAnd}
 use Rattle.std.specs.Prelude.{◌&&◌, nat_le, nat_eq, not}
 use Rattle.std.proofs.lemmas.Bool.{false≢true}
@@ -9,7 +9,7 @@ use Rattle.sim_tree.specs.declared.expr.Expr.{Expr}
 use Rattle.sim_tree.specs.declared.terminal.Terminal.{Terminal}
 use Rattle.sim_tree.specs.Grammar as g
 use Rattle.sim_tree.specs.Grammar.{Part, Times, Once, Maybe, Many, Symbol, Kept, Mark, Of, is, one_of, right_side, is_counted}
-use Rattle.sim_tree.specs.Reading.{Forest, done, leaf, node, kind_at, terminal_at, inside_depth, is_too_deep, is_empty, Reads, reads-done, reads-kept, reads-mark, reads-part, reads-skip, Fails, fails-part, fails-kept, fails-mark, fails-inside, after-kept, after-mark, after-part, after-skip, Unexpected, TooDeep}
+use Rattle.sim_tree.specs.Reading.{Forest, done, leaf, node, terminal_at, inside_depth, is_too_deep, is_empty, Reads, reads-done, reads-kept, reads-mark, reads-part, reads-skip, Fails, fails-part, fails-kept, fails-mark, fails-inside, after-kept, after-mark, after-part, after-skip, Unexpected, TooDeep}
 use Rattle.sim_tree.specs.Claim.{one}
 use Rattle.sim_tree.specs.Shown.{Shown, shown, raise, row, level_part}
 use Rattle.sim_tree.specs.Tree.{limit, ReadsPart}

@@ -1,5 +1,5 @@
 -- Terminals of tokens, and the tokens that terminals stand for.
-use Rattle.std.proofs.Common.{◌≡◌, ◌<◌, ◌+◌, ◌-◌, ℕ, ℤ, Bool, true, false, List, [], ◌∷◌, length, refl, sym, ap, ◌∙◌, subst, arith}
+use Rattle.std.proofs.Common.{◌≡◌, ◌<◌, ◌+◌, ◌-◌, ℕ, ℤ, Bool, true, false, List, [], length, refl, sym, ap, ◌∙◌, arith}
 use Rattle.std.proofs.lemmas.Bool.{false≢true}
 use Rattle.std.specs.Prelude.{◌||◌, not, slice_index_or}
 use Rattle.std.proofs.lemmas.List.{get_or_read}
@@ -16,7 +16,7 @@ use Rattle.sim_tree.specs.Grammar.{is, one_of, just, literals}
 use Rattle.sim_tree.specs.Reading.{finish, kind_at, terminal_at}
 use Rattle.sim_tree.specs.Tree.{IsEnded}
 use Rattle.sim_tree.proofs.Completion.{is_same, one_itself}
-use Rattle.sim_expr_parser.specs.Parsing.{IsSource, Took}
+use Rattle.sim_expr_parser.specs.Parsing.{Took}
 
 -- a token of this terminal has no value
 abbrev pub is_bare : Terminal → Bool

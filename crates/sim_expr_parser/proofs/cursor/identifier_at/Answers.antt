@@ -1,16 +1,13 @@
-use Rattle.std.proofs.Common.{◌≡◌, ℕ, refl, ap, ◌∙◌, sym, true, false, subst}
-use Rattle.sim_base.specs.declared.token.Token.{Token}
-use Rattle.sim_base.specs.declared.token.TokenKind.{TokenKind}
+use Rattle.std.proofs.Common.{◌≡◌, ap, ◌∙◌, sym}
 use Rattle.sim_base.specs.declared.token.TokenKind.TheVariants as k
-use Rattle.std.proofs.lemmas.List.{get_or_read}
 use Rattle.sim_tree.specs.declared.terminal.Terminal.TheVariants as t
 use Rattle.sim_tree.specs.Grammar.{just, Kept}
 use Rattle.sim_tree.specs.Reading.{kind_at, terminal_at}
 use Rattle.sim_tree.specs.Shown.{identifier}
-use Rattle.sim_expr_parser.specs.Parsing.{GivesTo, Stops, ReadsTo}
+use Rattle.sim_expr_parser.specs.Parsing.{GivesTo}
 use Rattle.sim_expr_parser.proofs.Terminals.{an_identifier, took_identifier, kind_read}
 use Rattle.sim_expr_parser.proofs.Tables.{just_is}
-use Rattle.sim_expr_parser.proofs.Steps.{exit, kept, kept-stops, memory-stops}
+use Rattle.sim_expr_parser.proofs.Steps.{exit, kept, kept-stops}
 use Rattle.sim_expr_parser.proofs.cursor.identifier_at.Goals as goal
 
 pub returns-in_err-next : goal.returns-in_err-next

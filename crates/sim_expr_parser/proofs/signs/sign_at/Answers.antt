@@ -1,7 +1,6 @@
 use Rattle.std.proofs.Common.{refl}
 use Rattle.sim_base.specs.declared.token.TokenKind.TheVariants as k
 use Rattle.sim_tree.specs.Grammar.{is, signs}
-use Rattle.sim_expr_parser.specs.Parsing.{operators, tests}
 use Rattle.sim_expr_parser.proofs.Terminals.{took}
 use Rattle.sim_expr_parser.proofs.signs.sign_at.Goals as goal
 

@@ -1,4 +1,4 @@
-use Rattle.std.proofs.Common.{◌≡◌, ap, sym, ◌∙◌, true, arith}
+use Rattle.std.proofs.Common.{sym, ◌∙◌, true, arith}
 use Rattle.sim_expr_parser.proofs.Terminals.{made_is}
 use Rattle.sim_tree.proofs.Completion.{is_same}
 use Rattle.sim_expr_parser.proofs.tests.is_source.Goals as goal
