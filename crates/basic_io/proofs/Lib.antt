@@ -1,0 +1,11 @@
+pub mod ImageFrames
+pub mod InputLines
+pub mod ItemReads
+pub mod ItemRuns
+pub mod ItemTurns
+pub mod LineReads
+pub mod Lines
+pub mod OutputFields
+pub mod OutputLines
+pub mod OutputPlacing
+pub mod OutputTexts
