@@ -5,7 +5,7 @@ use Rattle.std.proofs.lemmas.Bool.{cases_Bool, cases_lt, false≢true}
 use Rattle.std.proofs.lemmas.Bool.Decides.{nat_tests}
 use Rattle.std.proofs.lemmas.List.{length-take-le, take-append-le, drop-append-le}
 use Rattle.std.proofs.lemmas.List.Sums.{prefix_len-le-length}
-use Rattle.sim_base.specs.declared.run_error.RunError.TheVariants.{E31}
+use Rattle.sim_base.specs.declared.run_error.RunError.TheVariants.{InputLineTooLong}
 use Rattle.sim_values.specs.Images.{InputState, InputStep, answers, filled, inimage, is_line_feed, refuses}
 use Rattle.sim_values.specs.Texts.{Frame, at_position, padded, with_characters}
 use Rattle.basic_io.specs.declared.fault.IoFault.TheVariants as fault
@@ -88,7 +88,7 @@ takes_line s line rest going some is short behind =
     let fits : nat_lt s.image.length (length (before_first is_line_feed s.left)) ≡ false = rw is (grind (arith, nat_tests)) in
     rw (going, more, fits) (ap (λ (l : List ℕ). answers (filled s l false (after_first is_line_feed s.left)) tt) is ∙ ap (λ (r : List ℕ). answers (filled s line false r) tt) behind)
 
-refuses_line : (s : InputState) → s.endfile ≡ false → 0 < length s.left → s.image.length < length (before_first is_line_feed s.left) → inimage s ≡ refuses s E31
+refuses_line : (s : InputState) → s.endfile ≡ false → 0 < length s.left → s.image.length < length (before_first is_line_feed s.left) → inimage s ≡ refuses s InputLineTooLong
 refuses_line s going some long =
     let more : (length s.left == 0) ≡ false = grind (arith, nat_tests) in
     let fits : nat_lt s.image.length (length (before_first is_line_feed s.left)) ≡ true = grind (arith, nat_tests) in
@@ -116,13 +116,13 @@ performs_line texts new old now h (Some b) (Some n) told going goes holds some s
 -- the line is longer than the image, and stays
 pub performs_refusal : (texts : List Frame) (old now : HeldInput) (source left : Option (List ℕ)) → Told source left (λ b n. left_of now.held n ≡ left_of old.held b) → old.endfile ≡ false → now.endfile ≡ false
     → now.held.bytes ≢ [] → old.image.length < length (before_first is_line_feed now.held.bytes) → now.image ≡ old.image
-    → Performs inimage WantsImage (reading texts old source) (reading texts now left) (Err (fault.Run E31))
+    → Performs inimage WantsImage (reading texts old source) (reading texts now left) (Err (fault.Run InputLineTooLong))
 performs_refusal texts old now None left told going goes some long kept = tt
 performs_refusal texts old now (Some b) None told going goes some long kept = absurd told
 performs_refusal texts old now (Some b) (Some n) told going goes some long kept =
     let s : InputState = input_state texts old b in
     let more : 0 < length (left_of old.held b) = subst (λ (l : List ℕ). 0 < length l) told (left_some now.held n some) in
     let longer : old.image.length < length (before_first is_line_feed (left_of old.held b)) = subst (λ (l : List ℕ). old.image.length < length (before_first is_line_feed l)) told (omega (arith, line_grows now.held n)) in
-    let does : inimage s ≡ refuses s E31 = refuses_line s going more longer in
+    let does : inimage s ≡ refuses s InputLineTooLong = refuses_line s going more longer in
     let same : s ≡ input_state texts now n = cc in
     (ap (λ (t : InputStep (Unit {0})). t.answer) does, ap (λ (t : InputStep (Unit {0})). t.after) does ∙ same)

@@ -3,7 +3,7 @@ use Rattle.std.proofs.Common.{◌≡◌, ℕ, ◌+◌, ◌-◌, ◌≤◌, ◌==
 use Rattle.std.proofs.lemmas.Bool.Decides.{nat_tests}
 use Rattle.std.proofs.lemmas.List.{drop-take, drop-drop, drop_all, length-take}
 use Rattle.sim_base.specs.declared.run_error.RunError.{RunError}
-use Rattle.sim_base.specs.declared.run_error.RunError.TheVariants.{E20, E34}
+use Rattle.sim_base.specs.declared.run_error.RunError.TheVariants.{SubtextOutOfRange, NoItemBeforeEnd}
 use Rattle.sim_values.specs.Texts.{Frame, after_item, at_position, characters, frame_at, integer_item, item_value, notext, part, sub_outcome}
 use Rattle.sim_values.specs.Images.{InputState, InputStep, answers, characters_left, go_on, inint, item_taken, lastitem, refuses, with_position}
 use Rattle.sim_values.specs.declared.value.TextVal.{TextVal}
@@ -21,7 +21,7 @@ sub_is_rest frames t rest i n image is_i is_n sub =
     let whole : sub_outcome t (pos t.pos) (pos (t.length + 1 - t.pos)) ≡ Ok (rest_of t) = taken (ltb 0 t.pos && leb (t.pos + (t.length + 1 - t.pos)) (t.length + 1)) (grind (arith, nat_tests)) in
     cc (is_i, is_n)
   where
-    taken : (b : Bool) → b ≡ true → cond b (Ok (rest_of t)) (Err E20) ≡ Ok (rest_of t)
+    taken : (b : Bool) → b ≡ true → cond b (Ok (rest_of t)) (Err SubtextOutOfRange) ≡ Ok (rest_of t)
     taken true e = refl
     taken false e = cc
 
@@ -47,9 +47,9 @@ rest_characters frames t image = by_length (t.length + 1 - t.pos) refl (t.length
         ∙ ap (λ (k : ℕ). drop p (take k (drop (t.start - 1) bs))) all
 
 -- `inint` behind what `lastitem` answered
-inint_from : (s r : InputState) (last : Bool) → (lastitem s).answer ≡ Ok last → (lastitem s).after ≡ r → inint s ≡ cond last (refuses r E34) (item_taken r (integer_item (characters_left r.frames r.image)))
+inint_from : (s r : InputState) (last : Bool) → (lastitem s).answer ≡ Ok last → (lastitem s).after ≡ r → inint s ≡ cond last (refuses r NoItemBeforeEnd) (item_taken r (integer_item (characters_left r.frames r.image)))
 inint_from s r last a n =
-    let next : InputState → Bool → InputStep ℤ = λ q b. cond b (refuses q E34) (item_taken q (integer_item (characters_left q.frames q.image))) in
+    let next : InputState → Bool → InputStep ℤ = λ q b. cond b (refuses q NoItemBeforeEnd) (item_taken q (integer_item (characters_left q.frames q.image))) in
     ap (λ (x : Result Bool RunError). go_on (lastitem s).after x next) a ∙ ap (λ (q : InputState). next q last) n
 
 took : (item : Result (ℤ × ℕ) RunError) (rest new : TextVal) (value : ℤ) → Ok value ≡ item_value item → new ≡ after_item rest item → item ≡ Ok (value, new.pos - 1)

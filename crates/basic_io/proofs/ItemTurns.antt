@@ -3,7 +3,7 @@ use Rattle.std.proofs.Common.{◌≡◌, ℕ, zero, suc, ◌+◌, ◌<◌, ◌�
 use Rattle.std.proofs.lemmas.Bool.Decides.{nat_tests}
 use Rattle.std.specs.List.{after_first, position_or_len, before_first}
 use Rattle.sim_base.specs.declared.run_error.RunError.{RunError}
-use Rattle.sim_base.specs.declared.run_error.RunError.TheVariants.{E31, E32}
+use Rattle.sim_base.specs.declared.run_error.RunError.TheVariants.{InputLineTooLong, InputAtEnd}
 use Rattle.sim_values.specs.Images.{InputState, InputStep, answers, behind_separators, filled, go_on, inimage, is_line_feed, is_used_up, next_item, refuses}
 
 -- how many images a state can still take at most
@@ -20,9 +20,9 @@ rank-le s = at_most s.endfile
 -- `inimage`, at what its tests say
 abbrev line_step : Bool → Bool → Bool → InputState → InputStep (Unit {0})
 line_step ended none long s =
-    cond ended (refuses s E32)
+    cond ended (refuses s InputAtEnd)
     (cond none (answers (filled s (25 ∷ []) true []) tt)
-    (cond long (refuses s E31) (answers (filled s (before_first is_line_feed s.left) false (after_first is_line_feed s.left)) tt)))
+    (cond long (refuses s InputLineTooLong) (answers (filled s (before_first is_line_feed s.left) false (after_first is_line_feed s.left)) tt)))
 
 shorter : (xs : List ℕ) → eqb (length xs) 0 ≡ false → length (after_first is_line_feed xs) < length xs
 shorter xs some =

@@ -9,7 +9,7 @@ use Rattle.std.specs.Result.{IsErrAnd}
 use Rattle.std.specs.Fmt.{signed_decimal}
 use Rattle.sim_values.specs.Images.{OutputState, all_placed, integer_field, outint, with_room}
 use Rattle.sim_base.specs.declared.run_error.RunError.{RunError}
-use Rattle.sim_base.specs.declared.run_error.RunError.TheVariants.{E30}
+use Rattle.sim_base.specs.declared.run_error.RunError.TheVariants.{FieldTooLong}
 use Rattle.basic_io.specs.declared.fault.IoFault.{IoFault}
 use Rattle.basic_io.specs.declared.fault.IoFault.TheVariants.{Run}
 use Rattle.basic_io.specs.Output.{IsAt, Performs, Writing, field, lacks_room, output_state}
@@ -44,7 +44,7 @@ pub field_made : (i width : ℤ) (digits text : List ℕ) (places : ℕ) → SFi
 field_made i width digits text places short short_width is read made =
     sym (ap (integer_field i) (to_z-of_z w64 width short_width)) ∙ made i (read ∙ is ∙ ap signed_decimal (to_z-of_z w64 i short))
 
-outint_refused : (s : OutputState) (i width : ℤ) → s.image.length < length (integer_field i width) → outint s i width ≡ Err E30
+outint_refused : (s : OutputState) (i width : ℤ) → s.image.length < length (integer_field i width) → outint s i width ≡ Err FieldTooLong
 outint_refused s i width long = grind (arith, nat_tests)
 
 outint_fits : (s : OutputState) (i width : ℤ) → length (integer_field i width) ≤ s.image.length
@@ -61,10 +61,10 @@ module _ (s : OutputState) (i width : ℤ) (digits : List ℕ) (places : ℕ) (l
   Lacks n r = (lacks_room s n ≡ true) × (r ≡ s)
 
   -- the field is longer than the image
-  pub outint_refuses : (here : Writing) → s.image.length < places → Performs {A = Unit {0}} (outint s i width) (Lacks (length (integer_field i width))) here here (Err (Run E30))
+  pub outint_refuses : (here : Writing) → s.image.length < places → Performs {A = Unit {0}} (outint s i width) (Lacks (length (integer_field i width))) here here (Err (Run FieldTooLong))
   outint_refuses here long =
       let more : s.image.length < length (integer_field i width) = omega (arith, field_count) in
-      subst (λ (o : Result OutputState RunError). Performs {A = Unit {0}} o (Lacks (length (integer_field i width))) here here (Err (Run E30))) (sym (outint_refused s i width more)) (refl, refl)
+      subst (λ (o : Result OutputState RunError). Performs {A = Unit {0}} o (Lacks (length (integer_field i width))) here here (Err (Run FieldTooLong))) (sym (outint_refused s i width more)) (refl, refl)
 
   done_by : (old new : Writing) (result : Result (Unit {0}) IoFault) → places ≤ s.image.length → Performs (Ok (all_placed (with_room s places) (integer_field i width))) (Lacks (length (integer_field i width))) old new result
       → Performs (outint s i width) (Lacks (length (integer_field i width))) old new result

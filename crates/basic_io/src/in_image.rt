@@ -101,7 +101,7 @@ impl InImage {
         ensures others { SameBut self.old.image.frame texts.old texts.new }
     {
         if self.endfile {
-            return Err(IoFault::Run(RunError::E32));
+            return Err(IoFault::Run(RunError::InputAtEnd));
         }
         self.held.read_line(input)?;
         if self.held.is_empty() {
@@ -111,7 +111,7 @@ impl InImage {
         }
         let line = self.held.line();
         if line.len() > self.image.length as usize {
-            return Err(IoFault::Run(RunError::E31));
+            return Err(IoFault::Run(RunError::InputLineTooLong));
         }
         fill(texts, &mut self.image, line)?;
         self.held.drop_line();

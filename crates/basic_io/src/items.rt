@@ -65,7 +65,7 @@ impl InImage {
         ensures others { SameBut self.old.image.frame texts.old texts.new }
     {
         if self.lastitem(texts, input)? {
-            return Err(IoFault::Run(RunError::E34));
+            return Err(IoFault::Run(RunError::NoItemBeforeEnd));
         }
         let place = i64::from(self.image.pos);
         let end = i64::from(self.image.length) + 1;

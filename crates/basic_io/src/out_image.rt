@@ -204,7 +204,7 @@ impl OutImage {
         let digits = buffer.format(i).as_bytes();
         let places = field_places(digits, width);
         if places > u64::from(self.image.length) {
-            return Err(IoFault::Run(RunError::E30));
+            return Err(IoFault::Run(RunError::FieldTooLong));
         }
         let places = places as u32;
         self.make_room(texts, out, places)?;

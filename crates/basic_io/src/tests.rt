@@ -1,7 +1,7 @@
 //! Reading and writing by images at their edges, and each call with ample memory.
 
 use super::*;
-use sim_base::RunError::{E25, E28, E30, E31, E32, E34};
+use sim_base::RunError::{NoIntegerItem, IntegerItemTooLarge, FieldTooLong, InputLineTooLong, InputAtEnd, NoItemBeforeEnd};
 use sim_ports::{MemSink, MemSource};
 use std::alloc::Global;
 use std::test::Fail;
@@ -28,7 +28,7 @@ fn lines(rt: HostRuntime) -> Result<(), Fail> {
         (b"ab\ncd", 4, &[1], Ok(()), b"ab  "),
         (b"\nab", 2, &[], Ok(()), b"  "),
         (b"abc", 3, &[], Ok(()), b"abc"),
-        (b"abcd\n", 3, &[], Err(IoFault::Run(E31)), b"   "),
+        (b"abcd\n", 3, &[], Err(IoFault::Run(InputLineTooLong)), b"   "),
         (b"", 2, &[], Ok(()), b"\x19 "),
         (b"ab\n", 3, &[0], Err(IoFault::InputFault), b"   "),
     ];
@@ -59,8 +59,8 @@ fn second_lines(rt: HostRuntime) -> Result<(), Fail> {
     let cases: [(&[u8], Result<(), IoFault>, bool); 4] = [
         (b"ab\nc", Ok(()), false),
         (b"ab\n", Ok(()), true),
-        (b"", Err(IoFault::Run(E32)), true),
-        (b"abc\nabcd", Err(IoFault::Run(E31)), false),
+        (b"", Err(IoFault::Run(InputAtEnd)), true),
+        (b"abc\nabcd", Err(IoFault::Run(InputLineTooLong)), false),
     ];
     for (bytes, want, at_end) in cases {
         assert_eq!(rt; second_line(rt.alloc(), bytes, &[])?, (want, at_end));
@@ -82,10 +82,10 @@ fn items(rt: HostRuntime) -> Result<(), Fail> {
     let cases: [(&[u8], Result<i64, IoFault>, u32); 6] = [
         (b" 12 x", Ok(12), 4),
         (b"\n \t\n\t-3\n", Ok(-3), 4),
-        (b" x", Err(IoFault::Run(E25)), 2),
-        (b"99999999999999999999", Err(IoFault::Run(E28)), 1),
-        (b" \n", Err(IoFault::Run(E34)), 1),
-        (b"", Err(IoFault::Run(E34)), 1),
+        (b" x", Err(IoFault::Run(NoIntegerItem)), 2),
+        (b"99999999999999999999", Err(IoFault::Run(IntegerItemTooLarge)), 1),
+        (b" \n", Err(IoFault::Run(NoItemBeforeEnd)), 1),
+        (b"", Err(IoFault::Run(NoItemBeforeEnd)), 1),
     ];
     for (bytes, want, position) in cases {
         assert_eq!(rt; item(rt.alloc(), bytes)?, (want, position));
@@ -137,7 +137,7 @@ fn integers(rt: HostRuntime) -> Result<(), Fail> {
         let mut image = OutImage::new(&mut texts, 24)?;
         let mut out = MemSink::new(rt.alloc(), &[], 100)?;
         let answer = image.outint(&mut texts, &mut out, 1, width);
-        assert_eq!(rt; answer, Err(IoFault::Run(E30)));
+        assert_eq!(rt; answer, Err(IoFault::Run(FieldTooLong)));
     }
     Ok(())
 }

@@ -1,48 +1,56 @@
--- The printed number and text of each static rules, each with its number and its text
-use Rattle.std.specs.Prelude.{ℕ, List, codes}
+-- The static rules: the printed number of each, and its words.
+use Rattle.std.specs.Prelude.{ℕ, ◌++◌, List, codes}
 use Rattle.sim_base.specs.declared.rule.Rule.{Rule}
-use Rattle.sim_base.specs.declared.rule.Rule.TheVariants.{X1, X2, X3, X4, X5, X6, X7, X8, X9, Y1, Y2, Z1, S1, S2, S3, S4, S5, S6, L1, L2, L3, S7, S8, S9, S10, S11, S12, S13, S14, S15, S16, S17, S18, S19, S20, S21, S22, S23, N1, N2, N3, N4}
+use Rattle.sim_base.specs.declared.rule.Rule.TheVariants.{ByteBeginsNoToken, TextConstantNotClosed, BadCharacterConstant, RealConstant, IntegerTooLarge, CommentNotClosed, Directive, SourceTooLong, WordLeftOut, UnexpectedToken, NestedTooDeeply, FormNotBuilt, DeclaredTwice, PrefixIsNoClass, ClassInItsOwnChain, SpecificationDisagrees, ModeNotAllowed, InnerOutOfPlace, TooManyLevels, TooManyCells, TooManyDeclarations, QualificationIsNoClass, MatchDoesNotFit, ProtectionOfNoAttribute, NotDeclared, NotAccessible, WrongKind, WrongType, LeftSideIsNoVariable, WrongNumber, DifferentChains, ClassWithClasses, ThisOutsideItsClass, ControlledVariableNotSimple, ActivationOutsideSimulation, OnlyForPrefixing, BoundDependsOnItsBlock, StandardNameLeftOut, RealFunction, RandomDrawing, FileOrLayout, EnvironmentName}
 
+abbrev pub rule_entry : Rule → List ℕ × List ℕ
+rule_entry ByteBeginsNoToken = (codes "X1", codes "byte begins no token")
+rule_entry TextConstantNotClosed = (codes "X2", codes "text constant not closed")
+rule_entry BadCharacterConstant = (codes "X3", codes "bad character constant")
+rule_entry RealConstant = (codes "X4", codes "real constant left out")
+rule_entry IntegerTooLarge = (codes "X5", codes "integer too large")
+rule_entry CommentNotClosed = (codes "X6", codes "comment not closed")
+rule_entry Directive = (codes "X7", codes "directive left out")
+rule_entry SourceTooLong = (codes "X8", codes "source too long")
+rule_entry WordLeftOut = (codes "X9", codes "word left out")
+rule_entry UnexpectedToken = (codes "Y1", codes "unexpected token")
+rule_entry NestedTooDeeply = (codes "Y2", codes "nested too deeply")
+rule_entry FormNotBuilt = (codes "Z1", codes "form not built")
+rule_entry DeclaredTwice = (codes "S1", codes "identifier declared twice")
+rule_entry PrefixIsNoClass = (codes "S2", codes "prefix is no class of this block")
+rule_entry ClassInItsOwnChain = (codes "S3", codes "class in its own prefix chain")
+rule_entry SpecificationDisagrees = (codes "S4", codes "parameter and specification disagree")
+rule_entry ModeNotAllowed = (codes "S5", codes "mode not allowed")
+rule_entry InnerOutOfPlace = (codes "S6", codes "inner out of place")
+rule_entry TooManyLevels = (codes "L1", codes "too many block levels")
+rule_entry TooManyCells = (codes "L2", codes "too many cells")
+rule_entry TooManyDeclarations = (codes "L3", codes "too many declarations")
+rule_entry QualificationIsNoClass = (codes "S7", codes "qualification is no class")
+rule_entry MatchDoesNotFit = (codes "S8", codes "match does not fit its virtual")
+rule_entry ProtectionOfNoAttribute = (codes "S9", codes "protection of no such attribute")
+rule_entry NotDeclared = (codes "S10", codes "identifier not declared")
+rule_entry NotAccessible = (codes "S11", codes "attribute not accessible here")
+rule_entry WrongKind = (codes "S12", codes "wrong kind of identifier")
+rule_entry WrongType = (codes "S13", codes "wrong type")
+rule_entry LeftSideIsNoVariable = (codes "S14", codes "left side is no variable")
+rule_entry WrongNumber = (codes "S15", codes "wrong number of parameters or subscripts")
+rule_entry DifferentChains = (codes "S16", codes "qualifications on different chains")
+rule_entry ClassWithClasses = (codes "S17", codes "class with classes accessed from outside")
+rule_entry ThisOutsideItsClass = (codes "S18", codes "this outside its class")
+rule_entry ControlledVariableNotSimple = (codes "S19", codes "controlled variable not simple")
+rule_entry ActivationOutsideSimulation = (codes "S20", codes "activation outside a simulation")
+rule_entry OnlyForPrefixing = (codes "S21", codes "class only for prefixing")
+rule_entry BoundDependsOnItsBlock = (codes "S22", codes "array bound depends on its own block")
+rule_entry StandardNameLeftOut = (codes "S23", codes "standard name in a form left out")
+rule_entry RealFunction = (codes "N1", codes "real function left out")
+rule_entry RandomDrawing = (codes "N2", codes "random drawing left out")
+rule_entry FileOrLayout = (codes "N3", codes "file or layout left out")
+rule_entry EnvironmentName = (codes "N4", codes "environment name left out")
+
+-- the printed number
+abbrev pub rule_code : Rule → List ℕ
+rule_code x = (rule_entry x).0
+
+-- the whole message: the number, a blank, the words
 abbrev pub rule_text : Rule → List ℕ
-rule_text X1 = codes "X1 byte begins no token"
-rule_text X2 = codes "X2 text constant not closed"
-rule_text X3 = codes "X3 bad character constant"
-rule_text X4 = codes "X4 real constant left out"
-rule_text X5 = codes "X5 integer too large"
-rule_text X6 = codes "X6 comment not closed"
-rule_text X7 = codes "X7 directive left out"
-rule_text X8 = codes "X8 source too long"
-rule_text X9 = codes "X9 word left out"
-rule_text Y1 = codes "Y1 unexpected token"
-rule_text Y2 = codes "Y2 nested too deeply"
-rule_text Z1 = codes "Z1 form not built"
-rule_text S1 = codes "S1 identifier declared twice"
-rule_text S2 = codes "S2 prefix is no class of this block"
-rule_text S3 = codes "S3 class in its own prefix chain"
-rule_text S4 = codes "S4 parameter and specification disagree"
-rule_text S5 = codes "S5 mode not allowed"
-rule_text S6 = codes "S6 inner out of place"
-rule_text L1 = codes "L1 too many block levels"
-rule_text L2 = codes "L2 too many cells"
-rule_text L3 = codes "L3 too many declarations"
-rule_text S7 = codes "S7 qualification is no class"
-rule_text S8 = codes "S8 match does not fit its virtual"
-rule_text S9 = codes "S9 protection of no such attribute"
-rule_text S10 = codes "S10 identifier not declared"
-rule_text S11 = codes "S11 attribute not accessible here"
-rule_text S12 = codes "S12 wrong kind of identifier"
-rule_text S13 = codes "S13 wrong type"
-rule_text S14 = codes "S14 left side is no variable"
-rule_text S15 = codes "S15 wrong number of parameters or subscripts"
-rule_text S16 = codes "S16 qualifications on different chains"
-rule_text S17 = codes "S17 class with classes accessed from outside"
-rule_text S18 = codes "S18 this outside its class"
-rule_text S19 = codes "S19 controlled variable not simple"
-rule_text S20 = codes "S20 activation outside a simulation"
-rule_text S21 = codes "S21 class only for prefixing"
-rule_text S22 = codes "S22 array bound depends on its own block"
-rule_text S23 = codes "S23 standard name in a form left out"
-rule_text N1 = codes "N1 real function left out"
-rule_text N2 = codes "N2 random drawing left out"
-rule_text N3 = codes "N3 file or layout left out"
-rule_text N4 = codes "N4 environment name left out"
+rule_text x = rule_code x ++ (codes " " ++ (rule_entry x).1)

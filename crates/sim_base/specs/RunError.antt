@@ -1,43 +1,51 @@
--- The printed number and text of each run-time errors, each with its number and its text
-use Rattle.std.specs.Prelude.{ℕ, List, codes}
+-- The run-time errors: the printed number of each, and its words.
+use Rattle.std.specs.Prelude.{ℕ, ◌++◌, List, codes}
 use Rattle.sim_base.specs.declared.run_error.RunError.{RunError}
-use Rattle.sim_base.specs.declared.run_error.RunError.TheVariants.{E1, E2, E3, E4, E5, E6, E7, E8, E9, E10, E11, E12, E13, E20, E21, E22, E23, E24, E25, E26, E27, E28, E30, E31, E32, E34, E40, E41, E42, E43, E44, E45, E46, E50, E51, E52, E53}
+use Rattle.sim_base.specs.declared.run_error.RunError.TheVariants.{IntegerOverflow, ZeroDivisor, BadExponent, SubscriptOutOfBounds, WrongNumberOfSubscripts, AccessThroughNone, OutsideQualification, NoMatch, ActualIsNoVariable, WrongNumberOfParameters, WrongParameter, NoSuchCharacter, ArrayTooLarge, SubtextOutOfRange, TextTooLong, TextIsConstant, GetcharPastEnd, PutcharPastEnd, NoIntegerItem, PutintOnNotext, NegativeLength, IntegerItemTooLarge, FieldTooLong, InputLineTooLong, InputAtEnd, NoItemBeforeEnd, NoneIsNoComponent, ComponentIsAttached, ComponentIsTerminated, ComponentIsResumed, ObjectNotOperating, SystemNotOperating, ResumedIsAttached, NoNoticeLeft, TimeTooLarge, NoEventTime, OtherSimulation}
 
+abbrev pub run_error_entry : RunError → List ℕ × List ℕ
+run_error_entry IntegerOverflow = (codes "E1", codes "integer overflow")
+run_error_entry ZeroDivisor = (codes "E2", codes "zero divisor")
+run_error_entry BadExponent = (codes "E3", codes "bad exponent")
+run_error_entry SubscriptOutOfBounds = (codes "E4", codes "subscript out of bounds")
+run_error_entry WrongNumberOfSubscripts = (codes "E5", codes "wrong number of subscripts")
+run_error_entry AccessThroughNone = (codes "E6", codes "access through none")
+run_error_entry OutsideQualification = (codes "E7", codes "value outside its qualification")
+run_error_entry NoMatch = (codes "E8", codes "no match of a virtual")
+run_error_entry ActualIsNoVariable = (codes "E9", codes "actual parameter is no variable")
+run_error_entry WrongNumberOfParameters = (codes "E10", codes "wrong number of parameters")
+run_error_entry WrongParameter = (codes "E11", codes "wrong kind or type of a parameter")
+run_error_entry NoSuchCharacter = (codes "E12", codes "no such character")
+run_error_entry ArrayTooLarge = (codes "E13", codes "array too large")
+run_error_entry SubtextOutOfRange = (codes "E20", codes "subtext out of range")
+run_error_entry TextTooLong = (codes "E21", codes "text too long for its place")
+run_error_entry TextIsConstant = (codes "E22", codes "text is constant")
+run_error_entry GetcharPastEnd = (codes "E23", codes "getchar past the end")
+run_error_entry PutcharPastEnd = (codes "E24", codes "putchar past the end")
+run_error_entry NoIntegerItem = (codes "E25", codes "no integer item")
+run_error_entry PutintOnNotext = (codes "E26", codes "putint on notext")
+run_error_entry NegativeLength = (codes "E27", codes "negative length")
+run_error_entry IntegerItemTooLarge = (codes "E28", codes "integer item too large")
+run_error_entry FieldTooLong = (codes "E30", codes "field longer than the image")
+run_error_entry InputLineTooLong = (codes "E31", codes "input line longer than the image")
+run_error_entry InputAtEnd = (codes "E32", codes "input is at its end")
+run_error_entry NoItemBeforeEnd = (codes "E34", codes "no item before the end of input")
+run_error_entry NoneIsNoComponent = (codes "E40", codes "none is no component")
+run_error_entry ComponentIsAttached = (codes "E41", codes "component is attached")
+run_error_entry ComponentIsTerminated = (codes "E42", codes "component is terminated")
+run_error_entry ComponentIsResumed = (codes "E43", codes "component is resumed")
+run_error_entry ObjectNotOperating = (codes "E44", codes "object is not operating")
+run_error_entry SystemNotOperating = (codes "E45", codes "system is not operating")
+run_error_entry ResumedIsAttached = (codes "E46", codes "component is attached")
+run_error_entry NoNoticeLeft = (codes "E50", codes "no notice is left")
+run_error_entry TimeTooLarge = (codes "E51", codes "time too large")
+run_error_entry NoEventTime = (codes "E52", codes "no event time")
+run_error_entry OtherSimulation = (codes "E53", codes "process of another simulation")
+
+-- the printed number
+abbrev pub run_error_code : RunError → List ℕ
+run_error_code x = (run_error_entry x).0
+
+-- the whole message: the number, a blank, the words
 abbrev pub run_error_text : RunError → List ℕ
-run_error_text E1 = codes "E1 integer overflow"
-run_error_text E2 = codes "E2 zero divisor"
-run_error_text E3 = codes "E3 bad exponent"
-run_error_text E4 = codes "E4 subscript out of bounds"
-run_error_text E5 = codes "E5 wrong number of subscripts"
-run_error_text E6 = codes "E6 access through none"
-run_error_text E7 = codes "E7 value outside its qualification"
-run_error_text E8 = codes "E8 no match of a virtual"
-run_error_text E9 = codes "E9 actual parameter is no variable"
-run_error_text E10 = codes "E10 wrong number of parameters"
-run_error_text E11 = codes "E11 wrong kind or type of a parameter"
-run_error_text E12 = codes "E12 no such character"
-run_error_text E13 = codes "E13 array too large"
-run_error_text E20 = codes "E20 subtext out of range"
-run_error_text E21 = codes "E21 text too long for its place"
-run_error_text E22 = codes "E22 text is constant"
-run_error_text E23 = codes "E23 getchar past the end"
-run_error_text E24 = codes "E24 putchar past the end"
-run_error_text E25 = codes "E25 no integer item"
-run_error_text E26 = codes "E26 putint on notext"
-run_error_text E27 = codes "E27 negative length"
-run_error_text E28 = codes "E28 integer item too large"
-run_error_text E30 = codes "E30 field longer than the image"
-run_error_text E31 = codes "E31 input line longer than the image"
-run_error_text E32 = codes "E32 input is at its end"
-run_error_text E34 = codes "E34 no item before the end of input"
-run_error_text E40 = codes "E40 none is no component"
-run_error_text E41 = codes "E41 component is attached"
-run_error_text E42 = codes "E42 component is terminated"
-run_error_text E43 = codes "E43 component is resumed"
-run_error_text E44 = codes "E44 object is not operating"
-run_error_text E45 = codes "E45 system is not operating"
-run_error_text E46 = codes "E46 component is attached"
-run_error_text E50 = codes "E50 no notice is left"
-run_error_text E51 = codes "E51 time too large"
-run_error_text E52 = codes "E52 no event time"
-run_error_text E53 = codes "E53 process of another simulation"
+run_error_text x = run_error_code x ++ (codes " " ++ (run_error_entry x).1)

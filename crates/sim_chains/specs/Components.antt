@@ -2,7 +2,7 @@
 -- with the tests for its errors in front: first `none`, then the state, then the chain.
 use Rattle.std.specs.Prelude.{ℕ, ◌==◌, if◌then◌else◌, List, [], ◌∷◌, ◌++◌, Option, Some, None, Result, Ok, Err}
 use Rattle.sim_base.specs.declared.run_error.RunError.{RunError}
-use Rattle.sim_base.specs.declared.run_error.RunError.TheVariants.{E40, E41, E42, E43, E44, E45, E46}
+use Rattle.sim_base.specs.declared.run_error.RunError.TheVariants.{NoneIsNoComponent, ComponentIsAttached, ComponentIsTerminated, ComponentIsResumed, ObjectNotOperating, SystemNotOperating, ResumedIsAttached}
 use Rattle.sim_chains.specs.Chains.{Cut, cut_at, outermost}
 use Rattle.sim_chains.specs.declared.state.State.{State}
 use Rattle.sim_chains.specs.declared.state.State.TheVariants.{Attached, Detached, Resumed, Terminated}
@@ -40,35 +40,35 @@ kept c head above = keeping (c.main head) c head above
 -- no object counts as attached.
 abbrev pub call_in : Option State → Components → ℕ → Result Components RunError
 call_in (Some Detached) c y = Ok (with_state (with_operating c (c.chain y ++ c.operating)) y Attached)
-call_in (Some Attached) c y = Err E41
-call_in (Some Terminated) c y = Err E42
-call_in (Some Resumed) c y = Err E43
-call_in None c y = Err E41
+call_in (Some Attached) c y = Err ComponentIsAttached
+call_in (Some Terminated) c y = Err ComponentIsTerminated
+call_in (Some Resumed) c y = Err ComponentIsResumed
+call_in None c y = Err ComponentIsAttached
 
 abbrev pub call : Components → Option ℕ → Result Components RunError
-call c None = Err E40
+call c None = Err NoneIsNoComponent
 call c (Some y) = call_in (c.state y) c y
 
 -- `resume` of a detached object, whose system has this head: the component that operates keeps the chain above the head, and that
 -- of the object takes its place. Where the object is resumed already, nothing is done.
 abbrev pub resume_at : Option Cut → Components → ℕ → ℕ → Result Components RunError
-resume_at None c head y = Err E45
+resume_at None c head y = Err SystemNotOperating
 resume_at (Some u) c head y = Ok (with_state (with_operating (kept c head u.above) (c.chain y ++ head ∷ u.below)) y Resumed)
 
 abbrev pub resume_in : Option State → Components → ℕ → ℕ → Result Components RunError
 resume_in (Some Detached) c head y = resume_at (cut_at head c.operating) c head y
-resume_in (Some Attached) c head y = Err E46
-resume_in (Some Terminated) c head y = Err E42
+resume_in (Some Attached) c head y = Err ResumedIsAttached
+resume_in (Some Terminated) c head y = Err ComponentIsTerminated
 resume_in (Some Resumed) c head y = Ok c
-resume_in None c head y = Err E46
+resume_in None c head y = Err ResumedIsAttached
 
 abbrev pub resume : Components → ℕ → Option ℕ → Result Components RunError
-resume c head None = Err E40
+resume c head None = Err NoneIsNoComponent
 resume c head (Some y) = resume_in (c.state y) c head y
 
 -- The main component of a system gets control, with the same equation; where it operates already, nothing is done.
 abbrev pub main_at : Option Cut → Components → ℕ → List ℕ → Result Components RunError
-main_at None c head main = Err E45
+main_at None c head main = Err SystemNotOperating
 main_at (Some u) c head main = Ok (with_main (with_operating (kept c head u.above) (main ++ head ∷ u.below)) head None)
 
 abbrev pub main_in : Option (List ℕ) → Components → ℕ → Result Components RunError
@@ -84,7 +84,7 @@ resume_main c head = main_in (c.main head) c head
 abbrev pub detach_at : Option Cut → State → Components → ℕ → ℕ → Result Components RunError
 detach_at (Some u) Attached c head x = Ok (with_state (with_chain (with_operating c u.below) x (u.above ++ x ∷ [])) x Detached)
 detach_at (Some u) Resumed c head x = resume_main c head
-detach_at other s c head x = Err E44
+detach_at other s c head x = Err ObjectNotOperating
 
 abbrev pub detach_in : Option State → Components → ℕ → ℕ → Result Components RunError
 detach_in None c head x = Ok c

@@ -52,11 +52,11 @@ one_meaning tokens (Tree p) (Tree q) x y =
 one_meaning tokens (Tree p) (Bad m) x y = absurd (never_both limit tokens x.reads y.comes)
 one_meaning tokens (Tree p) (Deep m) x y = absurd (never_both limit tokens x.reads y.comes)
 one_meaning tokens (Bad k) (Tree q) x y = absurd (never_both limit tokens y.reads x.comes)
-one_meaning tokens (Bad k) (Bad m) x y = ap (λ n. refused rule.Y1 (token_line tokens n)) (same_unexpected k m (one_fault limit tokens x.comes y.comes))
+one_meaning tokens (Bad k) (Bad m) x y = ap (λ n. refused rule.UnexpectedToken (token_line tokens n)) (same_unexpected k m (one_fault limit tokens x.comes y.comes))
 one_meaning tokens (Bad k) (Deep m) x y = absurd (not_both k m (one_fault limit tokens x.comes y.comes))
 one_meaning tokens (Deep k) (Tree q) x y = absurd (never_both limit tokens y.reads x.comes)
 one_meaning tokens (Deep k) (Bad m) x y = absurd (not_both m k (one_fault limit tokens y.comes x.comes))
-one_meaning tokens (Deep k) (Deep m) x y = ap (λ n. refused rule.Y2 (token_line tokens n)) (same_deep k m (one_fault limit tokens x.comes y.comes))
+one_meaning tokens (Deep k) (Deep m) x y = ap (λ n. refused rule.NestedTooDeeply (token_line tokens n)) (same_deep k m (one_fault limit tokens x.comes y.comes))
 
 -- what tokens mean is what they parse as means
 pub same_meaning : (tokens : List Token) (meaning : Meaning) (parsed : Parsed) → TokensMean tokens meaning → IsParsed tokens parsed → meaning ≡ parsed_meaning tokens parsed
@@ -69,8 +69,8 @@ pub record Refused (tokens : List Token) (rule : Rule) (token : ℕ) : Type 0 wh
   pub means : parsed_meaning tokens parsed ≡ refused rule (token_line tokens token)
 
 pub refused_tokens : (tokens : List Token) (r : Rule) (token : TokenNo) → Parses tokens (Err (refusal.Broken r token)) → Refused tokens r token.0
-refused_tokens tokens rule.Y1 token says = record { parsed = Bad token.0; parses = record { comes = says.0; first = says.1 }; means = refl }
-refused_tokens tokens rule.Y2 token says = record { parsed = Deep token.0; parses = record { comes = says.0; before = says.1 }; means = refl }
+refused_tokens tokens rule.UnexpectedToken token says = record { parsed = Bad token.0; parses = record { comes = says.0; first = says.1 }; means = refl }
+refused_tokens tokens rule.NestedTooDeeply token says = record { parsed = Deep token.0; parses = record { comes = says.0; before = says.1 }; means = refl }
 refused_tokens tokens _ token says = absurd says
 
 -- a token that is there

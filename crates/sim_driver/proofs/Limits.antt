@@ -3,19 +3,19 @@ use Rattle.std.proofs.Common.{◌≡◌, ◌<◌, ℕ, List, length, take, refl,
 use Rattle.std.proofs.lemmas.Bool.{cases_lt}
 use Rattle.std.proofs.lemmas.List.{take_all, take-take}
 use Rattle.sim_base.specs.Place.{line_at}
-use Rattle.sim_base.specs.declared.rule.Rule.TheVariants.{X8}
+use Rattle.sim_base.specs.declared.rule.Rule.TheVariants.{SourceTooLong}
 use Rattle.sim_lexer.specs.Spelling.{Lexed, Broken, Reads, too_long, reads}
 use Rattle.sim_driver.specs.Answer.{Answer, IsSourceAnswer}
 use Rattle.sim_driver.specs.SourceMeaning.{Meaning, SourceMeans, LexedMeans, refused}
 
 -- what is too long reads as that alone
-only_too_long : (source : List ℕ) (lexed : Lexed) → 1048576 < length source → Reads source lexed → lexed ≡ Broken X8 1048576
+only_too_long : (source : List ℕ) (lexed : Lexed) → 1048576 < length source → Reads source lexed → lexed ≡ Broken SourceTooLong 1048576
 only_too_long source _ long (too_long also) = refl
 only_too_long source _ long (reads short spells) = absurd (omega arith)
 
 -- the meaning of what is too long
 abbrev too_long_meaning : List ℕ → Meaning
-too_long_meaning source = refused X8 (record { 0 = line_at source 1048576 })
+too_long_meaning source = refused SourceTooLong (record { 0 = line_at source 1048576 })
 
 too_long_means : (source : List ℕ) (meaning : Meaning) → 1048576 < length source → SourceMeans source meaning → meaning ≡ too_long_meaning source
 too_long_means source meaning long means =
@@ -24,14 +24,14 @@ too_long_means source meaning long means =
     subst Goal is means.means
 
 means_too_long : (source : List ℕ) (meaning : Meaning) → 1048576 < length source → meaning ≡ too_long_meaning source → SourceMeans source meaning
-means_too_long source meaning long is = record { lexed = Broken X8 1048576; reads = too_long long; means = is }
+means_too_long source meaning long is = record { lexed = Broken SourceTooLong 1048576; reads = too_long long; means = is }
 
 same_line : (source : List ℕ) → line_at (take 1048577 source) 1048576 ≡ line_at source 1048576
 unfolding line_at
 same_line source = rw (take-take 1048576 1048577 source (lit≤ tt)) refl
 
 same_meaning : (source : List ℕ) → too_long_meaning (take 1048577 source) ≡ too_long_meaning source
-same_meaning source = ap (λ line. refused X8 (record { 0 = line })) (same_line source)
+same_meaning source = ap (λ line. refused SourceTooLong (record { 0 = line })) (same_line source)
 
 long_too : (source : List ℕ) → 1048576 < length source → 1048576 < length (take 1048577 source)
 long_too source long = omega (arith, length-take 1048577 source)

@@ -1,7 +1,7 @@
 -- What a program of the small form does: the error with which it ends, if with one, and the bytes that it writes.
 use Rattle.std.specs.Prelude.{ℕ, ℤ, pos, List, [], ◌∷◌, ◌++◌, Option, Some, None, Result, Ok, Err, nat_lt, if◌then◌else◌, replicate, slice_index_or, slice_set, unsigned_abs}
 use Rattle.sim_base.specs.declared.numbering.Line.{Line}
-use Rattle.sim_base.specs.declared.run_error.RunError.TheVariants.{E30}
+use Rattle.sim_base.specs.declared.run_error.RunError.TheVariants.{FieldTooLong}
 use Rattle.small_form.specs.declared.tree.Factor.{Factor}
 use Rattle.small_form.specs.declared.tree.Factor.TheVariants.{Constant, Variable}
 use Rattle.small_form.specs.declared.tree.Multiplication.{Multiplication}
@@ -72,7 +72,7 @@ field_written state field =
 -- an integer goes into a field of such a width, which is at most as long as the image
 abbrev pub integer_written : State → Line → ℤ → ℤ → Result After Fault
 integer_written state line value width =
-    if nat_lt image_length (unsigned_abs width) then Err (record { error = E30; line = line })
+    if nat_lt image_length (unsigned_abs width) then Err (record { error = FieldTooLong; line = line })
     else Ok (field_written state (field_of value width))
 
 abbrev pub outint_effect : State → Line → Sum → Sum → Result After Fault

@@ -3,7 +3,7 @@ use Rattle.std.specs.Prelude.{◌≡◌, ℕ, List, [], Option, Some, None, slic
 use Rattle.sim_base.specs.Place.{line_at}
 use Rattle.sim_base.specs.declared.numbering.Line.{Line}
 use Rattle.sim_base.specs.declared.rule.Rule.{Rule}
-use Rattle.sim_base.specs.declared.rule.Rule.TheVariants.{S10, Y1, Y2, Z1}
+use Rattle.sim_base.specs.declared.rule.Rule.TheVariants.{NotDeclared, UnexpectedToken, NestedTooDeeply, FormNotBuilt}
 use Rattle.sim_base.specs.declared.token.Token.{Token}
 use Rattle.sim_lexer.specs.Spelling.{Lexed, Reads, Spelled, Broken}
 use Rattle.sim_tree.specs.Claim.{Begins, IsFirstBad, one}
@@ -39,8 +39,8 @@ run_meaning run = record { ending = run_ending run.fault; output = run.output }
 -- doesn't declare is refused at the line of the first.
 abbrev pub formed_meaning : Formed → Meaning
 formed_meaning (Form program) = run_meaning (program_run program)
-formed_meaning NotBuilt = refused Z1 (record { 0 = 1 })
-formed_meaning (Undeclared line) = refused S10 line
+formed_meaning NotBuilt = refused FormNotBuilt (record { 0 = 1 })
+formed_meaning (Undeclared line) = refused NotDeclared line
 
 -- what the grammar makes of tokens: the tree of a program, or the first bad token, or the first that nests too deeply
 pub data Parsed : Type 0 where
@@ -73,8 +73,8 @@ tree_meaning program = formed_meaning (form_of (program_shown program) program.l
 -- no program is refused at the line of the token that is to blame
 abbrev pub parsed_meaning : List Token → Parsed → Meaning
 parsed_meaning tokens (Tree program) = tree_meaning program
-parsed_meaning tokens (Bad bad) = refused Y1 (token_line tokens bad)
-parsed_meaning tokens (Deep deep) = refused Y2 (token_line tokens deep)
+parsed_meaning tokens (Bad bad) = refused UnexpectedToken (token_line tokens bad)
+parsed_meaning tokens (Deep deep) = refused NestedTooDeeply (token_line tokens deep)
 
 -- what tokens mean
 pub record TokensMean (tokens : List Token) (meaning : Meaning) : Type 0 where

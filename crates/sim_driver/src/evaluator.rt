@@ -170,7 +170,7 @@ impl Machine {
     {
         if width.unsigned_abs() > IMAGE_LENGTH as u64 {
             return Err(Stop::Fault(Fault {
-                error: RunError::E30,
+                error: RunError::FieldTooLong,
                 line,
             }));
         }

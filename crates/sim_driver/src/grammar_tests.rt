@@ -182,7 +182,7 @@ fn programs_parse(rt: HostRuntime) -> Result<(), Fail> {
         let unparsed = matches!(
             outcome.status,
             Status::Refused {
-                rule: Rule::Y1 | Rule::Y2,
+                rule: Rule::UnexpectedToken | Rule::NestedTooDeeply,
                 ..
             }
         );

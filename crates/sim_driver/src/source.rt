@@ -80,11 +80,11 @@ fn run_tree<O: Sink>(
     match form(alloc, program) {
         Ok(program) => run_form(alloc, &program, out),
         Err(FormRefusal::NotBuilt) => Ok(Ending::Refused {
-            rule: Rule::Z1,
+            rule: Rule::FormNotBuilt,
             line: Line(1),
         }),
         Err(FormRefusal::Undeclared { line }) => Ok(Ending::Refused {
-            rule: Rule::S10,
+            rule: Rule::NotDeclared,
             line,
         }),
         Err(FormRefusal::Memory) => Err(RunFailure::Memory),

@@ -22,32 +22,32 @@ pub operated-some : (l : ℕ) (kind : TokenKind) (n : Part) (s : Shown) (xs : Li
 operated-some l kind n s [] h = absurd (omega (arith, h))
 operated-some l kind n s (x ∷ xs) h = refl
 
-pub negated-some : (xs : List TokenNo) (s : Shown) → 0 < length xs → negated xs s ≡ record { level = 7; inside = row g.NotMark (map not_mark xs) (node g.Rel (raise 6 s) done) }
+pub negated-some : (xs : List TokenNo) (s : Shown) → 0 < length xs → negated xs s ≡ record { level = 7; inside = row g.NotSign (map not_mark xs) (node g.Relation (raise 6 s) done) }
 negated-some [] s h = absurd (omega (arith, h))
 negated-some (x ∷ xs) s h = refl
 
-pub multiplied-some : (s : Shown) (fs : List Forest) → 0 < length fs → multiplied s fs ≡ record { level = 3; inside = node g.Factor (raise 2 s) (row g.Multiplied fs done) }
+pub multiplied-some : (s : Shown) (fs : List Forest) → 0 < length fs → multiplied s fs ≡ record { level = 3; inside = node g.Factor (raise 2 s) (row g.NextFactor fs done) }
 multiplied-some s [] h = absurd (omega (arith, h))
 multiplied-some s (x ∷ xs) h = refl
 
-pub selected-some : (s : Shown) (fs : List Forest) → 0 < length fs → selected s fs ≡ record { level = 1; inside = node g.Primary (raise 0 s) (row g.Selected fs done) }
+pub selected-some : (s : Shown) (fs : List Forest) → 0 < length fs → selected s fs ≡ record { level = 1; inside = node g.Primary (raise 0 s) (row g.Selection fs done) }
 selected-some s [] h = absurd (omega (arith, h))
 selected-some s (x ∷ xs) h = refl
 
 -- the sign in front of a sum
 abbrev pub front : Option LeadingSign → Forest → Forest
 front None f = f
-front (Some s) f = node g.Sign (leaf s.token.0 (sign_kind s.sign) done) f
+front (Some s) f = node g.LeadingSign (leaf s.token.0 (sign_kind s.sign) done) f
 
-pub summed-signed : (x : LeadingSign) (s : Shown) (fs : List Forest) → summed (Some x) s fs ≡ record { level = 4; inside = front (Some x) (node g.Term (raise 3 s) (row g.Added fs done)) }
+pub summed-signed : (x : LeadingSign) (s : Shown) (fs : List Forest) → summed (Some x) s fs ≡ record { level = 4; inside = front (Some x) (node g.Term (raise 3 s) (row g.NextTerm fs done)) }
 summed-signed x s fs = refl
 
-pub summed-some : (x : Option LeadingSign) (s : Shown) (fs : List Forest) → 0 < length fs → summed x s fs ≡ record { level = 4; inside = front x (node g.Term (raise 3 s) (row g.Added fs done)) }
+pub summed-some : (x : Option LeadingSign) (s : Shown) (fs : List Forest) → 0 < length fs → summed x s fs ≡ record { level = 4; inside = front x (node g.Term (raise 3 s) (row g.NextTerm fs done)) }
 summed-some None s [] h = absurd (omega (arith, h))
 summed-some None s (f ∷ fs) h = refl
 summed-some (Some x) s fs h = refl
 
-pub summed-is : (x : Option LeadingSign) (s : Shown) (fs : List Forest) → is_some x ≡ true → summed x s fs ≡ record { level = 4; inside = front x (node g.Term (raise 3 s) (row g.Added fs done)) }
+pub summed-is : (x : Option LeadingSign) (s : Shown) (fs : List Forest) → is_some x ≡ true → summed x s fs ≡ record { level = 4; inside = front x (node g.Term (raise 3 s) (row g.NextTerm fs done)) }
 summed-is None s fs h = absurd (false≢true h)
 summed-is (Some x) s fs h = refl
 
@@ -55,33 +55,33 @@ pub front-none : (x : Option LeadingSign) (f : Forest) → is_some x ≡ false �
 front-none None f h = refl
 front-none (Some x) f h = absurd (false≢true (sym h))
 
-pub sign-to : (ws : List Token) (d i j : ℕ) (s : Option LeadingSign) → GivesSign ws i s j → i < length ws → ReadsTo ws d (Of Maybe g.Sign) i (front s) j
-sign-to ws d i j None h within = subst (λ z. ReadsTo ws d (Of Maybe g.Sign) i (λ f. f) z) (sym h.1) (skipped (one_row g.Sign signs (Kept signs ∷ []) (terminal_at ws i) false refl h.0) within)
+pub sign-to : (ws : List Token) (d i j : ℕ) (s : Option LeadingSign) → GivesSign ws i s j → i < length ws → ReadsTo ws d (Of Maybe g.LeadingSign) i (front s) j
+sign-to ws d i j None h within = subst (λ z. ReadsTo ws d (Of Maybe g.LeadingSign) i (λ f. f) z) (sym h.1) (skipped (one_row g.LeadingSign signs (Kept signs ∷ []) (terminal_at ws i) false refl h.0) within)
 sign-to ws d i j (Some s) h within =
-    maybe (gone (to (opened ws d i g.Sign (Kept signs ∷ []) refl (one_row g.Sign signs (Kept signs ∷ []) (terminal_at ws i) true refl h.0.among) within) (kept s.token.0 h.1 h.0))
+    maybe (gone (to (opened ws d i g.LeadingSign (Kept signs ∷ []) refl (one_row g.LeadingSign signs (Kept signs ∷ []) (terminal_at ws i) true refl h.0.among) within) (kept s.token.0 h.1 h.0))
     (leaf s.token.0 (sign_kind s.sign) done) refl)
 
 pub some-mapped : {A B : Type 0} (f : A → B) (xs : List A) → 0 < length xs → 0 < length (map f xs)
 some-mapped f [] h = h
 some-mapped f (x ∷ xs) h = omega arith
 
-pub arguments-some : (xs : List Shown) (f : Forest) → 0 < length xs → arguments xs f ≡ node g.Args (listed xs done) f
+pub arguments-some : (xs : List Shown) (f : Forest) → 0 < length xs → arguments xs f ≡ node g.Arguments (listed xs done) f
 arguments-some [] f h = absurd (omega (arith, h))
 arguments-some (x ∷ xs) f h = refl
 
 pub listed-more : (xs ys : List Expr) (y : Expr) (h : Forest) → 0 < length xs → ys ≡ xs ++ y ∷ []
-    → listed (map shown xs) (node g.NextArg (argument (shown y)) h) ≡ listed (map shown ys) h
+    → listed (map shown xs) (node g.NextArgument (argument (shown y)) h) ≡ listed (map shown ys) h
 listed-more [] ys y h some e = absurd (omega (arith, some))
 listed-more (x ∷ xs) ys y h some e =
-    sym (ap (λ l. listed (map shown l) h) e ∙ ap (λ l. node g.Expr (whole (shown x)) (row g.NextArg (map argument l) h)) (map-append shown xs y)
-    ∙ ap (λ l. node g.Expr (whole (shown x)) (row g.NextArg l h)) (map-append argument (map shown xs) (shown y))
-    ∙ ap (node g.Expr (whole (shown x))) (row-append g.NextArg (map argument (map shown xs)) (argument (shown y)) h))
+    sym (ap (λ l. listed (map shown l) h) e ∙ ap (λ l. node g.Expression (whole (shown x)) (row g.NextArgument (map argument l) h)) (map-append shown xs y)
+    ∙ ap (λ l. node g.Expression (whole (shown x)) (row g.NextArgument l h)) (map-append argument (map shown xs) (shown y))
+    ∙ ap (node g.Expression (whole (shown x))) (row-append g.NextArgument (map argument (map shown xs)) (argument (shown y)) h))
 
 pub if-forest : (i n : ℕ) (a a' b b' x x' : Expr) → n ≡ i → a' ≡ a → b' ≡ b → x' ≡ x
-    → leaf i k.If (node g.Expr (whole (shown a)) (node g.Simple (raise 13 (shown b)) (node g.Expr (whole (shown x)) done)))
-    ≡ leaf n k.If (node g.Expr (whole (shown a')) (node g.Simple (raise 13 (shown b')) (node g.Expr (whole (shown x')) done)))
+    → leaf i k.If (node g.Expression (whole (shown a)) (node g.SimpleExpression (raise 13 (shown b)) (node g.Expression (whole (shown x)) done)))
+    ≡ leaf n k.If (node g.Expression (whole (shown a')) (node g.SimpleExpression (raise 13 (shown b')) (node g.Expression (whole (shown x')) done)))
 if-forest i n a a' b b' x x' en ea eb ex = sym (
-    ap (λ z. leaf z k.If (node g.Expr (whole (shown a')) (node g.Simple (raise 13 (shown b')) (node g.Expr (whole (shown x')) done)))) en
-    ∙ ap (λ z. leaf i k.If (node g.Expr (whole (shown z)) (node g.Simple (raise 13 (shown b')) (node g.Expr (whole (shown x')) done)))) ea
-    ∙ ap (λ z. leaf i k.If (node g.Expr (whole (shown a)) (node g.Simple (raise 13 (shown z)) (node g.Expr (whole (shown x')) done)))) eb
-    ∙ ap (λ z. leaf i k.If (node g.Expr (whole (shown a)) (node g.Simple (raise 13 (shown b)) (node g.Expr (whole (shown z)) done)))) ex)
+    ap (λ z. leaf z k.If (node g.Expression (whole (shown a')) (node g.SimpleExpression (raise 13 (shown b')) (node g.Expression (whole (shown x')) done)))) en
+    ∙ ap (λ z. leaf i k.If (node g.Expression (whole (shown z)) (node g.SimpleExpression (raise 13 (shown b')) (node g.Expression (whole (shown x')) done)))) ea
+    ∙ ap (λ z. leaf i k.If (node g.Expression (whole (shown a)) (node g.SimpleExpression (raise 13 (shown z)) (node g.Expression (whole (shown x')) done)))) eb
+    ∙ ap (λ z. leaf i k.If (node g.Expression (whole (shown a)) (node g.SimpleExpression (raise 13 (shown b)) (node g.Expression (whole (shown z)) done)))) ex)

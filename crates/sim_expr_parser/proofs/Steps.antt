@@ -212,7 +212,7 @@ leads-stops l (stop.TooDeep m) h = l.fails (TooDeep m) h
 leads-stops l stop.Memory h = tt
 
 -- past a list of actuals
-pub to-list : {ws : List Token} {d i j e m : ℕ} {n : Part} {F : Forest → Forest} {s : List Symbol} {l : List Shown} → Within ws d n i F e (Of Once g.Expr ∷ Of Many g.NextArg ∷ s) j → ReadsList ws e j l m
+pub to-list : {ws : List Token} {d i j e m : ℕ} {n : Part} {F : Forest → Forest} {s : List Symbol} {l : List Shown} → Within ws d n i F e (Of Once g.Expression ∷ Of Many g.NextArgument ∷ s) j → ReadsList ws e j l m
     → Within ws d n i (λ f. F (listed l f)) e s m
 to-list {s = s} {l = l} w r = record {
   right = w.right;

@@ -50,34 +50,34 @@ abbrev pub item_symbols : Level → List Symbol
 item_symbols lv = Kept (just (word lv)) ∷ Of Once (level_part (under lv)) ∷ []
 
 pub open-level : (lv : Level) (ws : List Token) (d i : ℕ) → i < length ws → Within ws d (level_part (suc (under lv))) i (λ f. f) d (level_symbols lv) i
-open-level level.OrElse ws d i h = opened ws d i g.Simple (level_symbols level.OrElse) refl (only g.Simple (level_symbols level.OrElse) (terminal_at ws i) refl) h
+open-level level.OrElse ws d i h = opened ws d i g.SimpleExpression (level_symbols level.OrElse) refl (only g.SimpleExpression (level_symbols level.OrElse) (terminal_at ws i) refl) h
 open-level level.AndThen ws d i h = opened ws d i g.AndThen (level_symbols level.AndThen) refl (only g.AndThen (level_symbols level.AndThen) (terminal_at ws i) refl) h
-open-level level.Eqv ws d i h = opened ws d i g.Eqv (level_symbols level.Eqv) refl (only g.Eqv (level_symbols level.Eqv) (terminal_at ws i) refl) h
-open-level level.Imp ws d i h = opened ws d i g.Imp (level_symbols level.Imp) refl (only g.Imp (level_symbols level.Imp) (terminal_at ws i) refl) h
-open-level level.Or ws d i h = opened ws d i g.Disj (level_symbols level.Or) refl (only g.Disj (level_symbols level.Or) (terminal_at ws i) refl) h
-open-level level.And ws d i h = opened ws d i g.Conj (level_symbols level.And) refl (only g.Conj (level_symbols level.And) (terminal_at ws i) refl) h
-open-level level.Concatenation ws d i h = opened ws d i g.Cat (level_symbols level.Concatenation) refl (only g.Cat (level_symbols level.Concatenation) (terminal_at ws i) refl) h
+open-level level.Eqv ws d i h = opened ws d i g.Equivalence (level_symbols level.Eqv) refl (only g.Equivalence (level_symbols level.Eqv) (terminal_at ws i) refl) h
+open-level level.Imp ws d i h = opened ws d i g.Implication (level_symbols level.Imp) refl (only g.Implication (level_symbols level.Imp) (terminal_at ws i) refl) h
+open-level level.Or ws d i h = opened ws d i g.Disjunction (level_symbols level.Or) refl (only g.Disjunction (level_symbols level.Or) (terminal_at ws i) refl) h
+open-level level.And ws d i h = opened ws d i g.Conjunction (level_symbols level.And) refl (only g.Conjunction (level_symbols level.And) (terminal_at ws i) refl) h
+open-level level.Concatenation ws d i h = opened ws d i g.Concatenation (level_symbols level.Concatenation) refl (only g.Concatenation (level_symbols level.Concatenation) (terminal_at ws i) refl) h
 open-level level.Power ws d i h = opened ws d i g.Factor (level_symbols level.Power) refl (only g.Factor (level_symbols level.Power) (terminal_at ws i) refl) h
 
 pub open-item : (lv : Level) (ws : List Token) (d i : ℕ) → is (terminal_at ws i) (word lv) ≡ true → i < length ws → Within ws d (many lv) i (λ f. f) d (item_symbols lv) i
-open-item level.OrElse ws d i e h = opened ws d i g.OrElsed (item_symbols level.OrElse) refl (one_row g.OrElsed (just t.OrElse) (item_symbols level.OrElse) (terminal_at ws i) true refl (just_is _ _ _ e)) h
-open-item level.AndThen ws d i e h = opened ws d i g.AndThened (item_symbols level.AndThen) refl (one_row g.AndThened (just t.AndThen) (item_symbols level.AndThen) (terminal_at ws i) true refl (just_is _ _ _ e)) h
-open-item level.Eqv ws d i e h = opened ws d i g.Eqved (item_symbols level.Eqv) refl (one_row g.Eqved (just t.Eqv) (item_symbols level.Eqv) (terminal_at ws i) true refl (just_is _ _ _ e)) h
-open-item level.Imp ws d i e h = opened ws d i g.Imped (item_symbols level.Imp) refl (one_row g.Imped (just t.Imp) (item_symbols level.Imp) (terminal_at ws i) true refl (just_is _ _ _ e)) h
-open-item level.Or ws d i e h = opened ws d i g.Ored (item_symbols level.Or) refl (one_row g.Ored (just t.Or) (item_symbols level.Or) (terminal_at ws i) true refl (just_is _ _ _ e)) h
-open-item level.And ws d i e h = opened ws d i g.Anded (item_symbols level.And) refl (one_row g.Anded (just t.And) (item_symbols level.And) (terminal_at ws i) true refl (just_is _ _ _ e)) h
-open-item level.Concatenation ws d i e h = opened ws d i g.Catted (item_symbols level.Concatenation) refl (one_row g.Catted (just t.Ampersand) (item_symbols level.Concatenation) (terminal_at ws i) true refl (just_is _ _ _ e)) h
-open-item level.Power ws d i e h = opened ws d i g.Powered (item_symbols level.Power) refl (one_row g.Powered (just t.Power) (item_symbols level.Power) (terminal_at ws i) true refl (just_is _ _ _ e)) h
+open-item level.OrElse ws d i e h = opened ws d i g.NextOrElse (item_symbols level.OrElse) refl (one_row g.NextOrElse (just t.OrElse) (item_symbols level.OrElse) (terminal_at ws i) true refl (just_is _ _ _ e)) h
+open-item level.AndThen ws d i e h = opened ws d i g.NextAndThen (item_symbols level.AndThen) refl (one_row g.NextAndThen (just t.AndThen) (item_symbols level.AndThen) (terminal_at ws i) true refl (just_is _ _ _ e)) h
+open-item level.Eqv ws d i e h = opened ws d i g.NextEquivalence (item_symbols level.Eqv) refl (one_row g.NextEquivalence (just t.Eqv) (item_symbols level.Eqv) (terminal_at ws i) true refl (just_is _ _ _ e)) h
+open-item level.Imp ws d i e h = opened ws d i g.NextImplication (item_symbols level.Imp) refl (one_row g.NextImplication (just t.Imp) (item_symbols level.Imp) (terminal_at ws i) true refl (just_is _ _ _ e)) h
+open-item level.Or ws d i e h = opened ws d i g.NextOr (item_symbols level.Or) refl (one_row g.NextOr (just t.Or) (item_symbols level.Or) (terminal_at ws i) true refl (just_is _ _ _ e)) h
+open-item level.And ws d i e h = opened ws d i g.NextAnd (item_symbols level.And) refl (one_row g.NextAnd (just t.And) (item_symbols level.And) (terminal_at ws i) true refl (just_is _ _ _ e)) h
+open-item level.Concatenation ws d i e h = opened ws d i g.NextConcatenated (item_symbols level.Concatenation) refl (one_row g.NextConcatenated (just t.Ampersand) (item_symbols level.Concatenation) (terminal_at ws i) true refl (just_is _ _ _ e)) h
+open-item level.Power ws d i e h = opened ws d i g.NextPower (item_symbols level.Power) refl (one_row g.NextPower (just t.Power) (item_symbols level.Power) (terminal_at ws i) true refl (just_is _ _ _ e)) h
 
 pub no-item : (lv : Level) (a : Terminal) → is a (word lv) ≡ false → right_side (many lv) a ≡ None
-no-item level.OrElse a e = one_row g.OrElsed (just t.OrElse) (item_symbols level.OrElse) a false refl (just_is _ _ _ e)
-no-item level.AndThen a e = one_row g.AndThened (just t.AndThen) (item_symbols level.AndThen) a false refl (just_is _ _ _ e)
-no-item level.Eqv a e = one_row g.Eqved (just t.Eqv) (item_symbols level.Eqv) a false refl (just_is _ _ _ e)
-no-item level.Imp a e = one_row g.Imped (just t.Imp) (item_symbols level.Imp) a false refl (just_is _ _ _ e)
-no-item level.Or a e = one_row g.Ored (just t.Or) (item_symbols level.Or) a false refl (just_is _ _ _ e)
-no-item level.And a e = one_row g.Anded (just t.And) (item_symbols level.And) a false refl (just_is _ _ _ e)
-no-item level.Concatenation a e = one_row g.Catted (just t.Ampersand) (item_symbols level.Concatenation) a false refl (just_is _ _ _ e)
-no-item level.Power a e = one_row g.Powered (just t.Power) (item_symbols level.Power) a false refl (just_is _ _ _ e)
+no-item level.OrElse a e = one_row g.NextOrElse (just t.OrElse) (item_symbols level.OrElse) a false refl (just_is _ _ _ e)
+no-item level.AndThen a e = one_row g.NextAndThen (just t.AndThen) (item_symbols level.AndThen) a false refl (just_is _ _ _ e)
+no-item level.Eqv a e = one_row g.NextEquivalence (just t.Eqv) (item_symbols level.Eqv) a false refl (just_is _ _ _ e)
+no-item level.Imp a e = one_row g.NextImplication (just t.Imp) (item_symbols level.Imp) a false refl (just_is _ _ _ e)
+no-item level.Or a e = one_row g.NextOr (just t.Or) (item_symbols level.Or) a false refl (just_is _ _ _ e)
+no-item level.And a e = one_row g.NextAnd (just t.And) (item_symbols level.And) a false refl (just_is _ _ _ e)
+no-item level.Concatenation a e = one_row g.NextConcatenated (just t.Ampersand) (item_symbols level.Concatenation) a false refl (just_is _ _ _ e)
+no-item level.Power a e = one_row g.NextPower (just t.Power) (item_symbols level.Power) a false refl (just_is _ _ _ e)
 
 pub took-item : (lv : Level) (ws : List Token) (i j : ℕ) → (is (terminal_at ws i) (word lv) ≡ true) × (j ≡ i + 1) × (j < length ws) → Took ws i (just (word lv)) (word_kind lv) j
 took-item level.OrElse ws i j w = took_one ws i j (word_kind level.OrElse) refl w
@@ -102,13 +102,13 @@ no_end level.Power = refl
 
 -- Expressions.
 abbrev pub if_symbols : List Symbol
-if_symbols = Kept (just t.If) ∷ Of Once g.Expr ∷ Mark t.Then ∷ Of Once g.Simple ∷ Mark t.Else ∷ Of Once g.Expr ∷ []
+if_symbols = Kept (just t.If) ∷ Of Once g.Expression ∷ Mark t.Then ∷ Of Once g.SimpleExpression ∷ Mark t.Else ∷ Of Once g.Expression ∷ []
 
 abbrev pub simple_symbols : List Symbol
-simple_symbols = Of Once g.Simple ∷ []
+simple_symbols = Of Once g.SimpleExpression ∷ []
 
 pub expression : (a : Terminal) (v w : Bool) → is a t.If ≡ v → one_of begins_simple a ≡ w
-    → right_side g.Expr a ≡ (if v || false then Some if_symbols else (if w then Some simple_symbols else None))
+    → right_side g.Expression a ≡ (if v || false then Some if_symbols else (if w then Some simple_symbols else None))
 unfolding right_side
 expression a v w h e =
     ap (λ x. if x || false then Some if_symbols else (if one_of begins_simple a then Some simple_symbols else None)) h
@@ -121,30 +121,30 @@ leb_no a b h = go (leb_tells a b)
     go (inl w) = absurd (omega (arith, w.1, h))
     go (inr w) = w.0
 
-pub too_deep_if : (d : ℕ) → 200 ≤ d → is_too_deep limit g.Expr d if_symbols ≡ true
+pub too_deep_if : (d : ℕ) → 200 ≤ d → is_too_deep limit g.Expression d if_symbols ≡ true
 too_deep_if d h = ap (λ x. x && true) (le-leb 200 d h)
 
-pub too_deep_simple : (d : ℕ) → 200 ≤ d → is_too_deep limit g.Expr d simple_symbols ≡ true
+pub too_deep_simple : (d : ℕ) → 200 ≤ d → is_too_deep limit g.Expression d simple_symbols ≡ true
 too_deep_simple d h = ap (λ x. x && true) (le-leb 200 d h)
 
-pub shallow_if : (d : ℕ) → d < 200 → is_too_deep limit g.Expr d if_symbols ≡ false
+pub shallow_if : (d : ℕ) → d < 200 → is_too_deep limit g.Expression d if_symbols ≡ false
 shallow_if d h = ap (λ x. x && true) (leb_no 200 d h)
 
-pub shallow_simple : (d : ℕ) → d < 200 → is_too_deep limit g.Expr d simple_symbols ≡ false
+pub shallow_simple : (d : ℕ) → d < 200 → is_too_deep limit g.Expression d simple_symbols ≡ false
 shallow_simple d h = ap (λ x. x && true) (leb_no 200 d h)
 
 -- Primaries.
 abbrev pub name_symbols : List Symbol
-name_symbols = Kept (just t.Identifier) ∷ Of Maybe g.Args ∷ []
+name_symbols = Kept (just t.Identifier) ∷ Of Maybe g.Arguments ∷ []
 
 abbrev pub this_symbols : List Symbol
 this_symbols = Kept (just t.This) ∷ Kept (just t.Identifier) ∷ []
 
 abbrev pub new_symbols : List Symbol
-new_symbols = Kept (just t.New) ∷ Kept (just t.Identifier) ∷ Of Maybe g.Args ∷ []
+new_symbols = Kept (just t.New) ∷ Kept (just t.Identifier) ∷ Of Maybe g.Arguments ∷ []
 
 abbrev pub open_symbols : List Symbol
-open_symbols = Kept (just t.Open) ∷ Of Once g.Expr ∷ Mark t.Close ∷ []
+open_symbols = Kept (just t.Open) ∷ Of Once g.Expression ∷ Mark t.Close ∷ []
 
 pub primary_name : right_side g.Primary t.Identifier ≡ Some name_symbols
 unfolding right_side is
@@ -185,27 +185,27 @@ no_primary a l i h n o = primary a false false false false false l i h n o
 
 -- Actuals.
 abbrev pub args_symbols : List Symbol
-args_symbols = Mark t.Open ∷ Of Once g.Expr ∷ Of Many g.NextArg ∷ Mark t.Close ∷ []
+args_symbols = Mark t.Open ∷ Of Once g.Expression ∷ Of Many g.NextArgument ∷ Mark t.Close ∷ []
 
 abbrev pub more_symbols : List Symbol
-more_symbols = Mark t.Comma ∷ Of Once g.Expr ∷ []
+more_symbols = Mark t.Comma ∷ Of Once g.Expression ∷ []
 
 -- What is taken of an object.
 abbrev pub dot_symbols : List Symbol
-dot_symbols = Kept (just t.Dot) ∷ Kept (just t.Identifier) ∷ Of Maybe g.Args ∷ []
+dot_symbols = Kept (just t.Dot) ∷ Kept (just t.Identifier) ∷ Of Maybe g.Arguments ∷ []
 
 abbrev pub qua_symbols : List Symbol
 qua_symbols = Kept (just t.Qua) ∷ Kept (just t.Identifier) ∷ []
 
-pub selected_dot : right_side g.Selected t.Dot ≡ Some dot_symbols
+pub selected_dot : right_side g.Selection t.Dot ≡ Some dot_symbols
 unfolding right_side is
 selected_dot = refl
 
-pub selected_qua : right_side g.Selected t.Qua ≡ Some qua_symbols
+pub selected_qua : right_side g.Selection t.Qua ≡ Some qua_symbols
 unfolding right_side is
 selected_qua = refl
 
-pub no_selected : (a : Terminal) → is a t.Dot ≡ false → is a t.Qua ≡ false → right_side g.Selected a ≡ None
+pub no_selected : (a : Terminal) → is a t.Dot ≡ false → is a t.Qua ≡ false → right_side g.Selection a ≡ None
 unfolding right_side
 no_selected a h e =
     ap (λ x. if x || false then Some dot_symbols else (if is a t.Qua || false then Some qua_symbols else None)) h
@@ -213,7 +213,7 @@ no_selected a h e =
 
 -- Relations.
 abbrev pub related_symbols : List Symbol
-related_symbols = Kept g.relations ∷ Of Once g.Cat ∷ []
+related_symbols = Kept g.relations ∷ Of Once g.Concatenation ∷ []
 
 abbrev pub tests : List Terminal
 tests = t.Is ∷ t.In ∷ []
@@ -222,34 +222,34 @@ abbrev pub member_symbols : List Symbol
 member_symbols = Kept tests ∷ Kept (just t.Identifier) ∷ []
 
 pub related : (a : Terminal) (v w : Bool) → one_of g.relations a ≡ v → one_of tests a ≡ w
-    → right_side g.Related a ≡ (if v then Some related_symbols else (if w then Some member_symbols else None))
+    → right_side g.RelationTail a ≡ (if v then Some related_symbols else (if w then Some member_symbols else None))
 unfolding right_side
 related a v w h e =
     ap (λ x. if x then Some related_symbols else (if one_of tests a then Some member_symbols else None)) h
     ∙ ap (λ x. if v then Some related_symbols else (if x then Some member_symbols else None)) e
 
-is_at : right_side g.Related t.Is ≡ Some member_symbols
+is_at : right_side g.RelationTail t.Is ≡ Some member_symbols
 unfolding right_side is
 is_at = refl
 
-in_at : right_side g.Related t.In ≡ Some member_symbols
+in_at : right_side g.RelationTail t.In ≡ Some member_symbols
 unfolding right_side is
 in_at = refl
 
 -- the two kinds of operators of a relation differ
-pub test_alone : (a : Terminal) → one_of tests a ≡ true → right_side g.Related a ≡ Some member_symbols
+pub test_alone : (a : Terminal) → one_of tests a ≡ true → right_side g.RelationTail a ≡ Some member_symbols
 test_alone a h = go (is a t.Is) refl h
   where
     end : (v : Bool) → (v || false) ≡ true → v ≡ true
     end true x = refl
     end false x = x
 
-    go : (v : Bool) → is a t.Is ≡ v → (v || (is a t.In || false)) ≡ true → right_side g.Related a ≡ Some member_symbols
-    go true e x = by_test g.Related a t.Is member_symbols e is_at
-    go false e x = by_test g.Related a t.In member_symbols (end (is a t.In) x) in_at
+    go : (v : Bool) → is a t.Is ≡ v → (v || (is a t.In || false)) ≡ true → right_side g.RelationTail a ≡ Some member_symbols
+    go true e x = by_test g.RelationTail a t.Is member_symbols e is_at
+    go false e x = by_test g.RelationTail a t.In member_symbols (end (is a t.In) x) in_at
 
 -- Inside an expression one level deeper.
-pub open-if : (ws : List Token) (d i : ℕ) → i < length ws → is (terminal_at ws i) t.If ≡ true → d < 200 → Within ws d g.Expr i (λ f. f) (d + 1) if_symbols i
+pub open-if : (ws : List Token) (d i : ℕ) → i < length ws → is (terminal_at ws i) t.If ≡ true → d < 200 → Within ws d g.Expression i (λ f. f) (d + 1) if_symbols i
 open-if ws d i within h lt = record {
   right = if_symbols;
   begins = expression (terminal_at ws i) true (one_of begins_simple (terminal_at ws i)) h refl;
@@ -261,7 +261,7 @@ open-if ws d i within h lt = record {
 }
 
 pub open-simple : (ws : List Token) (d i : ℕ) → i < length ws → is (terminal_at ws i) t.If ≡ false → one_of begins_simple (terminal_at ws i) ≡ true → d < 200
-    → Within ws d g.Expr i (λ f. f) (d + 1) simple_symbols i
+    → Within ws d g.Expression i (λ f. f) (d + 1) simple_symbols i
 open-simple ws d i within h b lt = record {
   right = simple_symbols;
   begins = expression (terminal_at ws i) false true h b;
@@ -273,14 +273,14 @@ open-simple ws d i within h b lt = record {
 }
 
 -- What begins an expression, and what does not.
-pub no_expression : (ws : List Token) (d i : ℕ) → is (terminal_at ws i) t.If ≡ false → one_of begins_simple (terminal_at ws i) ≡ false → Fails limit ws d (one g.Expr) i (Unexpected i)
+pub no_expression : (ws : List Token) (d i : ℕ) → is (terminal_at ws i) t.If ≡ false → one_of begins_simple (terminal_at ws i) ≡ false → Fails limit ws d (one g.Expression) i (Unexpected i)
 no_expression ws d i h b = fails-part (expression (terminal_at ws i) false false h b) refl
 
-pub deep-expression : (ws : List Token) (d i : ℕ) → (is (terminal_at ws i) t.If ≡ true) ⊎ (one_of begins_simple (terminal_at ws i) ≡ true) → 200 ≤ d → Fails limit ws d (one g.Expr) i (TooDeep i)
+pub deep-expression : (ws : List Token) (d i : ℕ) → (is (terminal_at ws i) t.If ≡ true) ⊎ (one_of begins_simple (terminal_at ws i) ≡ true) → 200 ≤ d → Fails limit ws d (one g.Expression) i (TooDeep i)
 deep-expression ws d i (inl h) le = fails-deep (expression (terminal_at ws i) true (one_of begins_simple (terminal_at ws i)) h refl) (too_deep_if d le)
 deep-expression ws d i (inr b) le = go (is (terminal_at ws i) t.If) refl
   where
-    go : (v : Bool) → is (terminal_at ws i) t.If ≡ v → Fails limit ws d (one g.Expr) i (TooDeep i)
+    go : (v : Bool) → is (terminal_at ws i) t.If ≡ v → Fails limit ws d (one g.Expression) i (TooDeep i)
     go true h = fails-deep (expression (terminal_at ws i) true (one_of begins_simple (terminal_at ws i)) h refl) (too_deep_if d le)
     go false h = fails-deep (expression (terminal_at ws i) false true h b) (too_deep_simple d le)
 

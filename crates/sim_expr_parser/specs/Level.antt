@@ -44,11 +44,11 @@ word_kind level.Power = k.Power
 
 -- an operator with the operand behind it
 abbrev pub many : Level → Part
-many level.OrElse = g.OrElsed
-many level.AndThen = g.AndThened
-many level.Eqv = g.Eqved
-many level.Imp = g.Imped
-many level.Or = g.Ored
-many level.And = g.Anded
-many level.Concatenation = g.Catted
-many level.Power = g.Powered
+many level.OrElse = g.NextOrElse
+many level.AndThen = g.NextAndThen
+many level.Eqv = g.NextEquivalence
+many level.Imp = g.NextImplication
+many level.Or = g.NextOr
+many level.And = g.NextAnd
+many level.Concatenation = g.NextConcatenated
+many level.Power = g.NextPower

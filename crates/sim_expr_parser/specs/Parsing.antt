@@ -54,12 +54,12 @@ pub record ReadsTo (ws : List Token) (d : ℕ) (first : Symbol) (i : ℕ) (stand
 -- the actuals between their parentheses
 abbrev pub listed : List Shown → Forest → Forest
 listed [] rest = rest
-listed (x ∷ xs) rest = node g.Expr (whole x) (row g.NextArg (map argument xs) rest)
+listed (x ∷ xs) rest = node g.Expression (whole x) (row g.NextArgument (map argument xs) rest)
 
 -- the same of a list of actuals
 pub record ReadsList (ws : List Token) (d : ℕ) (i : ℕ) (l : List Shown) (j : ℕ) : Type 0 where
-  pub reads : (s : List Symbol) (f : Forest) (m : ℕ) → Reads limit ws d s j f m → Reads limit ws d (Of Once g.Expr ∷ Of Many g.NextArg ∷ s) i (listed l f) m
-  pub fails : (s : List Symbol) (e : Fault) → Fails limit ws d s j e → Fails limit ws d (Of Once g.Expr ∷ Of Many g.NextArg ∷ s) i e
+  pub reads : (s : List Symbol) (f : Forest) (m : ℕ) → Reads limit ws d s j f m → Reads limit ws d (Of Once g.Expression ∷ Of Many g.NextArgument ∷ s) i (listed l f) m
+  pub fails : (s : List Symbol) (e : Fault) → Fails limit ws d s j e → Fails limit ws d (Of Once g.Expression ∷ Of Many g.NextArgument ∷ s) i e
   pub ahead : i ≤ j
   pub within : j < length ws
 
@@ -86,7 +86,7 @@ GivesNext ws d n i view (Err e) = (s : List Symbol) → Stops ws d (Of Many n �
 -- at least one expression, and further ones with commas in front
 abbrev pub GivesList : List Token → ℕ → ℕ → Result (Vec Expr Global × ℕ) Stop → Type 0
 GivesList ws d i (Ok r) = (0 < length r.0.items) × ReadsList ws d i (map shown r.0.items) r.1
-GivesList ws d i (Err e) = (s : List Symbol) → Stops ws d (Of Once g.Expr ∷ Of Many g.NextArg ∷ s) i e
+GivesList ws d i (Err e) = (s : List Symbol) → Stops ws d (Of Once g.Expression ∷ Of Many g.NextArgument ∷ s) i e
 
 -- a constant, where one stands there
 abbrev pub GivesConstant : List Token → ℕ → Result (Option (Expr × ℕ)) Stop → Type 0
@@ -102,7 +102,7 @@ GivesSign ws i (Some s) j = Took ws i signs (sign_kind s.sign) j × (s.token.0 �
 -- What parse_expr answers: the expression that the grammar gives, or the first bad token, or the first that nests too deeply, before which none is bad.
 abbrev pub Answers : List Token → ℕ → ℕ → Result (Expr × ℕ) SyntaxRefusal → Type 0
 Answers ws d i (Ok r) = IsExpr ws d i r.0 r.1
-Answers ws d i (Err (refusal.Broken rule.Y1 k)) = IsFirstBad ws (one g.Expr) i k.0
-Answers ws d i (Err (refusal.Broken rule.Y2 k)) = Fails limit ws d (one g.Expr) i (TooDeep k.0) × Begins ws (one g.Expr) i k.0
+Answers ws d i (Err (refusal.Broken rule.UnexpectedToken k)) = IsFirstBad ws (one g.Expression) i k.0
+Answers ws d i (Err (refusal.Broken rule.NestedTooDeeply k)) = Fails limit ws d (one g.Expression) i (TooDeep k.0) × Begins ws (one g.Expression) i k.0
 Answers ws d i (Err (refusal.Broken _ k)) = ⊥
 Answers ws d i (Err refusal.Memory) = Unit {0}

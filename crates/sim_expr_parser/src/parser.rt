@@ -57,11 +57,11 @@ pub fn parse_expr(
     match expression(alloc, tokens, at, depth) {
         Ok(read) => Ok(read),
         Err(Stop::Unexpected(bad)) => Err(SyntaxRefusal::Broken {
-            rule: Rule::Y1,
+            rule: Rule::UnexpectedToken,
             token: token_no(tokens, bad),
         }),
         Err(Stop::TooDeep(deep)) => Err(SyntaxRefusal::Broken {
-            rule: Rule::Y2,
+            rule: Rule::NestedTooDeeply,
             token: token_no(tokens, deep),
         }),
         Err(Stop::Memory) => Err(SyntaxRefusal::Memory),
@@ -188,7 +188,7 @@ fn operand(
 fn not_marks(alloc: Global, tokens: &[Token], start: usize) -> Result<(Vec<TokenNo>, usize), Stop>
     requires source { IsSource tokens.now }
     requires within { start < length tokens.now }
-    ensures { (d : ℕ) → GivesRow tokens.now d g.NotMark start (λ v. map not_mark v.items) result }
+    ensures { (d : ℕ) → GivesRow tokens.now d g.NotSign start (λ v. map not_mark v.items) result }
 {
     let mut at = start;
     let mut marks = Vec::new(alloc);
@@ -288,7 +288,7 @@ fn terms(
     requires source { IsSource tokens.now }
     requires within { start < length tokens.now }
     requires shallow { depth ≤ LIMIT }
-    ensures { GivesRow tokens.now depth g.Added start (λ v. map term_shown v.items) result }
+    ensures { GivesRow tokens.now depth g.NextTerm start (λ v. map term_shown v.items) result }
 {
     let mut at = start;
     let mut rest = Vec::new(alloc);
@@ -328,7 +328,7 @@ fn factors(
     requires source { IsSource tokens.now }
     requires within { start < length tokens.now }
     requires shallow { depth ≤ LIMIT }
-    ensures { GivesRow tokens.now depth g.Multiplied start (λ v. map factor_shown v.items) result }
+    ensures { GivesRow tokens.now depth g.NextFactor start (λ v. map factor_shown v.items) result }
 {
     let mut at = start;
     let mut rest = Vec::new(alloc);
@@ -378,7 +378,7 @@ pub fn selectors(
     requires source { IsSource tokens.now }
     requires within { start < length tokens.now }
     requires shallow { depth ≤ LIMIT }
-    ensures { GivesRow tokens.now depth g.Selected start (λ v. map selector_shown v.items) result }
+    ensures { GivesRow tokens.now depth g.Selection start (λ v. map selector_shown v.items) result }
 {
     let mut at = start;
     let mut rest = Vec::new(alloc);
@@ -399,7 +399,7 @@ fn selector(
     requires source { IsSource tokens.now }
     requires within { at < length tokens.now }
     requires shallow { depth ≤ LIMIT }
-    ensures { GivesNext tokens.now depth g.Selected at selector_shown result }
+    ensures { GivesNext tokens.now depth g.Selection at selector_shown result }
 {
     let token = token_no(tokens, at);
     if let Some(next) = eat(tokens, at, Terminal::Dot) {
@@ -471,7 +471,7 @@ pub fn arguments(
     requires source { IsSource tokens.now }
     requires within { at < length tokens.now }
     requires shallow { depth ≤ LIMIT }
-    ensures { GivesTo tokens.now depth (Of Maybe g.Args) at (λ v. arguments_shown (map shown v.items)) result }
+    ensures { GivesTo tokens.now depth (Of Maybe g.Arguments) at (λ v. arguments_shown (map shown v.items)) result }
 {
     let Some(next) = eat(tokens, at, Terminal::Open) else {
         return Ok((Vec::new(alloc), at));

@@ -78,13 +78,13 @@ fn reads_expressions(rt: HostRuntime) -> Result<(), Fail> {
         (b"(a))$", 0, None, 3),
         (b"!!a=b=c$", 0, None, 5),
         (b"(a)$", 198, None, 3),
-        (b"$", 0, Some(Rule::Y1), 0),
-        (b"(a$", 0, Some(Rule::Y1), 2),
-        (b"a=!$", 0, Some(Rule::Y1), 2),
-        (b"iatb$", 0, Some(Rule::Y1), 4),
-        (b"a(1,)$", 0, Some(Rule::Y1), 4),
-        (b"(a)$", 199, Some(Rule::Y2), 1),
-        (b"a$", 200, Some(Rule::Y2), 0),
+        (b"$", 0, Some(Rule::UnexpectedToken), 0),
+        (b"(a$", 0, Some(Rule::UnexpectedToken), 2),
+        (b"a=!$", 0, Some(Rule::UnexpectedToken), 2),
+        (b"iatb$", 0, Some(Rule::UnexpectedToken), 4),
+        (b"a(1,)$", 0, Some(Rule::UnexpectedToken), 4),
+        (b"(a)$", 199, Some(Rule::NestedTooDeeply), 1),
+        (b"a$", 200, Some(Rule::NestedTooDeeply), 0),
     ];
     for (letters, depth, rule, index) in table {
         let tokens = tokens(alloc, letters)?;

@@ -28,8 +28,8 @@ none_longer all most size (row ∷ rows) same short = ((λ stands. omega (arith,
 -- the item in front by whether the first row stands there
 longest_by : (all : List ℕ) (row : Row) (rows : List Row) (kind : TokenKind) (size : ℕ) (stands : Bool) → starts_with nat_eq all row.0 ≡ stands
     → IsFalling (row ∷ rows)
-    → (sign_in rows all (Fault x.X1) ≡ Lexeme kind size → AllByRecursion (IsNoLonger all size) rows)
-    → cond stands (Lexeme row.1 (length row.0)) (sign_in rows all (Fault x.X1)) ≡ Lexeme kind size
+    → (sign_in rows all (Fault x.ByteBeginsNoToken) ≡ Lexeme kind size → AllByRecursion (IsNoLonger all size) rows)
+    → cond stands (Lexeme row.1 (length row.0)) (sign_in rows all (Fault x.ByteBeginsNoToken)) ≡ Lexeme kind size
     → AllByRecursion (IsNoLonger all size) (row ∷ rows)
 longest_by all row rows kind size true is falling others front =
     let same : length row.0 ≡ size = cc in
@@ -37,7 +37,7 @@ longest_by all row rows kind size true is falling others front =
 longest_by all row rows kind size false is falling others front =
     ((λ stands. absurd (false≢true (sym is ∙ stands))), others front)
 
-pub longest : (all : List ℕ) (rows : List Row) (kind : TokenKind) (size : ℕ) → IsFalling rows → sign_in rows all (Fault x.X1) ≡ Lexeme kind size
+pub longest : (all : List ℕ) (rows : List Row) (kind : TokenKind) (size : ℕ) → IsFalling rows → sign_in rows all (Fault x.ByteBeginsNoToken) ≡ Lexeme kind size
     → AllByRecursion (IsNoLonger all size) rows
 longest all [] kind size falling front = tt
 longest all (row ∷ rows) kind size falling front =
@@ -48,7 +48,7 @@ signs-falling : IsFalling signs
 signs-falling = search rules
 
 behind_dot : (all : List ℕ) (kind : TokenKind) (size : ℕ) (is_real : Bool)
-    → cond is_real (Fault x.X4) (sign_in signs all (Fault x.X1)) ≡ Lexeme kind size → AllByRecursion (IsNoLonger all size) signs
+    → cond is_real (Fault x.RealConstant) (sign_in signs all (Fault x.ByteBeginsNoToken)) ≡ Lexeme kind size → AllByRecursion (IsNoLonger all size) signs
 behind_dot all kind size true front = cc
 behind_dot all kind size false front = longest all signs kind size signs-falling front
 

@@ -30,9 +30,9 @@ is_real_behind behind =
 -- an integer constant of that many bytes, with what stands behind it
 unfoldable pub integer : (base : ℕ) (digits : List ℕ) (size : ℕ) (behind : List ℕ) → Item
 integer base digits size behind =
-    if is_real_behind behind then Fault x.X4
+    if is_real_behind behind then Fault x.RealConstant
     else if nat_lt (number_value base digits) (2 ^ 63) then Lexeme (k.Integer (pos (number_value base digits))) size
-    else Fault x.X5
+    else Fault x.IntegerTooLarge
 
 -- the base that stands before an `R`
 abbrev pub radix : List ℕ → Option ℕ
@@ -85,7 +85,7 @@ code_form (mark ∷ rest) =
 abbrev pub plain_character : List ℕ → Item
 plain_character all =
     if nat_le 32 (slice_index all 1) && nat_eq (slice_index all 2) 39 then Lexeme (k.Character (slice_index all 1)) 3
-    else Fault x.X3
+    else Fault x.BadCharacterConstant
 
 abbrev pub coded_character : Option CodeForm → List ℕ → Item
 coded_character None all = plain_character all

@@ -19,11 +19,11 @@ ends_or_blank [] = true
 ends_or_blank (second ∷ rest) = is_separator second
 
 unfoldable pub directive_item : List ℕ → Item
-directive_item all = if ends_or_blank (drop 1 all) then Passed (prefix_len is_in_line all) else Fault x.X7
+directive_item all = if ends_or_blank (drop 1 all) then Passed (prefix_len is_in_line all) else Fault x.Directive
 
 -- a comment, which runs to the next `;`
 abbrev pub comment_to : Option ℕ → Item
-comment_to None = Fault x.X6
+comment_to None = Fault x.CommentNotClosed
 comment_to (Some place) = Passed (place + 1)
 
 unfoldable pub comment_item : List ℕ → Item
@@ -41,7 +41,7 @@ word_kind word = unwrap_or (keyword word) (k.Identifier word)
 abbrev pub item_of_word : List ℕ → List ℕ → Item
 item_of_word word all =
     if bytes_eq word (codes "comment") then comment_item all
-    else if is_left_out word then Fault x.X9
+    else if is_left_out word then Fault x.WordLeftOut
     else Lexeme (word_kind word) (prefix_len is_word_byte all)
 
 unfoldable pub word_item : List ℕ → Item

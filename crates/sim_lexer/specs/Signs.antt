@@ -55,5 +55,5 @@ sign_in (row ∷ rows) all other = if starts_with nat_eq all row.0 then Lexeme r
 -- the longest sign in front; a `.` with a digit behind it is a real constant
 unfoldable pub sign_item : List ℕ → Item
 sign_item all =
-    if nat_eq (slice_index all 0) 46 && is_digit (slice_index all 1) then Fault x.X4
-    else sign_in signs_of_more all (sign_in signs_of_one all (Fault x.X1))
+    if nat_eq (slice_index all 0) 46 && is_digit (slice_index all 1) then Fault x.RealConstant
+    else sign_in signs_of_more all (sign_in signs_of_one all (Fault x.ByteBeginsNoToken))

@@ -2,7 +2,7 @@
 use Rattle.std.specs.Prelude.{ℕ, ◌≡◌, ◌+◌, ◌<◌, ◌≤◌, List, [], ◌∷◌, ◌++◌, Option, Some, None, Bool, true, false, length, nat_eq, if◌then◌else◌}
 use Rattle.std.specs.List.{fold}
 use Rattle.sim_base.specs.declared.rule.Rule.{Rule}
-use Rattle.sim_base.specs.declared.rule.Rule.TheVariants.{X8}
+use Rattle.sim_base.specs.declared.rule.Rule.TheVariants.{SourceTooLong}
 use Rattle.sim_base.specs.declared.token.Token.{Token}
 use Rattle.sim_base.specs.declared.token.TokenKind.{TokenKind}
 use Rattle.sim_base.specs.declared.token.TokenKind.TheVariants as k
@@ -114,5 +114,5 @@ with_joined (Broken rule place) = Broken rule place
 
 -- what a source reads as
 pub data Reads (source : List ℕ) : Lexed → Type 0 where
-  too_long : 1048576 < length source → Reads source (Broken X8 1048576)
+  too_long : 1048576 < length source → Reads source (Broken SourceTooLong 1048576)
   reads : {answer : Lexed} → length source ≤ 1048576 → Spells start source answer → Reads source (with_joined answer)

@@ -51,7 +51,7 @@ text_from zero (byte ∷ rest) =
 
 -- a text constant, whose opening quote stands in front
 abbrev pub quoted : Option Content → Item
-quoted None = Fault x.X2
+quoted None = Fault x.TextConstantNotClosed
 quoted (Some content) = Lexeme (k.Text content.bytes) (1 + content.size)
 
 unfoldable pub text_item : List ℕ → Item

@@ -92,11 +92,11 @@ fn integer(base: u8, digits: &[u8], size: usize, behind: &[u8]) -> Item
     ensures within { EndsWithin result size }
 {
     if is_real_behind(behind) {
-        return Item::Fault(Rule::X4);
+        return Item::Fault(Rule::RealConstant);
     }
     match number_value(base, digits) {
         Some(number) => Item::Lexeme(TokenKind::Integer(number as i64), size),
-        None => Item::Fault(Rule::X5),
+        None => Item::Fault(Rule::IntegerTooLarge),
     }
 }
 
@@ -202,6 +202,6 @@ fn plain_character(rest: &[u8]) -> Item
     if byte >= b' ' && byte_at(rest, 2) == b'\'' {
         Item::Lexeme(TokenKind::Character(byte), 3)
     } else {
-        Item::Fault(Rule::X3)
+        Item::Fault(Rule::BadCharacterConstant)
     }
 }

@@ -61,7 +61,7 @@ fn directive_item(rest: &[u8]) -> Item
     ensures within { IsWithin result rest.now }
 {
     match rest.split_at(1).1 {
-        [second, ..] if !is_separator(*second) => Item::Fault(Rule::X7),
+        [second, ..] if !is_separator(*second) => Item::Fault(Rule::Directive),
         _ => Item::Passed(line_len(rest)),
     }
 }
@@ -74,7 +74,7 @@ fn comment_item(rest: &[u8]) -> Item
 {
     match semicolon(rest) {
         Some(place) => Item::Passed(place + 1),
-        None => Item::Fault(Rule::X6),
+        None => Item::Fault(Rule::CommentNotClosed),
     }
 }
 
@@ -139,7 +139,7 @@ fn item_of_word(word: Vec<u8>, rest: &[u8]) -> Item
     if word.as_slice() == b"comment".as_slice() {
         comment_item(rest)
     } else if is_left_out(&word) {
-        Item::Fault(Rule::X9)
+        Item::Fault(Rule::WordLeftOut)
     } else {
         Item::Lexeme(word_kind(word), word_len(rest))
     }

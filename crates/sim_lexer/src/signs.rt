@@ -16,14 +16,14 @@ pub(crate) fn sign_item(rest: &[u8]) -> Item
     ensures within { IsWithin result rest.now }
 {
     if byte_at(rest, 0) == b'.' && is_digit(byte_at(rest, 1)) {
-        return Item::Fault(Rule::X4);
+        return Item::Fault(Rule::RealConstant);
     }
     long_sign(rest)
 }
 
 // A sign of two bytes or more, else one of one byte.
 fn long_sign(rest: &[u8]) -> Item
-    ensures item { result ≡ sign_in signs_of_more rest.now (sign_in signs_of_one rest.now (Item.Fault Rule.X1)) }
+    ensures item { result ≡ sign_in signs_of_more rest.now (sign_in signs_of_one rest.now (Item.Fault Rule.ByteBeginsNoToken)) }
     ensures within { IsWithin result rest.now }
 {
     if rest.starts_with(b"=/=") {
@@ -51,7 +51,7 @@ fn long_sign(rest: &[u8]) -> Item
 
 // A sign of one byte.
 fn short_sign(rest: &[u8]) -> Item
-    ensures item { result ≡ sign_in signs_of_one rest.now (Item.Fault Rule.X1) }
+    ensures item { result ≡ sign_in signs_of_one rest.now (Item.Fault Rule.ByteBeginsNoToken) }
     ensures within { IsWithin result rest.now }
 {
     if rest.starts_with(b"(") {
@@ -81,6 +81,6 @@ fn short_sign(rest: &[u8]) -> Item
     } else if rest.starts_with(b">") {
         Item::Lexeme(TokenKind::Greater, 1)
     } else {
-        Item::Fault(Rule::X1)
+        Item::Fault(Rule::ByteBeginsNoToken)
     }
 }

@@ -30,7 +30,7 @@ pub fn lex(alloc: Global, source: &[u8]) -> Result<Vec<Token>, LexRefusal>
 {
     if source.len() > SOURCE_LIMIT {
         return Err(LexRefusal::Broken {
-            rule: Rule::X8,
+            rule: Rule::SourceTooLong,
             place: SOURCE_LIMIT as u32,
         });
     }

@@ -39,7 +39,7 @@ fn show(alloc: Global, source: &[u8]) -> Result<String, AllocError> {
                 show_kind(&token.kind, &mut out)?;
             }
         }
-        Err(LexRefusal::Broken { rule, place }) => write!(out, " {rule:?} at {place}")?,
+        Err(LexRefusal::Broken { rule, place }) => write!(out, " {} at {place}", rule.code())?,
         Err(LexRefusal::Memory) => out.push_str(" memory")?,
     }
     Ok(out)

@@ -44,7 +44,7 @@ pub(crate) fn text_item(alloc: Global, rest: &[u8]) -> Result<Item, AllocError>
                 let kind = TokenKind::Text(ByteString::new(bytes));
                 return Ok(Item::Lexeme(kind, read + 2));
             }
-            TextPiece::Bad => return Ok(Item::Fault(Rule::X2)),
+            TextPiece::Bad => return Ok(Item::Fault(Rule::TextConstantNotClosed)),
         }
     }
 }

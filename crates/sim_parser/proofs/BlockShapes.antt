@@ -24,10 +24,10 @@ use Rattle.sim_parser.specs.declared.statement.Branch.TheVariants as branch
 use Rattle.sim_parser.specs.Parsing.{branch_shown, declared, statement_list}
 
 pub inspect_shown : (n : TokenNo) (e : Expr) (x : Stmt) (a : Box Stmt Global) (o : Option (Box Stmt Global)) → a.value ≡ x
-    → leaf n.0 k.Inspect (expr e (node g.Arms (node g.Stmt (stmt_shown x) done) (branch_shown branch.Otherwise o))) ≡ stmt_shown (s.Inspect n e a o)
-inspect_shown n e x a None h = ap (λ z. leaf n.0 k.Inspect (expr e (node g.Arms (node g.Stmt (stmt_shown z) done) done))) (sym h) ∙ sym (shown-Inspect n e a)
+    → leaf n.0 k.Inspect (expr e (node g.Arms (node g.Statement (stmt_shown x) done) (branch_shown branch.Otherwise o))) ≡ stmt_shown (s.Inspect n e a o)
+inspect_shown n e x a None h = ap (λ z. leaf n.0 k.Inspect (expr e (node g.Arms (node g.Statement (stmt_shown z) done) done))) (sym h) ∙ sym (shown-Inspect n e a)
 inspect_shown n e x a (Some o) h =
-    ap (λ z. leaf n.0 k.Inspect (expr e (node g.Arms (node g.Stmt (stmt_shown z) done) (node g.OtherwiseBranch (node g.Stmt (stmt_shown o.value) done) done)))) (sym h)
+    ap (λ z. leaf n.0 k.Inspect (expr e (node g.Arms (node g.Statement (stmt_shown z) done) (node g.OtherwiseBranch (node g.Statement (stmt_shown o.value) done) done)))) (sym h)
     ∙ sym (shown-Inspect-two n e a o)
 
 pub inspect_when_shown : (n : TokenNo) (e : Expr) (v : Vec When Global) (o : Option (Box Stmt Global))
@@ -39,32 +39,32 @@ inspect_when_shown n e v (Some o) = sym (shown-InspectWhen-two n e v o)
 pub declared-append : (ds : List Declared) (x : Declared) (f : Forest) → declared (ds ++ x ∷ []) f ≡ declared ds (declared (x ∷ []) f)
 declared-append [] (Plain p) f = refl
 declared-append [] (Prefixed y i p) f = refl
-declared-append (Plain p ∷ ds) x f = ap (λ z. node g.Decl p (node g.Closing done (node g.Block z done))) (declared-append ds x f)
+declared-append (Plain p ∷ ds) x f = ap (λ z. node g.Declaration p (node g.AfterDeclaration done (node g.Block z done))) (declared-append ds x f)
 declared-append (Prefixed y i p ∷ ds) x f =
-    ap (λ z. leaf y.token.0 (k.Identifier y.name) (node g.AfterId (leaf i k.Class (node g.Cls p (node g.Closing done (node g.Block z done)))) done)) (declared-append ds x f)
+    ap (λ z. leaf y.token.0 (k.Identifier y.name) (node g.AfterIdentifier (leaf i k.Class (node g.Class p (node g.AfterDeclaration done (node g.Block z done)))) done)) (declared-append ds x f)
 
 pub contents_declared : (ds : List Declared) (fs : List Forest) (end : ℕ) → declared ds (statements fs end) ≡ contents ds fs end
 contents_declared [] fs end = refl
-contents_declared (Plain p ∷ ds) fs end = ap (λ z. node g.Decl p (node g.Closing done (node g.Block z done))) (contents_declared ds fs end)
+contents_declared (Plain p ∷ ds) fs end = ap (λ z. node g.Declaration p (node g.AfterDeclaration done (node g.Block z done))) (contents_declared ds fs end)
 contents_declared (Prefixed y i p ∷ ds) fs end =
-    ap (λ z. leaf y.token.0 (k.Identifier y.name) (node g.AfterId (leaf i k.Class (node g.Cls p (node g.Closing done (node g.Block z done)))) done)) (contents_declared ds fs end)
+    ap (λ z. leaf y.token.0 (k.Identifier y.name) (node g.AfterIdentifier (leaf i k.Class (node g.Class p (node g.AfterDeclaration done (node g.Block z done)))) done)) (contents_declared ds fs end)
 
 -- one more statement
 pub statements-more : (xs ys : List Stmt) (y : Stmt) (f : Forest) → 0 < length xs → ys ≡ xs ++ y ∷ []
-    → statement_list (map stmt_shown xs) (node g.NextStmt (next_statement (stmt_shown y)) f) ≡ statement_list (map stmt_shown ys) f
+    → statement_list (map stmt_shown xs) (node g.NextStatement (next_statement (stmt_shown y)) f) ≡ statement_list (map stmt_shown ys) f
 statements-more [] ys y f some e = absurd (omega (arith, some))
 statements-more (x ∷ xs) ys y f some e =
-    sym (ap (λ l. statement_list (map stmt_shown l) f) e ∙ ap (λ l. node g.Stmt (stmt_shown x) (row g.NextStmt (map next_statement l) f)) (map-append stmt_shown xs y)
-    ∙ ap (λ l. node g.Stmt (stmt_shown x) (row g.NextStmt l f)) (map-append next_statement (map stmt_shown xs) (stmt_shown y))
-    ∙ ap (node g.Stmt (stmt_shown x)) (row-append g.NextStmt (map next_statement (map stmt_shown xs)) (next_statement (stmt_shown y)) f))
+    sym (ap (λ l. statement_list (map stmt_shown l) f) e ∙ ap (λ l. node g.Statement (stmt_shown x) (row g.NextStatement (map next_statement l) f)) (map-append stmt_shown xs y)
+    ∙ ap (λ l. node g.Statement (stmt_shown x) (row g.NextStatement l f)) (map-append next_statement (map stmt_shown xs) (stmt_shown y))
+    ∙ ap (node g.Statement (stmt_shown x)) (row-append g.NextStatement (map next_statement (map stmt_shown xs)) (next_statement (stmt_shown y)) f))
 
 -- the first statement of a block, where an identifier begins it and where none does
-pub begun_named : (x : ℕ) (kind : TokenKind) (f h : Forest) → is (terminal_of kind) t.Identifier ≡ true → begun (leaf x kind f) h ≡ leaf x kind (node g.AfterId (node g.IdStmt f h) done)
+pub begun_named : (x : ℕ) (kind : TokenKind) (f h : Forest) → is (terminal_of kind) t.Identifier ≡ true → begun (leaf x kind f) h ≡ leaf x kind (node g.AfterIdentifier (node g.StatementOfIdentifier f h) done)
 unfolding is
 begun_named x (k.Identifier name) f h e = refl
 begun_named x _ f h e = absurd (false≢true e)
 
-pub begun_other : (x : ℕ) (kind : TokenKind) (f h : Forest) → is (terminal_of kind) t.Identifier ≡ false → begun (leaf x kind f) h ≡ node g.Stmt (leaf x kind f) h
+pub begun_other : (x : ℕ) (kind : TokenKind) (f h : Forest) → is (terminal_of kind) t.Identifier ≡ false → begun (leaf x kind f) h ≡ node g.Statement (leaf x kind f) h
 unfolding is
 begun_other x (k.Identifier name) f h e = absurd (false≢true (sym e))
 begun_other x _ f h e = refl

@@ -92,12 +92,12 @@ many_of_one ws d i n right e (stop.TooDeep m) h s = one_fails e h
 many_of_one ws d i n right e stop.Memory h s = tt
 
 -- where the type of a declaration stops
-pub type_stops : (ws : List Token) (d i : ℕ) (x : Stop) → is (terminal_at ws i) t.Procedure ≡ false → is (terminal_at ws i) t.Class ≡ false → i < length ws → Stops ws d (one g.TypeName) i x → Stops ws d (one g.Decl) i x
+pub type_stops : (ws : List Token) (d i : ℕ) (x : Stop) → is (terminal_at ws i) t.Procedure ≡ false → is (terminal_at ws i) t.Class ≡ false → i < length ws → Stops ws d (one g.TypeName) i x → Stops ws d (one g.Declaration) i x
 type_stops ws d i x p c within h = go (one_of types (terminal_at ws i)) refl
   where
-    go : (v : Bool) → one_of types (terminal_at ws i) ≡ v → Stops ws d (one g.Decl) i x
-    go true e = stops (opened ws d i g.Decl typed_row refl (decl_typed (terminal_at ws i) e) within) x (once-stops ws d i g.TypeName x h)
-    go false e = neither ws d i g.TypeName g.Decl (no_type (terminal_at ws i) e) (no_decl (terminal_at ws i) e p c) x h
+    go : (v : Bool) → one_of types (terminal_at ws i) ≡ v → Stops ws d (one g.Declaration) i x
+    go true e = stops (opened ws d i g.Declaration typed_row refl (decl_typed (terminal_at ws i) e) within) x (once-stops ws d i g.TypeName x h)
+    go false e = neither ws d i g.TypeName g.Declaration (no_type (terminal_at ws i) e) (no_decl (terminal_at ws i) e p c) x h
 
 -- one token that is kept is one token
 pub kept_one : {ws : List Token} {d i j : ℕ} {any : List Terminal} {f : Forest} → Reads limit ws d (Kept any ∷ []) i f j → j ≡ i + 1
@@ -106,7 +106,7 @@ kept_one (reads-kept h reads-done) = refl
 -- the parts that begin with a token that is kept
 abbrev taker : Part → Bool
 taker g.TypeName = true
-taker g.Decl = true
+taker g.Declaration = true
 taker g.WhenArm = true
 taker _ = false
 
@@ -116,7 +116,7 @@ takes (Of Once n ∷ s) = taker n
 takes _ = false
 
 rows_take : (n : Part) → (not (taker n) || each_row (rows n) takes) ≡ true
-rows_take g.Decl = refl
+rows_take g.Declaration = refl
 rows_take _ = refl
 
 inside_takes : (n : Part) (ws : List Token) (i : ℕ) (right : List Symbol) → taker n ≡ true → right_side n (terminal_at ws i) ≡ Some right → takes right ≡ true
@@ -141,19 +141,19 @@ pub part_ahead : (ws : List Token) (d i j : ℕ) (n : Part) (f : Forest) → tak
 part_ahead ws d i j n f h p = forward (inside_takes n ws i p.right h p.begins) p.inside
 
 -- past what ends a declaration
-pub to_closed : {ws : List Token} {d i j e m : ℕ} {n : Part} {F : Forest → Forest} {s : List Symbol} → Within ws d n i F e (Of Once g.Closing ∷ Any t.Semicolon ∷ s) j → Closes ws e j (Ok m)
-    → Within ws d n i (λ f. F (node g.Closing done f)) e s m
+pub to_closed : {ws : List Token} {d i j e m : ℕ} {n : Part} {F : Forest → Forest} {s : List Symbol} → Within ws d n i F e (Of Once g.AfterDeclaration ∷ Any t.Semicolon ∷ s) j → Closes ws e j (Ok m)
+    → Within ws d n i (λ f. F (node g.AfterDeclaration done f)) e s m
 to_closed {ws} {d} {i} {j} {e} {m} {n} {F} {s} w c = record {
   right = w.right;
   begins = w.begins;
   shallow = w.shallow;
   depth = w.depth;
-  leads = record { reads = λ f k q. w.leads.reads (node g.Closing done f) k (c.2 s f k q); fails = λ x q. w.leads.fails x (there x q) };
+  leads = record { reads = λ f k q. w.leads.reads (node g.AfterDeclaration done f) k (c.2 s f k q); fails = λ x q. w.leads.fails x (there x q) };
   ahead = omega (arith, w.ahead, c.0);
   within = c.1;
 }
   where
-    there : (x : Fault) → Fails limit ws e s m x → Fails limit ws e (Of Once g.Closing ∷ Any t.Semicolon ∷ s) j x
+    there : (x : Fault) → Fails limit ws e s m x → Fails limit ws e (Of Once g.AfterDeclaration ∷ Any t.Semicolon ∷ s) j x
     there (Unexpected y) q = c.3 s (stop.Unexpected y) q
     there (TooDeep y) q = c.3 s (stop.TooDeep y) q
 
@@ -202,18 +202,18 @@ fronts (Of Once n ∷ s) = true
 fronts (Here ∷ s) = true
 fronts _ = false
 
-statement_fronts : each_row (rows g.Stmt) fronts ≡ true
+statement_fronts : each_row (rows g.Statement) fronts ≡ true
 statement_fronts = refl
 
-fronted : (ws : List Token) (i : ℕ) (right : List Symbol) → right_side g.Stmt (terminal_at ws i) ≡ Some right → fronts right ≡ true
+fronted : (ws : List Token) (i : ℕ) (right : List Symbol) → right_side g.Statement (terminal_at ws i) ≡ Some right → fronts right ≡ true
 unfolding right_side
-fronted ws i right e = row_get (rows g.Stmt) fronts (terminal_at ws i) right statement_fronts e
+fronted ws i right e = row_get (rows g.Statement) fronts (terminal_at ws i) right statement_fronts e
 
 kind_tested : (ws : List Token) (i : ℕ) (v : Bool) → is (terminal_at ws i) t.Identifier ≡ v → is (terminal_of (kind_at ws i)) t.Identifier ≡ v
 unfolding terminal_at
 kind_tested ws i v h = h
 
-begun_unnamed : {ws : List Token} {d i m : ℕ} {s : List Symbol} {f : Forest} (h : Forest) → is (terminal_at ws i) t.Identifier ≡ false → fronts s ≡ true → Reads limit ws d s i f m → begun f h ≡ node g.Stmt f h
+begun_unnamed : {ws : List Token} {d i m : ℕ} {s : List Symbol} {f : Forest} (h : Forest) → is (terminal_at ws i) t.Identifier ≡ false → fronts s ≡ true → Reads limit ws d s i f m → begun f h ≡ node g.Statement f h
 begun_unnamed h e o reads-done = absurd (false≢true o)
 begun_unnamed {ws = ws} {i = i} h e o (reads-kept {f = f} a r) = begun_other i (kind_at ws i) f h (kind_tested ws i false e)
 begun_unnamed h e o (reads-mark a r) = absurd (false≢true o)
@@ -226,11 +226,11 @@ begun_unnamed h e o (reads-skip {t = Maybe} b may r) = absurd (false≢true o)
 begun_unnamed h e o (reads-skip {t = Many} b may r) = absurd (false≢true o)
 
 -- Where an identifier begins it: the same, one token later.
-later_row : (ws : List Token) (i : ℕ) → right_side g.IdStmt (terminal_at ws i) ≡ Some begun_symbols
-later_row ws i = only g.IdStmt begun_symbols (terminal_at ws i) refl
+later_row : (ws : List Token) (i : ℕ) → right_side g.StatementOfIdentifier (terminal_at ws i) ≡ Some begun_symbols
+later_row ws i = only g.StatementOfIdentifier begun_symbols (terminal_at ws i) refl
 
-later_shallow : (d : ℕ) (right : List Symbol) (v : Bool) → right ≡ identified_row → is_too_deep limit g.Stmt d right ≡ v → is_too_deep limit g.IdStmt d begun_symbols ≡ v
-later_shallow d right v same h = sym (ap (λ z. is_too_deep limit g.Stmt d z) same) ∙ h
+later_shallow : (d : ℕ) (right : List Symbol) (v : Bool) → right ≡ identified_row → is_too_deep limit g.Statement d right ≡ v → is_too_deep limit g.StatementOfIdentifier d begun_symbols ≡ v
+later_shallow d right v same h = sym (ap (λ z. is_too_deep limit g.Statement d z) same) ∙ h
 
 record Taken (ws : List Token) (d : ℕ) (i : ℕ) (f : Forest) (m : ℕ) : Type 0 where
   pub rest : Forest
@@ -241,8 +241,8 @@ taken : {ws : List Token} {d i m : ℕ} {f : Forest} → Reads limit ws (d + 1) 
 taken (reads-kept {f = f} h r) = record { rest = f; shape = refl; reads = r }
 
 module _ (ws : List Token) (d i : ℕ) (named : is (terminal_at ws i) t.Identifier ≡ true) where
-  statement_here : right_side g.Stmt (terminal_at ws i) ≡ Some identified_row
-  statement_here = by_test g.Stmt (terminal_at ws i) t.Identifier identified_row named statement_named
+  statement_here : right_side g.Statement (terminal_at ws i) ≡ Some identified_row
+  statement_here = by_test g.Statement (terminal_at ws i) t.Identifier identified_row named statement_named
 
   taken_fails : {e : Fault} → Fails limit ws (d + 1) identified_row i e → Fails limit ws (d + 1) begun_symbols (i + 1) e
   taken_fails (fails-kept h) = absurd (false≢true (sym h ∙ just_is (terminal_at ws i) t.Identifier true named))
@@ -267,13 +267,13 @@ module _ (ws : List Token) (d i : ℕ) (named : is (terminal_at ws i) t.Identifi
   named_kept = just_is (terminal_at ws i) t.Identifier true named
 
   module _ (other : is (terminal_at ws (i + 1)) t.Class ≡ false) where
-    after_row : right_side g.AfterId (terminal_at ws (i + 1)) ≡ Some begun_row
+    after_row : right_side g.AfterIdentifier (terminal_at ws (i + 1)) ≡ Some begun_row
     after_row = after_other (terminal_at ws (i + 1)) other
 
     pub named_fails : {e : Fault} → Fails limit ws d sequence_row i e → Fails limit ws d (one g.Block) i e
     named_fails r = fails-inside block_row refl (after-kept named_kept (fails-inside after_row refl (later_fails r)))
 
-    pub named_reads : {m : ℕ} (f h : Forest) → Reads limit ws d sequence_row i (node g.Stmt f h) m → i ≤ m → m < length ws → ReadsPart ws d g.Block i (begun f h) m
+    pub named_reads : {m : ℕ} (f h : Forest) → Reads limit ws d sequence_row i (node g.Statement f h) m → i ≤ m → m < length ws → ReadsPart ws d g.Block i (begun f h) m
     unfolding parted
     named_reads {m} f h r ahead within =
         let p = parted r in
@@ -309,7 +309,7 @@ module _ (ws : List Token) (d i : ℕ) (no : NoDeclaration ws i) (some : one_of 
   sequence_stops (stop.TooDeep y) h = sequence_fails h
   sequence_stops stop.Memory h = tt
 
-  first_reads : {m : ℕ} (f h : Forest) → Reads limit ws d sequence_row i (node g.Stmt f h) m → i ≤ m → m < length ws → ReadsPart ws d g.Block i (begun f h) m
+  first_reads : {m : ℕ} (f h : Forest) → Reads limit ws d sequence_row i (node g.Statement f h) m → i ≤ m → m < length ws → ReadsPart ws d g.Block i (begun f h) m
   unfolding parted
   first_reads {m} f h r ahead within = go (is (terminal_at ws i) t.Identifier) refl
     where
@@ -318,7 +318,7 @@ module _ (ws : List Token) (d i : ℕ) (no : NoDeclaration ws i) (some : one_of 
       go false e =
           let p = parted r in
           let here = ap inner_of p.shape in
-          let made = ap (λ z. begun z h) here ∙ begun_unnamed h e (fronted ws i p.right p.begins) p.reads ∙ ap (λ z. node g.Stmt z h) (sym here) in
+          let made = ap (λ z. begun z h) here ∙ begun_unnamed h e (fronted ws i p.right p.begins) p.reads ∙ ap (λ z. node g.Statement z h) (sym here) in
           record {
             right = sequence_row;
             begins = other_row e;
@@ -331,4 +331,4 @@ module _ (ws : List Token) (d i : ℕ) (no : NoDeclaration ws i) (some : one_of 
   pub sequence_reads : {m : ℕ} (fs : List Forest) (end : ℕ) → 0 < length fs → Reads limit ws d sequence_row i (statement_list fs (leaf end k.End done)) m → i ≤ m → m < length ws
       → ReadsPart ws d g.Block i (statements fs end) m
   sequence_reads [] end n r ahead within = absurd (omega (arith, n))
-  sequence_reads (f ∷ fs) end n r ahead within = first_reads f (row g.NextStmt (map next_statement fs) (leaf end k.End done)) r ahead within
+  sequence_reads (f ∷ fs) end n r ahead within = first_reads f (row g.NextStatement (map next_statement fs) (leaf end k.End done)) r ahead within

@@ -55,13 +55,13 @@ abbrev pub compound_row : List Symbol
 compound_row = Kept (just t.Begin) ∷ Any t.Semicolon ∷ Of Once g.Block ∷ []
 
 abbrev pub closing_then_block : List Symbol
-closing_then_block = Of Once g.Closing ∷ Any t.Semicolon ∷ Of Once g.Block ∷ []
+closing_then_block = Of Once g.AfterDeclaration ∷ Any t.Semicolon ∷ Of Once g.Block ∷ []
 
 abbrev pub declaring_row : List Symbol
-declaring_row = Of Once g.Decl ∷ closing_then_block
+declaring_row = Of Once g.Declaration ∷ closing_then_block
 
 abbrev pub named_row : List Symbol
-named_row = Kept (just t.Identifier) ∷ Of Once g.AfterId ∷ []
+named_row = Kept (just t.Identifier) ∷ Of Once g.AfterIdentifier ∷ []
 
 abbrev pub end_row : List Symbol
 end_row = Kept (just t.End) ∷ []
@@ -99,60 +99,60 @@ no_block a v i e s = block a false false false false v i e s
 
 -- What stands behind an identifier that begins a block's next item.
 abbrev pub class_row : List Symbol
-class_row = Kept (just t.Class) ∷ Of Once g.Cls ∷ closing_then_block
+class_row = Kept (just t.Class) ∷ Of Once g.Class ∷ closing_then_block
 
 abbrev pub behind : List Symbol
-behind = Of Many g.NextStmt ∷ end_row
+behind = Of Many g.NextStatement ∷ end_row
 
 abbrev pub begun_row : List Symbol
-begun_row = Of Once g.IdStmt ∷ behind
+begun_row = Of Once g.StatementOfIdentifier ∷ behind
 
 abbrev pub begun_symbols : List Symbol
-begun_symbols = Of Maybe g.Args ∷ Of Once g.AfterHead ∷ []
+begun_symbols = Of Maybe g.Arguments ∷ Of Once g.AfterFirstOperand ∷ []
 
-pub after_class : right_side g.AfterId t.Class ≡ Some class_row
+pub after_class : right_side g.AfterIdentifier t.Class ≡ Some class_row
 unfolding right_side is
 after_class = refl
 
-pub after_other : (a : Terminal) → is a t.Class ≡ false → right_side g.AfterId a ≡ Some begun_row
+pub after_other : (a : Terminal) → is a t.Class ≡ false → right_side g.AfterIdentifier a ≡ Some begun_row
 unfolding right_side
 after_other a h = ap (λ x. if x || false then Some class_row else Some begun_row) h
 
-pub statement_named : right_side g.Stmt t.Identifier ≡ Some identified_row
+pub statement_named : right_side g.Statement t.Identifier ≡ Some identified_row
 unfolding right_side is
 statement_named = refl
 
 -- Declarations.
 abbrev pub typed_row : List Symbol
-typed_row = Of Once g.TypeName ∷ Of Once g.Typed ∷ []
+typed_row = Of Once g.TypeName ∷ Of Once g.TypedDeclaration ∷ []
 
 abbrev pub procedure_row : List Symbol
-procedure_row = Kept (just t.Procedure) ∷ Of Once g.Proc ∷ []
+procedure_row = Kept (just t.Procedure) ∷ Of Once g.Procedure ∷ []
 
 abbrev pub plain_class_row : List Symbol
-plain_class_row = Kept (just t.Class) ∷ Of Once g.Cls ∷ []
+plain_class_row = Kept (just t.Class) ∷ Of Once g.Class ∷ []
 
 abbrev decl_choice : Bool → Bool → Bool → Option (List Symbol)
 decl_choice v p c = if v then Some typed_row else (if p || false then Some procedure_row else (if c || false then Some plain_class_row else None))
 
-decl : (a : Terminal) (v p c : Bool) → one_of types a ≡ v → is a t.Procedure ≡ p → is a t.Class ≡ c → right_side g.Decl a ≡ decl_choice v p c
+decl : (a : Terminal) (v p c : Bool) → one_of types a ≡ v → is a t.Procedure ≡ p → is a t.Class ≡ c → right_side g.Declaration a ≡ decl_choice v p c
 unfolding right_side
 decl a v p c ev ep ec =
     ap (λ x. decl_choice x (is a t.Procedure) (is a t.Class)) ev
     ∙ ap (λ x. decl_choice v x (is a t.Class)) ep
     ∙ ap (λ x. decl_choice v p x) ec
 
-pub decl_typed : (a : Terminal) → one_of types a ≡ true → right_side g.Decl a ≡ Some typed_row
+pub decl_typed : (a : Terminal) → one_of types a ≡ true → right_side g.Declaration a ≡ Some typed_row
 decl_typed a h = decl a true (is a t.Procedure) (is a t.Class) h refl refl
 
-pub no_decl : (a : Terminal) → one_of types a ≡ false → is a t.Procedure ≡ false → is a t.Class ≡ false → right_side g.Decl a ≡ None
+pub no_decl : (a : Terminal) → one_of types a ≡ false → is a t.Procedure ≡ false → is a t.Class ≡ false → right_side g.Declaration a ≡ None
 no_decl a v p c = decl a false false false v p c
 
-pub decl_procedure : right_side g.Decl t.Procedure ≡ Some procedure_row
+pub decl_procedure : right_side g.Declaration t.Procedure ≡ Some procedure_row
 unfolding right_side is
 decl_procedure = refl
 
-pub decl_class : right_side g.Decl t.Class ≡ Some plain_class_row
+pub decl_class : right_side g.Declaration t.Class ≡ Some plain_class_row
 unfolding right_side is
 decl_class = refl
 
@@ -177,24 +177,24 @@ type_begins a right e = go (one_of types a) refl
 
 -- What stands behind a type.
 abbrev pub array_row : List Symbol
-array_row = Kept (just t.Array) ∷ Of Once g.Seg ∷ Of Many g.NextSeg ∷ []
+array_row = Kept (just t.Array) ∷ Of Once g.ArraySegment ∷ Of Many g.NextArraySegment ∷ []
 
 abbrev pub variables_row : List Symbol
-variables_row = Of Once g.Var ∷ Of Many g.NextVar ∷ []
+variables_row = Of Once g.Variable ∷ Of Many g.NextVariable ∷ []
 
-pub typed_procedure : right_side g.Typed t.Procedure ≡ Some procedure_row
+pub typed_procedure : right_side g.TypedDeclaration t.Procedure ≡ Some procedure_row
 unfolding right_side is
 typed_procedure = refl
 
-pub typed_array : right_side g.Typed t.Array ≡ Some array_row
+pub typed_array : right_side g.TypedDeclaration t.Array ≡ Some array_row
 unfolding right_side is
 typed_array = refl
 
-pub typed_variables : right_side g.Typed t.Identifier ≡ Some variables_row
+pub typed_variables : right_side g.TypedDeclaration t.Identifier ≡ Some variables_row
 unfolding right_side is
 typed_variables = refl
 
-pub no_typed : (a : Terminal) → is a t.Procedure ≡ false → is a t.Array ≡ false → is a t.Identifier ≡ false → right_side g.Typed a ≡ None
+pub no_typed : (a : Terminal) → is a t.Procedure ≡ false → is a t.Array ≡ false → is a t.Identifier ≡ false → right_side g.TypedDeclaration a ≡ None
 unfolding right_side
 no_typed a p r i =
     ap (λ x. if x || false then Some procedure_row else (if is a t.Array || false then Some array_row else (if is a t.Identifier || false then Some variables_row else None))) p
@@ -203,11 +203,11 @@ no_typed a p r i =
 
 -- Procedures and classes.
 abbrev pub proc_row : List Symbol
-proc_row = Kept (just t.Identifier) ∷ Of Once g.Heading ∷ Of Once g.Stmt ∷ []
+proc_row = Kept (just t.Identifier) ∷ Of Once g.Heading ∷ Of Once g.Statement ∷ []
 
 abbrev pub cls_row : List Symbol
-cls_row = Kept (just t.Identifier) ∷ Of Once g.Heading ∷ Of Many g.Prot ∷ Of Maybe g.Virt ∷ Of Once g.Stmt ∷ Here ∷ []
+cls_row = Kept (just t.Identifier) ∷ Of Once g.Heading ∷ Of Many g.Protection ∷ Of Maybe g.Virtuals ∷ Of Once g.Statement ∷ Here ∷ []
 
 -- What stands between statements.
 abbrev pub next_row : List Symbol
-next_row = Mark t.Semicolon ∷ Of Once g.Stmt ∷ []
+next_row = Mark t.Semicolon ∷ Of Once g.Statement ∷ []

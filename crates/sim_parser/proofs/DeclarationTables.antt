@@ -8,7 +8,7 @@ abbrev pub value_symbols : List Symbol
 value_symbols = Mark t.Equal ∷ Of Once g.Constant ∷ []
 
 abbrev pub segment_symbols : List Symbol
-segment_symbols = Of Once g.Ids ∷ Mark t.Open ∷ Of Once g.Bounds ∷ Of Many g.NextBounds ∷ Mark t.Close ∷ []
+segment_symbols = Of Once g.Identifiers ∷ Mark t.Open ∷ Of Once g.Bounds ∷ Of Many g.NextBounds ∷ Mark t.Close ∷ []
 
 abbrev pub bounds_symbols : List Symbol
-bounds_symbols = Of Once g.Expr ∷ Mark t.Colon ∷ Of Once g.Expr ∷ []
+bounds_symbols = Of Once g.Expression ∷ Mark t.Colon ∷ Of Once g.Expression ∷ []

@@ -7,10 +7,10 @@ use Rattle.sim_tree.specs.Grammar as g
 use Rattle.sim_tree.specs.Grammar.{Symbol, Kept, Mark, Of, Once, Maybe, Many, just, is, right_side}
 
 abbrev pub values_symbols : List Symbol
-values_symbols = Kept (just t.Assign) ∷ Of Once g.Felem ∷ Of Many g.NextFelem ∷ []
+values_symbols = Kept (just t.Assign) ∷ Of Once g.ForElement ∷ Of Many g.NextForElement ∷ []
 
 abbrev pub references_symbols : List Symbol
-references_symbols = Kept (just t.AssignReference) ∷ Of Once g.Relem ∷ Of Many g.NextRelem ∷ []
+references_symbols = Kept (just t.AssignReference) ∷ Of Once g.ReferenceElement ∷ Of Many g.NextReferenceElement ∷ []
 
 pub values_row : right_side g.ForList t.Assign ≡ Some values_symbols
 unfolding right_side is
@@ -27,26 +27,26 @@ no_list a h e =
     ∙ ap (λ x. if x || false then Some references_symbols else None) e
 
 abbrev pub element_symbols : List Symbol
-element_symbols = Of Once g.Expr ∷ Of Maybe g.FelemTail ∷ []
+element_symbols = Of Once g.Expression ∷ Of Maybe g.ForElementTail ∷ []
 
 abbrev pub reference_symbols : List Symbol
-reference_symbols = Of Once g.Expr ∷ Of Maybe g.RelemTail ∷ []
+reference_symbols = Of Once g.Expression ∷ Of Maybe g.ReferenceElementTail ∷ []
 
 abbrev pub step_symbols : List Symbol
-step_symbols = Kept (just t.Step) ∷ Of Once g.Expr ∷ Mark t.Until ∷ Of Once g.Expr ∷ []
+step_symbols = Kept (just t.Step) ∷ Of Once g.Expression ∷ Mark t.Until ∷ Of Once g.Expression ∷ []
 
 abbrev pub while_symbols : List Symbol
-while_symbols = Kept (just t.While) ∷ Of Once g.Expr ∷ []
+while_symbols = Kept (just t.While) ∷ Of Once g.Expression ∷ []
 
-pub step_row : right_side g.FelemTail t.Step ≡ Some step_symbols
+pub step_row : right_side g.ForElementTail t.Step ≡ Some step_symbols
 unfolding right_side is
 step_row = refl
 
-pub while_row : right_side g.FelemTail t.While ≡ Some while_symbols
+pub while_row : right_side g.ForElementTail t.While ≡ Some while_symbols
 unfolding right_side is
 while_row = refl
 
-pub no_tail : (a : Terminal) → is a t.Step ≡ false → is a t.While ≡ false → right_side g.FelemTail a ≡ None
+pub no_tail : (a : Terminal) → is a t.Step ≡ false → is a t.While ≡ false → right_side g.ForElementTail a ≡ None
 unfolding right_side
 no_tail a h e =
     ap (λ x. if x || false then Some step_symbols else (if is a t.While || false then Some while_symbols else None)) h

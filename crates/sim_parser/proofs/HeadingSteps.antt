@@ -10,7 +10,7 @@ use Rattle.sim_base.specs.declared.token.TokenKind.TheVariants as k
 use Rattle.sim_tree.specs.declared.expr.Identifier.{Identifier}
 use Rattle.sim_tree.specs.declared.stmt.ModePart.{ModePart}
 use Rattle.sim_tree.specs.declared.stmt.Specification.{Specification}
-use Rattle.sim_tree.specs.declared.stmt.VirtualSpec.{VirtualSpec}
+use Rattle.sim_tree.specs.declared.stmt.VirtualSpecification.{VirtualSpecification}
 use Rattle.sim_tree.specs.declared.terminal.Terminal.{Terminal}
 use Rattle.sim_tree.specs.declared.terminal.Terminal.TheVariants as t
 use Rattle.sim_tree.specs.Terminal.{terminal_of}
@@ -68,14 +68,14 @@ pub more-some : {A : Type 0} (xs ys : List A) (y : A) → ys ≡ xs ++ y ∷ [] 
 more-some xs ys y e = omega (arith, ap length e, length-append xs (y ∷ []))
 
 -- Identifiers with a semicolon behind them.
-pub names-end : {ws : List Token} {d i j m : ℕ} (xs : List Identifier) → i < length ws → ReadsPart ws d g.Ids i (ids xs) j → (is (terminal_at ws j) t.Semicolon ≡ true) × (m ≡ j + 1) × (m < length ws)
-    → ReadsAll ws d names_row i (node g.Ids (ids xs) done) m
+pub names-end : {ws : List Token} {d i j m : ℕ} (xs : List Identifier) → i < length ws → ReadsPart ws d g.Identifiers i (ids xs) j → (is (terminal_at ws j) t.Semicolon ≡ true) × (m ≡ j + 1) × (m < length ws)
+    → ReadsAll ws d names_row i (node g.Identifiers (ids xs) done) m
 names-end {ws} {d} {i} xs within p w = all (past (past (along d i names_row within) (once p)) (marked w)) _ refl
 
-pub names-first-stop : (ws : List Token) (d i : ℕ) (x : Stop) → Stops ws d (one g.Ids) i x → Stops ws d names_row i x
-names-first-stop ws d i x h = once-stops ws d i g.Ids x h (Mark t.Semicolon ∷ [])
+pub names-first-stop : (ws : List Token) (d i : ℕ) (x : Stop) → Stops ws d (one g.Identifiers) i x → Stops ws d names_row i x
+names-first-stop ws d i x h = once-stops ws d i g.Identifiers x h (Mark t.Semicolon ∷ [])
 
-pub names-last-stop : {ws : List Token} {d i j : ℕ} {f : Forest} (x : Stop) → i < length ws → ReadsPart ws d g.Ids i f j → (is (terminal_at ws j) t.Semicolon ≡ false) × (x ≡ stop.Unexpected j) → Stops ws d names_row i x
+pub names-last-stop : {ws : List Token} {d i j : ℕ} {f : Forest} (x : Stop) → i < length ws → ReadsPart ws d g.Identifiers i f j → (is (terminal_at ws j) t.Semicolon ≡ false) × (x ≡ stop.Unexpected j) → Stops ws d names_row i x
 names-last-stop {ws} {d} {i} {j} x within p h = along-stops (past (along d i names_row within) (once p)) x (mark-stops ws d j t.Semicolon x h)
 
 -- where a part stops whose row begins with another part, and that begins only where that one does
@@ -115,7 +115,7 @@ type-began {ws} {d} {i} p = go (one_of types (terminal_at ws i)) refl
 
 -- Formal parameters.
 abbrev pub parameters_row : List Symbol
-parameters_row = Mark t.Open ∷ Of Once g.Ids ∷ Mark t.Close ∷ Mark t.Semicolon ∷ Of Many g.Mode ∷ Of Once g.Spec ∷ Of Many g.Spec ∷ []
+parameters_row = Mark t.Open ∷ Of Once g.Identifiers ∷ Mark t.Close ∷ Mark t.Semicolon ∷ Of Many g.Mode ∷ Of Once g.Specification ∷ Of Many g.Specification ∷ []
 
 abbrev pub no_parameters_row : List Symbol
 no_parameters_row = Mark t.Semicolon ∷ []
@@ -139,7 +139,7 @@ pub heading-none : (ps : List Identifier) (ms : List ModePart) (ss : List Specif
 heading-none ps ms ss a b c = sym (ap (λ z. heading_shown z ms ss) a ∙ ap (λ z. heading_shown [] z ss) b ∙ ap (heading_shown [] []) c)
 
 pub heading-some : (ps : List Identifier) (ms : List ModePart) (ss : List Specification) → 0 < length ss
-    → node g.Ids (ids ps) (row g.Mode (map mode_shown ms) (row g.Spec (map specification_shown ss) done)) ≡ heading_shown ps ms ss
+    → node g.Identifiers (ids ps) (row g.Mode (map mode_shown ms) (row g.Specification (map specification_shown ss) done)) ≡ heading_shown ps ms ss
 heading-some ps ms [] h = absurd (omega (arith, h))
 heading-some [] [] (x ∷ ss) h = refl
 heading-some [] (y ∷ ms) (x ∷ ss) h = refl
@@ -151,7 +151,7 @@ mode_row = Kept (t.Value ∷ t.Name ∷ []) ∷ names_row
 
 -- Specifications.
 abbrev pub typed_spec_row : List Symbol
-typed_spec_row = Of Once g.TypeName ∷ Of Maybe g.SpecKind ∷ names_row
+typed_spec_row = Of Once g.TypeName ∷ Of Maybe g.SpecifiedKind ∷ names_row
 
 abbrev pub procedure_row : List Symbol
 procedure_row = Kept (just t.Procedure) ∷ names_row
@@ -160,35 +160,35 @@ abbrev pub kinds : List Terminal
 kinds = t.Array ∷ t.Procedure ∷ []
 
 pub spec-row : (a : Terminal) (v w : Bool) → one_of types a ≡ v → is a t.Procedure ≡ w
-    → right_side g.Spec a ≡ (if v then Some typed_spec_row else (if w || false then Some procedure_row else None))
+    → right_side g.Specification a ≡ (if v then Some typed_spec_row else (if w || false then Some procedure_row else None))
 unfolding right_side
 spec-row a v w h e =
     ap (λ x. if x then Some typed_spec_row else (if is a t.Procedure || false then Some procedure_row else None)) h
     ∙ ap (λ x. if v then Some typed_spec_row else (if x || false then Some procedure_row else None)) e
 
-pub spec_procedure : right_side g.Spec t.Procedure ≡ Some procedure_row
+pub spec_procedure : right_side g.Specification t.Procedure ≡ Some procedure_row
 unfolding right_side is
 spec_procedure = refl
 
 -- Virtual procedures.
 abbrev pub virtual_row : List Symbol
-virtual_row = Mark t.Virtual ∷ Mark t.Colon ∷ Of Once g.Vspec ∷ Of Many g.Vspec ∷ []
+virtual_row = Mark t.Virtual ∷ Mark t.Colon ∷ Of Once g.VirtualSpecification ∷ Of Many g.VirtualSpecification ∷ []
 
 abbrev pub typed_virtual_row : List Symbol
 typed_virtual_row = Of Once g.TypeName ∷ procedure_row
 
 pub virtual-spec-row : (a : Terminal) (v w : Bool) → one_of types a ≡ v → is a t.Procedure ≡ w
-    → right_side g.Vspec a ≡ (if v then Some typed_virtual_row else (if w || false then Some procedure_row else None))
+    → right_side g.VirtualSpecification a ≡ (if v then Some typed_virtual_row else (if w || false then Some procedure_row else None))
 unfolding right_side
 virtual-spec-row a v w h e =
     ap (λ x. if x then Some typed_virtual_row else (if is a t.Procedure || false then Some procedure_row else None)) h
     ∙ ap (λ x. if v then Some typed_virtual_row else (if x || false then Some procedure_row else None)) e
 
-pub virtual_procedure : right_side g.Vspec t.Procedure ≡ Some procedure_row
+pub virtual_procedure : right_side g.VirtualSpecification t.Procedure ≡ Some procedure_row
 unfolding right_side is
 virtual_procedure = refl
 
-pub virtuals-some : (vs : List VirtualSpec) (f : Forest) → 0 < length vs → node g.Virt (row g.Vspec (map virtual_shown vs) done) f ≡ virtuals_shown vs f
+pub virtuals-some : (vs : List VirtualSpecification) (f : Forest) → 0 < length vs → node g.Virtuals (row g.VirtualSpecification (map virtual_shown vs) done) f ≡ virtuals_shown vs f
 virtuals-some [] f h = absurd (omega (arith, h))
 virtuals-some (v ∷ vs) f h = refl
 
@@ -202,17 +202,17 @@ begins-neither a h = go (is a t.Procedure) (one_of types a) refl refl h
     go false false p q x = (q, p)
 
 -- where a specification, or virtual procedures, stop at their type
-pub type-stops : (ws : List Token) (d i : ℕ) → i < length ws → is (terminal_at ws i) t.Procedure ≡ false → (x : Stop) → Stops ws d (one g.TypeName) i x → Stops ws d (one g.Spec) i x × Stops ws d (one g.Vspec) i x
+pub type-stops : (ws : List Token) (d i : ℕ) → i < length ws → is (terminal_at ws i) t.Procedure ≡ false → (x : Stop) → Stops ws d (one g.TypeName) i x → Stops ws d (one g.Specification) i x × Stops ws d (one g.VirtualSpecification) i x
 type-stops ws d i within plain x h = go (one_of types (terminal_at ws i)) refl
   where
-    go : (v : Bool) → one_of types (terminal_at ws i) ≡ v → Stops ws d (one g.Spec) i x × Stops ws d (one g.Vspec) i x
+    go : (v : Bool) → one_of types (terminal_at ws i) ≡ v → Stops ws d (one g.Specification) i x × Stops ws d (one g.VirtualSpecification) i x
     go true e = (
-      part-first-stops ws d i g.Spec g.TypeName (Of Maybe g.SpecKind ∷ names_row) refl within (inl (spec-row (terminal_at ws i) true false e plain)) x h,
-      part-first-stops ws d i g.Vspec g.TypeName procedure_row refl within (inl (virtual-spec-row (terminal_at ws i) true false e plain)) x h,
+      part-first-stops ws d i g.Specification g.TypeName (Of Maybe g.SpecifiedKind ∷ names_row) refl within (inl (spec-row (terminal_at ws i) true false e plain)) x h,
+      part-first-stops ws d i g.VirtualSpecification g.TypeName procedure_row refl within (inl (virtual-spec-row (terminal_at ws i) true false e plain)) x h,
     )
     go false e = (
-      part-first-stops ws d i g.Spec g.TypeName [] refl within (inr (spec-row (terminal_at ws i) false false e plain, no-type (terminal_at ws i) e)) x h,
-      part-first-stops ws d i g.Vspec g.TypeName [] refl within (inr (virtual-spec-row (terminal_at ws i) false false e plain, no-type (terminal_at ws i) e)) x h,
+      part-first-stops ws d i g.Specification g.TypeName [] refl within (inr (spec-row (terminal_at ws i) false false e plain, no-type (terminal_at ws i) e)) x h,
+      part-first-stops ws d i g.VirtualSpecification g.TypeName [] refl within (inr (virtual-spec-row (terminal_at ws i) false false e plain, no-type (terminal_at ws i) e)) x h,
     )
 
 -- Protection.
@@ -222,15 +222,15 @@ hidden_row = Kept (just t.Hidden) ∷ Of Maybe g.AndProtected ∷ names_row
 abbrev pub protected_row : List Symbol
 protected_row = Kept (just t.Protected) ∷ Of Maybe g.AndHidden ∷ names_row
 
-protection_hidden : right_side g.Prot t.Hidden ≡ Some hidden_row
+protection_hidden : right_side g.Protection t.Hidden ≡ Some hidden_row
 unfolding right_side is
 protection_hidden = refl
 
-protection_protected : right_side g.Prot t.Protected ≡ Some protected_row
+protection_protected : right_side g.Protection t.Protected ≡ Some protected_row
 unfolding right_side is
 protection_protected = refl
 
-pub no-protection : (a : Terminal) → is a t.Hidden ≡ false → is a t.Protected ≡ false → right_side g.Prot a ≡ None
+pub no-protection : (a : Terminal) → is a t.Hidden ≡ false → is a t.Protected ≡ false → right_side g.Protection a ≡ None
 unfolding right_side
 no-protection a h e =
     ap (λ x. if x || false then Some hidden_row else (if is a t.Protected || false then Some protected_row else None)) h
@@ -240,18 +240,18 @@ pub word-within : (ws : List Token) (i j : ℕ) (a : Terminal) (o : Option Token
 word-within ws i j a None w h = omega (arith, w.1, h)
 word-within ws i j a (Some x) w h = w.2
 
-open-hidden : (ws : List Token) (d i j : ℕ) (h : TokenNo) → i < length ws → GivesWord ws i t.Hidden (Some h) j → Within ws d g.Prot i (leaf h.0 k.Hidden) d (Of Maybe g.AndProtected ∷ names_row) j
+open-hidden : (ws : List Token) (d i j : ℕ) (h : TokenNo) → i < length ws → GivesWord ws i t.Hidden (Some h) j → Within ws d g.Protection i (leaf h.0 k.Hidden) d (Of Maybe g.AndProtected ∷ names_row) j
 open-hidden ws d i j h within a =
-    to (opened ws d i g.Prot hidden_row refl (by_test g.Prot (terminal_at ws i) t.Hidden hidden_row a.0 protection_hidden) within) (kept h.0 a.3 (took_one ws i j k.Hidden refl (a.0, a.1, a.2)))
+    to (opened ws d i g.Protection hidden_row refl (by_test g.Protection (terminal_at ws i) t.Hidden hidden_row a.0 protection_hidden) within) (kept h.0 a.3 (took_one ws i j k.Hidden refl (a.0, a.1, a.2)))
 
-open-protected : (ws : List Token) (d i j : ℕ) (p : TokenNo) → i < length ws → GivesWord ws i t.Protected (Some p) j → Within ws d g.Prot i (leaf p.0 k.Protected) d (Of Maybe g.AndHidden ∷ names_row) j
+open-protected : (ws : List Token) (d i j : ℕ) (p : TokenNo) → i < length ws → GivesWord ws i t.Protected (Some p) j → Within ws d g.Protection i (leaf p.0 k.Protected) d (Of Maybe g.AndHidden ∷ names_row) j
 open-protected ws d i j p within a =
-    to (opened ws d i g.Prot protected_row refl (by_test g.Prot (terminal_at ws i) t.Protected protected_row a.0 protection_protected) within) (kept p.0 a.3 (took_one ws i j k.Protected refl (a.0, a.1, a.2)))
+    to (opened ws d i g.Protection protected_row refl (by_test g.Protection (terminal_at ws i) t.Protected protected_row a.0 protection_protected) within) (kept p.0 a.3 (took_one ws i j k.Protected refl (a.0, a.1, a.2)))
 
-pub hidden-front : (ws : List Token) (d i j m : ℕ) (h p : Option TokenNo) → i < length ws → GivesWord ws i t.Hidden h j → GivesWord ws j t.Protected p m → is_some h ≡ true → ReadsFront ws d g.Prot i (protecting h p) names_row m
+pub hidden-front : (ws : List Token) (d i j m : ℕ) (h p : Option TokenNo) → i < length ws → GivesWord ws i t.Hidden h j → GivesWord ws j t.Protected p m → is_some h ≡ true → ReadsFront ws d g.Protection i (protecting h p) names_row m
 hidden-front ws d i j m None p within a b some = absurd (false≢true some)
 hidden-front ws d i j m (Some h) None within a b some =
-    front (subst (λ z. Within ws d g.Prot i (leaf h.0 k.Hidden) d names_row z) (sym b.1)
+    front (subst (λ z. Within ws d g.Protection i (leaf h.0 k.Hidden) d names_row z) (sym b.1)
     (to (open-hidden ws d i j h within a) (skipped (one_row g.AndProtected (just t.Protected) (Kept (just t.Protected) ∷ []) (terminal_at ws j) false refl (just_is _ _ _ b.0)) a.2)))
 hidden-front ws d i j m (Some h) (Some p) within a b some =
     front (within-as (λ f. leaf h.0 k.Hidden (node g.AndProtected (leaf p.0 k.Protected done) f)) (protecting (Some h) (Some p))
@@ -261,12 +261,12 @@ hidden-front ws d i j m (Some h) (Some p) within a b some =
     (kept p.0 b.3 (took_one ws j m k.Protected refl (b.0, b.1, b.2)))) (leaf p.0 k.Protected done) refl))))
 
 pub protected-front : (ws : List Token) (d i j m n : ℕ) (h p q : Option TokenNo) → i < length ws → GivesWord ws i t.Hidden h j → is_some h ≡ false → GivesWord ws j t.Protected p m → is_some p ≡ true
-    → GivesWord ws m t.Hidden q n → ReadsFront ws d g.Prot i (protecting q p) names_row n
+    → GivesWord ws m t.Hidden q n → ReadsFront ws d g.Protection i (protecting q p) names_row n
 protected-front ws d i j m n (Some h) p q within a out b some c = absurd (false≢true (sym out))
 protected-front ws d i j m n None None q within a out b some c = absurd (false≢true some)
 protected-front ws d i j m n None (Some p) None within a out b some c =
     let b : GivesWord ws i t.Protected (Some p) m = subst (λ z. GivesWord ws z t.Protected (Some p) m) a.1 b in
-    front (subst (λ z. Within ws d g.Prot i (leaf p.0 k.Protected) d names_row z) (sym c.1)
+    front (subst (λ z. Within ws d g.Protection i (leaf p.0 k.Protected) d names_row z) (sym c.1)
     (to (open-protected ws d i m p within b) (skipped (one_row g.AndHidden (just t.Hidden) (Kept (just t.Hidden) ∷ []) (terminal_at ws m) false refl (just_is _ _ _ c.0)) b.2)))
 protected-front ws d i j m n None (Some p) (Some h) within a out b some c =
     let b : GivesWord ws i t.Protected (Some p) m = subst (λ z. GivesWord ws z t.Protected (Some p) m) a.1 b in
@@ -276,21 +276,21 @@ protected-front ws d i j m n None (Some p) (Some h) within a out b some c =
     (maybe (gone (to (opened ws d m g.AndHidden (Kept (just t.Hidden) ∷ []) refl (one_row g.AndHidden (just t.Hidden) (Kept (just t.Hidden) ∷ []) (terminal_at ws m) true refl (just_is _ _ _ c.0)) b.2)
     (kept h.0 c.3 (took_one ws m n k.Hidden refl (c.0, c.1, c.2)))) (leaf h.0 k.Hidden done) refl))))
 
-pub no-words : (ws : List Token) (i j m : ℕ) (h p : Option TokenNo) → GivesWord ws i t.Hidden h j → is_some h ≡ false → GivesWord ws j t.Protected p m → is_some p ≡ false → right_side g.Prot (terminal_at ws i) ≡ None
+pub no-words : (ws : List Token) (i j m : ℕ) (h p : Option TokenNo) → GivesWord ws i t.Hidden h j → is_some h ≡ false → GivesWord ws j t.Protected p m → is_some p ≡ false → right_side g.Protection (terminal_at ws i) ≡ None
 no-words ws i j m (Some h) p a out b none = absurd (false≢true (sym out))
 no-words ws i j m None (Some p) a out b none = absurd (false≢true (sym none))
 no-words ws i j m None None a out b none = no-protection (terminal_at ws i) a.0 (subst (λ z. is (terminal_at ws z) t.Protected ≡ false) a.1 b.0)
 
 -- the kind of a specification behind its type
 pub spec-kind : (ws : List Token) (d i j : ℕ) (kind : TokenKind) (n : TokenNo) → is_bare (terminal_of kind) ≡ true → one_of kinds (terminal_of kind) ≡ true
-    → (is (terminal_at ws i) (terminal_of kind) ≡ true) × (j ≡ i + 1) × (j < length ws) → n.0 ≡ i → i < length ws → ReadsTo ws d (Of Maybe g.SpecKind) i (node g.SpecKind (leaf n.0 kind done)) j
+    → (is (terminal_at ws i) (terminal_of kind) ≡ true) × (j ≡ i + 1) × (j < length ws) → n.0 ≡ i → i < length ws → ReadsTo ws d (Of Maybe g.SpecifiedKind) i (node g.SpecifiedKind (leaf n.0 kind done)) j
 spec-kind ws d i j kind n bare among w number within =
     let q = took ws i j kinds kind bare among w in
-    maybe (gone (to (opened ws d i g.SpecKind (Kept kinds ∷ []) refl (one_row g.SpecKind kinds (Kept kinds ∷ []) (terminal_at ws i) true refl q.among) within) (kept n.0 number q)) (leaf n.0 kind done) refl)
+    maybe (gone (to (opened ws d i g.SpecifiedKind (Kept kinds ∷ []) refl (one_row g.SpecifiedKind kinds (Kept kinds ∷ []) (terminal_at ws i) true refl q.among) within) (kept n.0 number q)) (leaf n.0 kind done) refl)
 
-pub no-spec-kind : (ws : List Token) (d i : ℕ) → is (terminal_at ws i) t.Array ≡ false → is (terminal_at ws i) t.Procedure ≡ false → i < length ws → ReadsTo ws d (Of Maybe g.SpecKind) i (λ f. f) i
+pub no-spec-kind : (ws : List Token) (d i : ℕ) → is (terminal_at ws i) t.Array ≡ false → is (terminal_at ws i) t.Procedure ≡ false → i < length ws → ReadsTo ws d (Of Maybe g.SpecifiedKind) i (λ f. f) i
 no-spec-kind ws d i h e within =
-    skipped (one_row g.SpecKind kinds (Kept kinds ∷ []) (terminal_at ws i) false refl (ap (λ z. z || (is (terminal_at ws i) t.Procedure || false)) h ∙ ap (λ z. z || false) e)) within
+    skipped (one_row g.SpecifiedKind kinds (Kept kinds ∷ []) (terminal_at ws i) false refl (ap (λ z. z || (is (terminal_at ws i) t.Procedure || false)) h ∙ ap (λ z. z || false) e)) within
 
 -- a repeated part stops where it stops once, since it begins there
 pub many-stops : (ws : List Token) (d i : ℕ) (n : Part) (right : List Symbol) → right_side n (terminal_at ws i) ≡ Some right → (x : Stop) → Stops ws d (one n) i x → (s : List Symbol) → Stops ws d (Of Many n ∷ s) i x
@@ -312,31 +312,31 @@ many-stops ws d i n right b x h s = go x h
     go stop.Memory q = tt
 
 -- what begins a specification, or virtual procedures, has a row
-pub begins-spec : (a : Terminal) → one_of (t.Procedure ∷ types) a ≡ true → (right : List Symbol) × (right_side g.Spec a ≡ Some right)
+pub begins-spec : (a : Terminal) → one_of (t.Procedure ∷ types) a ≡ true → (right : List Symbol) × (right_side g.Specification a ≡ Some right)
 begins-spec a h = go (one_of types a) (is a t.Procedure) refl refl h
   where
-    go : (v w : Bool) → one_of types a ≡ v → is a t.Procedure ≡ w → (w || v) ≡ true → (right : List Symbol) × (right_side g.Spec a ≡ Some right)
+    go : (v w : Bool) → one_of types a ≡ v → is a t.Procedure ≡ w → (w || v) ≡ true → (right : List Symbol) × (right_side g.Specification a ≡ Some right)
     go true w e p x = (typed_spec_row, spec-row a true w e p)
     go false true e p x = (procedure_row, spec-row a false true e p)
     go false false e p x = absurd (false≢true x)
 
-pub begins-virtual : (a : Terminal) → one_of (t.Procedure ∷ types) a ≡ true → (right : List Symbol) × (right_side g.Vspec a ≡ Some right)
+pub begins-virtual : (a : Terminal) → one_of (t.Procedure ∷ types) a ≡ true → (right : List Symbol) × (right_side g.VirtualSpecification a ≡ Some right)
 begins-virtual a h = go (one_of types a) (is a t.Procedure) refl refl h
   where
-    go : (v w : Bool) → one_of types a ≡ v → is a t.Procedure ≡ w → (w || v) ≡ true → (right : List Symbol) × (right_side g.Vspec a ≡ Some right)
+    go : (v w : Bool) → one_of types a ≡ v → is a t.Procedure ≡ w → (w || v) ≡ true → (right : List Symbol) × (right_side g.VirtualSpecification a ≡ Some right)
     go true w e p x = (typed_virtual_row, virtual-spec-row a true w e p)
     go false true e p x = (procedure_row, virtual-spec-row a false true e p)
     go false false e p x = absurd (false≢true x)
 
 -- past the parenthesis that begins formal parameters
 pub open-parameters : (ws : List Token) (d i j : ℕ) → i < length ws → (is (terminal_at ws i) t.Open ≡ true) × (j ≡ i + 1) × (j < length ws)
-    → Within ws d g.Heading i (λ f. f) d (Of Once g.Ids ∷ Mark t.Close ∷ Mark t.Semicolon ∷ Of Many g.Mode ∷ Of Once g.Spec ∷ Of Many g.Spec ∷ []) j
+    → Within ws d g.Heading i (λ f. f) d (Of Once g.Identifiers ∷ Mark t.Close ∷ Mark t.Semicolon ∷ Of Many g.Mode ∷ Of Once g.Specification ∷ Of Many g.Specification ∷ []) j
 open-parameters ws d i j within w = to (opened ws d i g.Heading parameters_row refl (by_test g.Heading (terminal_at ws i) t.Open parameters_row w.0 heading_open) within) (marked w)
 
 -- past the word that begins virtual procedures
 pub open-virtual : (ws : List Token) (d i j : ℕ) → i < length ws → (is (terminal_at ws i) t.Virtual ≡ true) × (j ≡ i + 1) × (j < length ws)
-    → Within ws d g.Virt i (λ f. f) d (Mark t.Colon ∷ Of Once g.Vspec ∷ Of Many g.Vspec ∷ []) j
-open-virtual ws d i j within w = to (opened ws d i g.Virt virtual_row refl (one_row g.Virt (just t.Virtual) virtual_row (terminal_at ws i) true refl (just_is _ _ _ w.0)) within) (marked w)
+    → Within ws d g.Virtuals i (λ f. f) d (Mark t.Colon ∷ Of Once g.VirtualSpecification ∷ Of Many g.VirtualSpecification ∷ []) j
+open-virtual ws d i j within w = to (opened ws d i g.Virtuals virtual_row refl (one_row g.Virtuals (just t.Virtual) virtual_row (terminal_at ws i) true refl (just_is _ _ _ w.0)) within) (marked w)
 
-pub no-virtual : (ws : List Token) (d i : ℕ) → is (terminal_at ws i) t.Virtual ≡ false → i < length ws → ReadsTo ws d (Of Maybe g.Virt) i (λ f. f) i
-no-virtual ws d i h within = skipped (one_row g.Virt (just t.Virtual) virtual_row (terminal_at ws i) false refl (just_is _ _ _ h)) within
+pub no-virtual : (ws : List Token) (d i : ℕ) → is (terminal_at ws i) t.Virtual ≡ false → i < length ws → ReadsTo ws d (Of Maybe g.Virtuals) i (λ f. f) i
+no-virtual ws d i h within = skipped (one_row g.Virtuals (just t.Virtual) virtual_row (terminal_at ws i) false refl (just_is _ _ _ h)) within

@@ -82,14 +82,14 @@ kept-first-stops ws d i n any s plain is_row within x h = go (one_of any (termin
 
 -- Lists of identifiers, and what stands behind them.
 abbrev pub ids_row : List Symbol
-ids_row = Kept (just t.Identifier) ∷ Of Many g.NextId ∷ []
+ids_row = Kept (just t.Identifier) ∷ Of Many g.NextIdentifier ∷ []
 
 abbrev pub next_id_row : List Symbol
 next_id_row = Mark t.Comma ∷ Kept (just t.Identifier) ∷ []
 
 abbrev pub ids_then : List Identifier → Forest → Forest
 ids_then [] rest = rest
-ids_then (x ∷ xs) rest = identifier x (row g.NextId (map next_id xs) rest)
+ids_then (x ∷ xs) rest = identifier x (row g.NextIdentifier (map next_id xs) rest)
 
 pub ids-done : (xs : List Identifier) → ids_then xs done ≡ ids xs
 ids-done [] = refl
@@ -98,11 +98,11 @@ ids-done (x ∷ xs) = refl
 pub ids-one : (xs : List Identifier) (x : Identifier) (f : Forest) → xs ≡ x ∷ [] → identifier x f ≡ ids_then xs f
 ids-one xs x f e = sym (ap (λ l. ids_then l f) e)
 
-pub ids-more : (xs ys : List Identifier) (y : Identifier) (f : Forest) → 0 < length xs → ys ≡ xs ++ y ∷ [] → ids_then xs (node g.NextId (identifier y done) f) ≡ ids_then ys f
+pub ids-more : (xs ys : List Identifier) (y : Identifier) (f : Forest) → 0 < length xs → ys ≡ xs ++ y ∷ [] → ids_then xs (node g.NextIdentifier (identifier y done) f) ≡ ids_then ys f
 ids-more [] ys y f some e = absurd (omega (arith, some))
 ids-more (x ∷ xs) ys y f some e =
-    sym (ap (λ l. ids_then l f) e ∙ ap (λ l. identifier x (row g.NextId l f)) (map-append next_id xs y)
-    ∙ ap (identifier x) (row-append g.NextId (map next_id xs) (next_id y) f))
+    sym (ap (λ l. ids_then l f) e ∙ ap (λ l. identifier x (row g.NextIdentifier l f)) (map-append next_id xs y)
+    ∙ ap (identifier x) (row-append g.NextIdentifier (map next_id xs) (next_id y) f))
 
 -- Types.
 abbrev pub ref_row : List Symbol
@@ -162,15 +162,15 @@ kept-began {ws} {d} {i} {j} {any} {G} r = began (r.reads [] done j reads-done)
 
 -- past the first identifier
 pub opened-ids : (ws : List Token) (d i j : ℕ) (x : Identifier) (xs : List Identifier) → i < length ws → ReadsTo ws d (Kept (just t.Identifier)) i (identifier x) j → xs ≡ x ∷ []
-    → Within ws d g.Ids i (ids_then xs) d (Of Many g.NextId ∷ []) j
+    → Within ws d g.Identifiers i (ids_then xs) d (Of Many g.NextIdentifier ∷ []) j
 opened-ids ws d i j x xs within r e =
     within-as (identifier x) (ids_then xs) (λ f. ids-one xs x f e)
-    (to (opened ws d i g.Ids ids_row refl (one_row g.Ids (just t.Identifier) ids_row (terminal_at ws i) true refl (kept-began r)) within) r)
+    (to (opened ws d i g.Identifiers ids_row refl (one_row g.Identifiers (just t.Identifier) ids_row (terminal_at ws i) true refl (kept-began r)) within) r)
 
 -- past the comma in front of one more
-pub opened-next-id : (ws : List Token) (d i j : ℕ) → i < length ws → (is (terminal_at ws i) t.Comma ≡ true) × (j ≡ i + 1) × (j < length ws) → Within ws d g.NextId i (λ f. f) d (Kept (just t.Identifier) ∷ []) j
+pub opened-next-id : (ws : List Token) (d i j : ℕ) → i < length ws → (is (terminal_at ws i) t.Comma ≡ true) × (j ≡ i + 1) × (j < length ws) → Within ws d g.NextIdentifier i (λ f. f) d (Kept (just t.Identifier) ∷ []) j
 opened-next-id ws d i j within w =
-    to (opened ws d i g.NextId next_id_row refl (one_row g.NextId (just t.Comma) next_id_row (terminal_at ws i) true refl (just_is _ _ _ w.0)) within) (marked w)
+    to (opened ws d i g.NextIdentifier next_id_row refl (one_row g.NextIdentifier (just t.Comma) next_id_row (terminal_at ws i) true refl (just_is _ _ _ w.0)) within) (marked w)
 
-pub no-next-id : (ws : List Token) (i : ℕ) → is (terminal_at ws i) t.Comma ≡ false → right_side g.NextId (terminal_at ws i) ≡ None
-no-next-id ws i h = one_row g.NextId (just t.Comma) next_id_row (terminal_at ws i) false refl (just_is _ _ _ h)
+pub no-next-id : (ws : List Token) (i : ℕ) → is (terminal_at ws i) t.Comma ≡ false → right_side g.NextIdentifier (terminal_at ws i) ≡ None
+no-next-id ws i h = one_row g.NextIdentifier (just t.Comma) next_id_row (terminal_at ws i) false refl (just_is _ _ _ h)

@@ -25,10 +25,10 @@ abbrev pub places : List Terminal
 places = t.Before ∷ t.After ∷ []
 
 abbrev pub time_symbols : List Symbol
-time_symbols = Kept times ∷ Of Once g.Expr ∷ Of Maybe g.PriorMark ∷ []
+time_symbols = Kept times ∷ Of Once g.Expression ∷ Of Maybe g.PriorMark ∷ []
 
 abbrev pub place_symbols : List Symbol
-place_symbols = Kept places ∷ Of Once g.Expr ∷ []
+place_symbols = Kept places ∷ Of Once g.Expression ∷ []
 
 pub timing_at : right_side g.Timing t.At ≡ Some time_symbols
 unfolding right_side is
@@ -88,7 +88,7 @@ kept-row a h = go (is a t.This) refl (is a t.New) refl (is a t.Open) refl h
     go false ex false ey true z e = (_, _, by_test g.Primary a t.Open open_symbols z primary_open)
     go false ex false ey false ez e = absurd (false≢true e)
 
-acted-read : (ws : List Token) (d i j : ℕ) (f rest : Forest) → Reads limit ws d (Of Once g.Primary ∷ Of Many g.Selected ∷ []) i f j → one_of (t.This ∷ t.New ∷ t.Open ∷ []) (terminal_at ws i) ≡ true
+acted-read : (ws : List Token) (d i j : ℕ) (f rest : Forest) → Reads limit ws d (Of Once g.Primary ∷ Of Many g.Selection ∷ []) i f j → one_of (t.This ∷ t.New ∷ t.Open ∷ []) (terminal_at ws i) ≡ true
     → acted f rest ≡ node g.Postfix f rest
 unfolding terminal_at
 acted-read ws d i j f rest (reads-part {m = m} {right = right} {f = inner} {g = others} b shallow r q) h =
@@ -100,5 +100,5 @@ acted-read ws d i j f rest (reads-skip b may r) h = absurd (false≢true may)
 
 pub acted-other : (ws : List Token) (d i j : ℕ) (f rest : Forest) → ReadsPart ws d g.Postfix i f j → one_of (t.This ∷ t.New ∷ t.Open ∷ []) (terminal_at ws i) ≡ true → acted f rest ≡ node g.Postfix f rest
 acted-other ws d i j f rest p h =
-    let sy = Of Once g.Primary ∷ Of Many g.Selected ∷ [] in
+    let sy = Of Once g.Primary ∷ Of Many g.Selection ∷ [] in
     acted-read ws d i j f rest (subst (λ s. Reads limit ws d s i f j) (same-row (sym p.begins ∙ only g.Postfix sy (terminal_at ws i) refl)) p.inside) h

@@ -18,7 +18,7 @@ use Rattle.sim_expr_parser.proofs.Ranges.{fails_within, stays}
 use Rattle.sim_parser.specs.Program.{NamesToken, ReadsPrefix, program_rest}
 
 abbrev pub prefixed_symbols : List Symbol
-prefixed_symbols = Kept (just t.Identifier) ∷ Of Maybe g.Args ∷ program_rest
+prefixed_symbols = Kept (just t.Identifier) ∷ Of Maybe g.Arguments ∷ program_rest
 
 abbrev choice : Bool → Bool → Option (List Symbol)
 choice b i = if b || false then Some program_rest else (if i || false then Some prefixed_symbols else None)

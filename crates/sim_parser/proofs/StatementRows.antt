@@ -23,7 +23,7 @@ use Rattle.sim_parser.specs.Parsing.{GivesPart, GivesAll, GivesInside, identifie
 -- The row of a statement that its next token begins.
 pub record Begun (a : Terminal) : Type 0 where
   pub right : List Symbol
-  pub row : right_side g.Stmt a ≡ Some right
+  pub row : right_side g.Statement a ≡ Some right
   pub some : is_empty right ≡ false
 
 pub begun_row : (a : Terminal) → one_of begins a ≡ true → Begun a
@@ -42,7 +42,7 @@ begun_row t.Activate h = record { right = activation_row; row = refl; some = ref
 begun_row t.Reactivate h = record { right = activation_row; row = refl; some = refl }
 begun_row _ h = absurd (false≢true h)
 
-pub empty_row : (a : Terminal) → one_of begins a ≡ false → right_side g.Stmt a ≡ Some (Here ∷ [])
+pub empty_row : (a : Terminal) → one_of begins a ≡ false → right_side g.Statement a ≡ Some (Here ∷ [])
 unfolding right_side is
 empty_row t.Identifier h = absurd (false≢true (sym h))
 empty_row t.Begin h = absurd (false≢true (sym h))
@@ -76,71 +76,71 @@ operation_begins t.New h n1 n2 n3 n4 n5 n6 n7 n8 n9 = refl
 operation_begins t.Open h n1 n2 n3 n4 n5 n6 n7 n8 n9 = refl
 operation_begins _ h n1 n2 n3 n4 n5 n6 n7 n8 n9 = absurd (false≢true h)
 
-pub operation_stands : (a : Terminal) → one_of (t.This ∷ t.New ∷ t.Open ∷ []) a ≡ true → right_side g.Stmt a ≡ Some operation_row
+pub operation_stands : (a : Terminal) → one_of (t.This ∷ t.New ∷ t.Open ∷ []) a ≡ true → right_side g.Statement a ≡ Some operation_row
 unfolding right_side is
 operation_stands t.This h = refl
 operation_stands t.New h = refl
 operation_stands t.Open h = refl
 operation_stands _ h = absurd (false≢true h)
 
-pub block_at : right_side g.Stmt t.Begin ≡ Some (Of Once g.Compound ∷ [])
+pub block_at : right_side g.Statement t.Begin ≡ Some (Of Once g.Compound ∷ [])
 unfolding right_side is
 block_at = refl
 
-pub identified_at : right_side g.Stmt t.Identifier ≡ Some identified_row
+pub identified_at : right_side g.Statement t.Identifier ≡ Some identified_row
 unfolding right_side is
 identified_at = refl
 
-pub inner_at : right_side g.Stmt t.Inner ≡ Some (Kept (just t.Inner) ∷ [])
+pub inner_at : right_side g.Statement t.Inner ≡ Some (Kept (just t.Inner) ∷ [])
 unfolding right_side is
 inner_at = refl
 
-pub if_at : right_side g.Stmt t.If ≡ Some if_row
+pub if_at : right_side g.Statement t.If ≡ Some if_row
 unfolding right_side is
 if_at = refl
 
-pub while_at : right_side g.Stmt t.While ≡ Some while_row
+pub while_at : right_side g.Statement t.While ≡ Some while_row
 unfolding right_side is
 while_at = refl
 
-pub for_at : right_side g.Stmt t.For ≡ Some for_row
+pub for_at : right_side g.Statement t.For ≡ Some for_row
 unfolding right_side is
 for_at = refl
 
-pub inspect_at : right_side g.Stmt t.Inspect ≡ Some inspect_row
+pub inspect_at : right_side g.Statement t.Inspect ≡ Some inspect_row
 unfolding right_side is
 inspect_at = refl
 
-pub activate_at : right_side g.Stmt t.Activate ≡ Some activation_row
+pub activate_at : right_side g.Statement t.Activate ≡ Some activation_row
 unfolding right_side is
 activate_at = refl
 
-pub reactivate_at : right_side g.Stmt t.Reactivate ≡ Some activation_row
+pub reactivate_at : right_side g.Statement t.Reactivate ≡ Some activation_row
 unfolding right_side is
 reactivate_at = refl
 
 same_row : {right other : List Symbol} → Some right ≡ Some other → right ≡ other
 same_row e = cc
 
-shallow_statement : (d : ℕ) (right : List Symbol) → d < 200 → is_too_deep limit g.Stmt d right ≡ false
+shallow_statement : (d : ℕ) (right : List Symbol) → d < 200 → is_too_deep limit g.Statement d right ≡ false
 shallow_statement d right lt = ap (λ x. x && not (is_empty right)) (lt-leb 200 d lt)
 
 not_deep : (b : Bool) → (b && false) ≡ false
 not_deep true = refl
 not_deep false = refl
 
-stops_inside : (ws : List Token) (d i : ℕ) (r : Begun (terminal_at ws i)) → d < 200 → (x : Stop) → Stops ws (d + 1) r.right i x → Stops ws d (one g.Stmt) i x
+stops_inside : (ws : List Token) (d i : ℕ) (r : Begun (terminal_at ws i)) → d < 200 → (x : Stop) → Stops ws (d + 1) r.right i x → Stops ws d (one g.Statement) i x
 stops_inside ws d i r lt (stop.Unexpected m) h = fails-inside r.row (shallow_statement d r.right lt) h
 stops_inside ws d i r lt (stop.TooDeep m) h = fails-inside r.row (shallow_statement d r.right lt) h
 stops_inside ws d i r lt stop.Memory h = tt
 
 -- the inside of a statement, read by its row
-pub inside : (ws : List Token) (d i : ℕ) (right : List Symbol) → right_side g.Stmt (terminal_at ws i) ≡ Some right → (r : Result (Stmt × ℕ) Stop) → GivesAll ws d right i stmt_shown r → GivesInside ws d i r
+pub inside : (ws : List Token) (d i : ℕ) (right : List Symbol) → right_side g.Statement (terminal_at ws i) ≡ Some right → (r : Result (Stmt × ℕ) Stop) → GivesAll ws d right i stmt_shown r → GivesInside ws d i r
 inside ws d i right e (Ok x) h = record { right = right; begins = e; all = h }
 inside ws d i right e (Err x) h = λ other f. subst (λ z. Stops ws d z i x) (same_row (sym e ∙ f)) h
 
 -- a statement from its inside
-pub from_inside : (ws : List Token) (d i : ℕ) → one_of begins (terminal_at ws i) ≡ true → d < 200 → (r : Result (Stmt × ℕ) Stop) → GivesInside ws (d + 1) i r → GivesPart ws d g.Stmt i stmt_shown r
+pub from_inside : (ws : List Token) (d i : ℕ) → one_of begins (terminal_at ws i) ≡ true → d < 200 → (r : Result (Stmt × ℕ) Stop) → GivesInside ws (d + 1) i r → GivesPart ws d g.Statement i stmt_shown r
 from_inside ws d i b lt (Ok x) h = record {
   right = h.right;
   begins = h.begins;
@@ -152,13 +152,13 @@ from_inside ws d i b lt (Ok x) h = record {
 from_inside ws d i b lt (Err x) h = let r = begun_row (terminal_at ws i) b in stops_inside ws d i r lt x (h r.right r.row)
 
 -- a statement too deep
-pub too_deep : (ws : List Token) (d i : ℕ) → one_of begins (terminal_at ws i) ≡ true → 200 ≤ d → Fails limit ws d (one g.Stmt) i (TooDeep i)
+pub too_deep : (ws : List Token) (d i : ℕ) → one_of begins (terminal_at ws i) ≡ true → 200 ≤ d → Fails limit ws d (one g.Statement) i (TooDeep i)
 too_deep ws d i b le =
     let r = begun_row (terminal_at ws i) b in
     fails-deep r.row (ap (λ x. x && not (is_empty r.right)) (le-leb 200 d le) ∙ ap not r.some)
 
 -- a statement that no token begins
-pub nothing_read : (ws : List Token) (d i : ℕ) → one_of begins (terminal_at ws i) ≡ false → i < length ws → ReadsPart ws d g.Stmt i (place i done) i
+pub nothing_read : (ws : List Token) (d i : ℕ) → one_of begins (terminal_at ws i) ≡ false → i < length ws → ReadsPart ws d g.Statement i (place i done) i
 nothing_read ws d i none within = record {
   right = Here ∷ [];
   begins = empty_row (terminal_at ws i) none;
@@ -169,9 +169,9 @@ nothing_read ws d i none within = record {
 }
 
 -- Branches.
-pub branch_row : (b : Branch) (a : Terminal) (v : Bool) → is a (branch_word b) ≡ v → right_side (branch_part b) a ≡ (if v then Some (Mark (branch_word b) ∷ Of Once g.Stmt ∷ []) else None)
-branch_row branch.Else a v h = one_row g.ElseBranch (just t.Else) (Mark t.Else ∷ Of Once g.Stmt ∷ []) a v refl (just_is _ _ _ h)
-branch_row branch.Otherwise a v h = one_row g.OtherwiseBranch (just t.Otherwise) (Mark t.Otherwise ∷ Of Once g.Stmt ∷ []) a v refl (just_is _ _ _ h)
+pub branch_row : (b : Branch) (a : Terminal) (v : Bool) → is a (branch_word b) ≡ v → right_side (branch_part b) a ≡ (if v then Some (Mark (branch_word b) ∷ Of Once g.Statement ∷ []) else None)
+branch_row branch.Else a v h = one_row g.ElseBranch (just t.Else) (Mark t.Else ∷ Of Once g.Statement ∷ []) a v refl (just_is _ _ _ h)
+branch_row branch.Otherwise a v h = one_row g.OtherwiseBranch (just t.Otherwise) (Mark t.Otherwise ∷ Of Once g.Statement ∷ []) a v refl (just_is _ _ _ h)
 
 pub branch_uncounted : (b : Branch) → is_counted (branch_part b) ≡ false
 branch_uncounted branch.Else = refl
@@ -183,7 +183,7 @@ branch_no_end branch.Else = refl
 branch_no_end branch.Otherwise = refl
 
 -- what stands behind an identifier that begins a statement
-pub after_head : (a : Terminal) (v : Bool) → is a t.Begin ≡ v → right_side g.AfterHead a ≡ Some (if v then Of Once g.Compound ∷ [] else Of Many g.Selected ∷ Of Many g.Assigned ∷ [])
+pub after_head : (a : Terminal) (v : Bool) → is a t.Begin ≡ v → right_side g.AfterFirstOperand a ≡ Some (if v then Of Once g.Compound ∷ [] else Of Many g.Selection ∷ Of Many g.Assigned ∷ [])
 unfolding right_side
-after_head a true h = ap (λ x. if x || false then Some (Of Once g.Compound ∷ []) else Some (Of Many g.Selected ∷ Of Many g.Assigned ∷ [])) h
-after_head a false h = ap (λ x. if x || false then Some (Of Once g.Compound ∷ []) else Some (Of Many g.Selected ∷ Of Many g.Assigned ∷ [])) h
+after_head a true h = ap (λ x. if x || false then Some (Of Once g.Compound ∷ []) else Some (Of Many g.Selection ∷ Of Many g.Assigned ∷ [])) h
+after_head a false h = ap (λ x. if x || false then Some (Of Once g.Compound ∷ []) else Some (Of Many g.Selection ∷ Of Many g.Assigned ∷ [])) h

@@ -21,23 +21,23 @@ use Rattle.sim_parser.specs.declared.statement.Branch.TheVariants as branch
 use Rattle.sim_parser.specs.Parsing.{branch_shown}
 
 pub if_shown : (n : TokenNo) (e : Expr) (x : Stmt) (a : Box Stmt Global) (o : Option (Box Stmt Global)) → a.value ≡ x
-    → leaf n.0 k.If (expr e (node g.Stmt (stmt_shown x) (branch_shown branch.Else o))) ≡ stmt_shown (s.If n e a o)
-if_shown n e x a None h = ap (λ z. leaf n.0 k.If (expr e (node g.Stmt (stmt_shown z) done))) (sym h) ∙ sym (shown-If n e a)
+    → leaf n.0 k.If (expr e (node g.Statement (stmt_shown x) (branch_shown branch.Else o))) ≡ stmt_shown (s.If n e a o)
+if_shown n e x a None h = ap (λ z. leaf n.0 k.If (expr e (node g.Statement (stmt_shown z) done))) (sym h) ∙ sym (shown-If n e a)
 if_shown n e x a (Some o) h =
-    ap (λ z. leaf n.0 k.If (expr e (node g.Stmt (stmt_shown z) (node g.ElseBranch (node g.Stmt (stmt_shown o.value) done) done)))) (sym h) ∙ sym (shown-If-two n e a o)
+    ap (λ z. leaf n.0 k.If (expr e (node g.Statement (stmt_shown z) (node g.ElseBranch (node g.Statement (stmt_shown o.value) done) done)))) (sym h) ∙ sym (shown-If-two n e a o)
 
-pub while_shown : (n : TokenNo) (e : Expr) (x : Stmt) (a : Box Stmt Global) → a.value ≡ x → leaf n.0 k.While (expr e (node g.Stmt (stmt_shown x) done)) ≡ stmt_shown (s.While n e a)
-while_shown n e x a h = ap (λ z. leaf n.0 k.While (expr e (node g.Stmt (stmt_shown z) done))) (sym h) ∙ sym (shown-While n e a)
+pub while_shown : (n : TokenNo) (e : Expr) (x : Stmt) (a : Box Stmt Global) → a.value ≡ x → leaf n.0 k.While (expr e (node g.Statement (stmt_shown x) done)) ≡ stmt_shown (s.While n e a)
+while_shown n e x a h = ap (λ z. leaf n.0 k.While (expr e (node g.Statement (stmt_shown z) done))) (sym h) ∙ sym (shown-While n e a)
 
 pub for_shown : (n : TokenNo) (x : Identifier) (m : TokenNo) (l : Vec ForElement Global) (b : Stmt) (a : Box Stmt Global) → a.value ≡ b
-    → leaf n.0 k.For (identifier x (node g.ForList (leaf m.0 k.Assign (for_elements l.items)) (node g.Stmt (stmt_shown b) done))) ≡ stmt_shown (s.For n x m l a)
+    → leaf n.0 k.For (identifier x (node g.ForList (leaf m.0 k.Assign (for_elements l.items)) (node g.Statement (stmt_shown b) done))) ≡ stmt_shown (s.For n x m l a)
 for_shown n x m l b a h =
-    ap (λ z. leaf n.0 k.For (identifier x (node g.ForList (leaf m.0 k.Assign (for_elements l.items)) (node g.Stmt (stmt_shown z) done)))) (sym h) ∙ sym (shown-For n x m l a)
+    ap (λ z. leaf n.0 k.For (identifier x (node g.ForList (leaf m.0 k.Assign (for_elements l.items)) (node g.Statement (stmt_shown z) done)))) (sym h) ∙ sym (shown-For n x m l a)
 
 pub for_reference_shown : (n : TokenNo) (x : Identifier) (m : TokenNo) (l : Vec ReferenceElement Global) (b : Stmt) (a : Box Stmt Global) → a.value ≡ b
-    → leaf n.0 k.For (identifier x (node g.ForList (leaf m.0 k.AssignReference (reference_elements l.items)) (node g.Stmt (stmt_shown b) done))) ≡ stmt_shown (s.ForReference n x m l a)
+    → leaf n.0 k.For (identifier x (node g.ForList (leaf m.0 k.AssignReference (reference_elements l.items)) (node g.Statement (stmt_shown b) done))) ≡ stmt_shown (s.ForReference n x m l a)
 for_reference_shown n x m l b a h =
-    ap (λ z. leaf n.0 k.For (identifier x (node g.ForList (leaf m.0 k.AssignReference (reference_elements l.items)) (node g.Stmt (stmt_shown z) done)))) (sym h)
+    ap (λ z. leaf n.0 k.For (identifier x (node g.ForList (leaf m.0 k.AssignReference (reference_elements l.items)) (node g.Statement (stmt_shown z) done)))) (sym h)
     ∙ sym (shown-ForReference n x m l a)
 
 -- one row in front of what follows it
@@ -51,7 +51,7 @@ joined_arguments (x ∷ xs) rest = refl
 
 -- the operation that an identifier begins, with its actuals and with what is taken of it
 pub acted_named : (x : Identifier) (l : List Shown) (fs : List Forest) (rest : Forest)
-    → acted (node g.Primary (identifier x (arguments l done)) (row g.Selected fs done)) rest ≡ identifier x (arguments l (node g.AfterHead (row g.Selected fs rest) done))
+    → acted (node g.Primary (identifier x (arguments l done)) (row g.Selection fs done)) rest ≡ identifier x (arguments l (node g.AfterFirstOperand (row g.Selection fs rest) done))
 acted_named x l fs rest =
-    ap (λ z. leaf x.token.0 (k.Identifier x.name) (joined (arguments l done) (node g.AfterHead z done))) (joined_row g.Selected fs rest)
-    ∙ ap (leaf x.token.0 (k.Identifier x.name)) (joined_arguments l (node g.AfterHead (row g.Selected fs rest) done))
+    ap (λ z. leaf x.token.0 (k.Identifier x.name) (joined (arguments l done) (node g.AfterFirstOperand z done))) (joined_row g.Selection fs rest)
+    ∙ ap (leaf x.token.0 (k.Identifier x.name)) (joined_arguments l (node g.AfterFirstOperand (row g.Selection fs rest) done))

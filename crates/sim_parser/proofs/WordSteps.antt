@@ -37,13 +37,13 @@ abbrev semicolon_row : List Symbol
 semicolon_row = Mark t.Semicolon ∷ []
 
 closing : (a : Terminal) (v w : Bool) → is a t.Semicolon ≡ v → is a t.End ≡ w
-    → right_side g.Closing a ≡ (if v || false then Some semicolon_row else (if w || false then Some [] else None))
+    → right_side g.AfterDeclaration a ≡ (if v || false then Some semicolon_row else (if w || false then Some [] else None))
 unfolding right_side
 closing a v w h e =
     ap (λ x. if x || false then Some semicolon_row else (if is a t.End || false then Some [] else None)) h
     ∙ ap (λ x. if v || false then Some semicolon_row else (if x || false then Some [] else None)) e
 
-closed : {ws : List Token} {d i m j : ℕ} → ReadsTo ws d (Of Once g.Closing) i (node g.Closing done) m → ReadsTo ws d (Any t.Semicolon) m (λ f. f) j → Closes ws d i (Ok j)
+closed : {ws : List Token} {d i m j : ℕ} → ReadsTo ws d (Of Once g.AfterDeclaration) i (node g.AfterDeclaration done) m → ReadsTo ws d (Any t.Semicolon) m (λ f. f) j → Closes ws d i (Ok j)
 closed c r = (
   omega (arith, c.ahead, r.ahead),
   r.within,
@@ -53,11 +53,11 @@ closed c r = (
 
 pub closed-by-semicolon : (ws : List Token) (d i m j : ℕ) → (is (terminal_at ws i) t.Semicolon ≡ true) × (m ≡ i + 1) × (m < length ws) → i < length ws → ReadsTo ws d (Any t.Semicolon) m (λ f. f) j → Closes ws d i (Ok j)
 closed-by-semicolon ws d i m j w within r =
-    closed (once (gone (to (opened ws d i g.Closing semicolon_row refl (closing (terminal_at ws i) true (is (terminal_at ws i) t.End) w.0 refl) within) (marked w)) done refl)) r
+    closed (once (gone (to (opened ws d i g.AfterDeclaration semicolon_row refl (closing (terminal_at ws i) true (is (terminal_at ws i) t.End) w.0 refl) within) (marked w)) done refl)) r
 
 pub closed-by-end : (ws : List Token) (d i : ℕ) → is (terminal_at ws i) t.Semicolon ≡ false → is (terminal_at ws i) t.End ≡ true → i < length ws → Closes ws d i (Ok i)
 closed-by-end ws d i n e within =
-    closed (once (gone (opened ws d i g.Closing [] refl (closing (terminal_at ws i) false true n e) within) done refl))
+    closed (once (gone (opened ws d i g.AfterDeclaration [] refl (closing (terminal_at ws i) false true n e) within) done refl))
     (skips-end (λ s. start d (Any t.Semicolon ∷ s) i) n (omega arith) within)
 
 pub not-closed : (ws : List Token) (d i : ℕ) → is (terminal_at ws i) t.Semicolon ≡ false → is (terminal_at ws i) t.End ≡ false → Closes ws d i (Err (stop.Unexpected i))

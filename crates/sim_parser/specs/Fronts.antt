@@ -25,7 +25,7 @@ begins_specification = t.Procedure ∷ types
 
 -- identifiers with a semicolon behind them
 abbrev pub names_row : List Symbol
-names_row = Of Once g.Ids ∷ Mark t.Semicolon ∷ []
+names_row = Of Once g.Identifiers ∷ Mark t.Semicolon ∷ []
 
 -- Inside a part that is read from i on, the symbols s are left from j on, and stand puts what was read in front of their derivation. j is a token.
 pub record ReadsFront (ws : List Token) (d : ℕ) (n : Part) (i : ℕ) (stand : Forest → Forest) (s : List Symbol) (j : ℕ) : Type 0 where

@@ -48,31 +48,31 @@ GivesAll ws d s i view (Err e) = Stops ws d s i e
 
 -- the rows of statements, behind what chooses them
 abbrev pub identified_row : List Symbol
-identified_row = Kept (just t.Identifier) ∷ Of Maybe g.Args ∷ Of Once g.AfterHead ∷ []
+identified_row = Kept (just t.Identifier) ∷ Of Maybe g.Arguments ∷ Of Once g.AfterFirstOperand ∷ []
 
 abbrev pub operation_row : List Symbol
 operation_row = Of Once g.Postfix ∷ Of Many g.Assigned ∷ []
 
 abbrev pub if_row : List Symbol
-if_row = Kept (just t.If) ∷ Of Once g.Expr ∷ Mark t.Then ∷ Of Once g.Stmt ∷ Of Maybe g.ElseBranch ∷ []
+if_row = Kept (just t.If) ∷ Of Once g.Expression ∷ Mark t.Then ∷ Of Once g.Statement ∷ Of Maybe g.ElseBranch ∷ []
 
 abbrev pub body_row : List Symbol
-body_row = Mark t.Do ∷ Of Once g.Stmt ∷ []
+body_row = Mark t.Do ∷ Of Once g.Statement ∷ []
 
 abbrev pub while_row : List Symbol
-while_row = Kept (just t.While) ∷ Of Once g.Expr ∷ body_row
+while_row = Kept (just t.While) ∷ Of Once g.Expression ∷ body_row
 
 abbrev pub for_row : List Symbol
 for_row = Kept (just t.For) ∷ Kept (just t.Identifier) ∷ Of Once g.ForList ∷ body_row
 
 abbrev pub inspect_row : List Symbol
-inspect_row = Kept (just t.Inspect) ∷ Of Once g.Expr ∷ Of Once g.Arms ∷ Of Maybe g.OtherwiseBranch ∷ []
+inspect_row = Kept (just t.Inspect) ∷ Of Once g.Expression ∷ Of Once g.Arms ∷ Of Maybe g.OtherwiseBranch ∷ []
 
 abbrev pub activation_words : List Terminal
 activation_words = t.Activate ∷ t.Reactivate ∷ []
 
 abbrev pub activation_row : List Symbol
-activation_row = Kept activation_words ∷ Of Once g.Expr ∷ Of Maybe g.Timing ∷ []
+activation_row = Kept activation_words ∷ Of Once g.Expression ∷ Of Maybe g.Timing ∷ []
 
 -- what begins a statement that is not empty
 abbrev pub begins : List Terminal
@@ -85,12 +85,12 @@ begins_declaration = t.Procedure ∷ t.Class ∷ types
 -- the inside of a statement that its next token begins
 pub record ReadsInside (ws : List Token) (d : ℕ) (i : ℕ) (f : Forest) (j : ℕ) : Type 0 where
   pub right : List Symbol
-  pub begins : g.right_side g.Stmt (terminal_at ws i) ≡ Some right
+  pub begins : g.right_side g.Statement (terminal_at ws i) ≡ Some right
   pub all : ReadsAll ws d right i f j
 
 abbrev pub GivesInside : List Token → ℕ → ℕ → Result (Stmt × ℕ) Stop → Type 0
 GivesInside ws d i (Ok r) = ReadsInside ws d i (stmt_shown r.0) r.1
-GivesInside ws d i (Err e) = (right : List Symbol) → g.right_side g.Stmt (terminal_at ws i) ≡ Some right → Stops ws d right i e
+GivesInside ws d i (Err e) = (right : List Symbol) → g.right_side g.Statement (terminal_at ws i) ≡ Some right → Stops ws d right i e
 
 -- A branch of a statement that may be left out: its word, its part, what it stands for.
 abbrev pub branch_word : Branch → Terminal
@@ -103,7 +103,7 @@ branch_part branch.Otherwise = g.OtherwiseBranch
 
 abbrev pub branch_shown : Branch → Option (Box Stmt Global) → Forest
 branch_shown b None = done
-branch_shown b (Some s) = node (branch_part b) (node g.Stmt (stmt_shown s.value) done) done
+branch_shown b (Some s) = node (branch_part b) (node g.Statement (stmt_shown s.value) done) done
 
 -- Declarations. One without a prefix is read as a part; behind the type of a typed one the rest is.
 pub record ReadsDeclared (ws : List Token) (d : ℕ) (n : Part) (i : ℕ) (stand : Forest → Forest) (shown : Declared) (j : ℕ) : Type 0 where
@@ -112,18 +112,18 @@ pub record ReadsDeclared (ws : List Token) (d : ℕ) (n : Part) (i : ℕ) (stand
   pub part : ReadsPart ws d n i inside j
 
 abbrev pub GivesDecl : List Token → ℕ → ℕ → Result (Decl × ℕ) Stop → Type 0
-GivesDecl ws d i (Ok r) = ReadsDeclared ws d g.Decl i (λ f. f) (decl_shown r.0) r.1
-GivesDecl ws d i (Err e) = Stops ws d (one g.Decl) i e
+GivesDecl ws d i (Ok r) = ReadsDeclared ws d g.Declaration i (λ f. f) (decl_shown r.0) r.1
+GivesDecl ws d i (Err e) = Stops ws d (one g.Declaration) i e
 
 abbrev pub GivesTyped : TypeName → List Token → ℕ → ℕ → Result (Decl × ℕ) Stop → Type 0
-GivesTyped name ws d i (Ok r) = ReadsDeclared ws d g.Typed i (λ f. node g.TypeName (type_shown name) (node g.Typed f done)) (decl_shown r.0) r.1
-GivesTyped name ws d i (Err e) = Stops ws d (one g.Typed) i e
+GivesTyped name ws d i (Ok r) = ReadsDeclared ws d g.TypedDeclaration i (λ f. node g.TypeName (type_shown name) (node g.TypedDeclaration f done)) (decl_shown r.0) r.1
+GivesTyped name ws d i (Err e) = Stops ws d (one g.TypedDeclaration) i e
 
 -- declarations in front of what follows them in their block
 abbrev pub declared : List Declared → Forest → Forest
 declared [] rest = rest
-declared (Plain f ∷ ds) rest = node g.Decl f (node g.Closing done (node g.Block (declared ds rest) done))
-declared (Prefixed x i f ∷ ds) rest = identifier x (node g.AfterId (leaf i k.Class (node g.Cls f (node g.Closing done (node g.Block (declared ds rest) done)))) done)
+declared (Plain f ∷ ds) rest = node g.Declaration f (node g.AfterDeclaration done (node g.Block (declared ds rest) done))
+declared (Prefixed x i f ∷ ds) rest = identifier x (node g.AfterIdentifier (leaf i k.Class (node g.Class f (node g.AfterDeclaration done (node g.Block (declared ds rest) done)))) done)
 
 -- the block from i on is these declarations and then the block from j on
 pub record ReadsDeclarations (ws : List Token) (d : ℕ) (i : ℕ) (ds : List Declared) (j : ℕ) : Type 0 where
@@ -149,10 +149,10 @@ GivesDeclarations ws d i (Err e) = Stops ws d (one g.Block) i e
 -- statements with semicolons between them: the first, and a row of further ones
 abbrev pub statement_list : List Forest → Forest → Forest
 statement_list [] rest = rest
-statement_list (f ∷ fs) rest = node g.Stmt f (row g.NextStmt (map next_statement fs) rest)
+statement_list (f ∷ fs) rest = node g.Statement f (row g.NextStatement (map next_statement fs) rest)
 
 abbrev pub statements_then : List Symbol → List Symbol
-statements_then s = Of Once g.Stmt ∷ Of Many g.NextStmt ∷ s
+statements_then s = Of Once g.Statement ∷ Of Many g.NextStatement ∷ s
 
 pub record ReadsStatements (ws : List Token) (d : ℕ) (i : ℕ) (fs : List Forest) (j : ℕ) : Type 0 where
   pub reads : (s : List Symbol) (f : Forest) (m : ℕ) → Reads limit ws d s j f m → Reads limit ws d (statements_then s) i (statement_list fs f) m
@@ -166,14 +166,14 @@ GivesStatements ws d i (Err e) = (s : List Symbol) → Stops ws d (statements_th
 
 -- what ends a declaration, and the semicolons behind it
 abbrev pub Closes : List Token → ℕ → ℕ → Result ℕ Stop → Type 0
-Closes ws d i (Ok j) = (i ≤ j) × (j < length ws) × ((s : List Symbol) (f : Forest) (m : ℕ) → Reads limit ws d s j f m → Reads limit ws d (Of Once g.Closing ∷ Any t.Semicolon ∷ s) i (node g.Closing done f) m)
-    × ((s : List Symbol) (e : Stop) → Stops ws d s j e → Stops ws d (Of Once g.Closing ∷ Any t.Semicolon ∷ s) i e)
-Closes ws d i (Err e) = (s : List Symbol) → Stops ws d (Of Once g.Closing ∷ s) i e
+Closes ws d i (Ok j) = (i ≤ j) × (j < length ws) × ((s : List Symbol) (f : Forest) (m : ℕ) → Reads limit ws d s j f m → Reads limit ws d (Of Once g.AfterDeclaration ∷ Any t.Semicolon ∷ s) i (node g.AfterDeclaration done f) m)
+    × ((s : List Symbol) (e : Stop) → Stops ws d s j e → Stops ws d (Of Once g.AfterDeclaration ∷ Any t.Semicolon ∷ s) i e)
+Closes ws d i (Err e) = (s : List Symbol) → Stops ws d (Of Once g.AfterDeclaration ∷ s) i e
 
 -- What parse answers: the tree that the grammar gives, or the first bad token, or the first that nests too deeply, before which none is bad.
 abbrev pub Parses : List Token → Result Program SyntaxRefusal → Type 0
 Parses ws (Ok p) = IsTree ws p
-Parses ws (Err (refusal.Broken rule.Y1 k)) = Fails limit ws 0 (one g.Program) 0 (Unexpected k.0) × IsFirstBad ws (one g.Program) 0 k.0
-Parses ws (Err (refusal.Broken rule.Y2 k)) = Fails limit ws 0 (one g.Program) 0 (TooDeep k.0) × Begins ws (one g.Program) 0 k.0
+Parses ws (Err (refusal.Broken rule.UnexpectedToken k)) = Fails limit ws 0 (one g.Program) 0 (Unexpected k.0) × IsFirstBad ws (one g.Program) 0 k.0
+Parses ws (Err (refusal.Broken rule.NestedTooDeeply k)) = Fails limit ws 0 (one g.Program) 0 (TooDeep k.0) × Begins ws (one g.Program) 0 k.0
 Parses ws (Err (refusal.Broken _ k)) = ⊥
 Parses ws (Err refusal.Memory) = Unit {0}

@@ -14,7 +14,7 @@ use sim_base::{Token, TokenKind};
 use sim_expr_parser::{
     LIMIT, Stop, eat, expect, expression, identifier_at, leading_sign, token_no,
 };
-use sim_tree::{Bounds, Constant, Segment, Terminal, Variable};
+use sim_tree::{ArraySegment, Bounds, Constant, Terminal, Variable};
 use std::alloc::Global;
 
 /// The variables and constants of a type, at least one, with commas between them, and the index after them.
@@ -25,7 +25,7 @@ pub fn variables(
 ) -> Result<(Vec<Variable>, usize), Stop>
     requires source { IsSource tokens.now }
     requires within { start < length tokens.now }
-    ensures { (d : ℕ) → GivesAll tokens.now d (Of Once g.Var ∷ Of Many g.NextVar ∷ []) start (λ v. variables_shown v.items) result }
+    ensures { (d : ℕ) → GivesAll tokens.now d (Of Once g.Variable ∷ Of Many g.NextVariable ∷ []) start (λ v. variables_shown v.items) result }
 {
     let mut list = Vec::new(alloc);
     let (first, mut at) = variable(alloc, tokens, start)?;
@@ -42,7 +42,7 @@ pub fn variables(
 fn variable(alloc: Global, tokens: &[Token], at: usize) -> Result<(Variable, usize), Stop>
     requires source { IsSource tokens.now }
     requires within { at < length tokens.now }
-    ensures { (d : ℕ) → GivesPart tokens.now d g.Var at variable_shown result }
+    ensures { (d : ℕ) → GivesPart tokens.now d g.Variable at variable_shown result }
 {
     let (name, next) = identifier_at(alloc, tokens, at)?;
     let Some(next) = eat(tokens, next, Terminal::Equal) else {
@@ -90,11 +90,11 @@ pub fn segments(
     tokens: &[Token],
     start: usize,
     depth: u32,
-) -> Result<(Vec<Segment>, usize), Stop>
+) -> Result<(Vec<ArraySegment>, usize), Stop>
     requires source { IsSource tokens.now }
     requires within { start < length tokens.now }
     requires shallow { depth ≤ LIMIT }
-    ensures { GivesAll tokens.now depth (Of Once g.Seg ∷ Of Many g.NextSeg ∷ []) start (λ v. segments_shown v.items) result }
+    ensures { GivesAll tokens.now depth (Of Once g.ArraySegment ∷ Of Many g.NextArraySegment ∷ []) start (λ v. segments_shown v.items) result }
 {
     let mut list = Vec::new(alloc);
     let (first, mut at) = segment(alloc, tokens, start, depth)?;
@@ -108,17 +108,22 @@ pub fn segments(
 }
 
 // Arrays with the same bounds.
-fn segment(alloc: Global, tokens: &[Token], at: usize, depth: u32) -> Result<(Segment, usize), Stop>
+fn segment(
+    alloc: Global,
+    tokens: &[Token],
+    at: usize,
+    depth: u32,
+) -> Result<(ArraySegment, usize), Stop>
     requires source { IsSource tokens.now }
     requires within { at < length tokens.now }
     requires shallow { depth ≤ LIMIT }
-    ensures { GivesPart tokens.now depth g.Seg at segment_shown result }
+    ensures { GivesPart tokens.now depth g.ArraySegment at segment_shown result }
 {
     let (names, next) = identifiers(alloc, tokens, at)?;
     let next = expect(tokens, next, Terminal::Open)?;
     let (bounds, next) = bounds_list(alloc, tokens, next, depth)?;
     let end = expect(tokens, next, Terminal::Close)?;
-    Ok((Segment { names, bounds }, end))
+    Ok((ArraySegment { names, bounds }, end))
 }
 
 // The bounds of each dimension, at least one.

@@ -61,7 +61,7 @@ fn for_elements(
     requires source { IsSource tokens.now }
     requires within { start < length tokens.now }
     requires shallow { depth ≤ LIMIT }
-    ensures { GivesAll tokens.now depth (Of Once g.Felem ∷ Of Many g.NextFelem ∷ []) start (λ v. for_elements_shown v.items) result }
+    ensures { GivesAll tokens.now depth (Of Once g.ForElement ∷ Of Many g.NextForElement ∷ []) start (λ v. for_elements_shown v.items) result }
 {
     let mut list = Vec::new(alloc);
     let (first, mut at) = for_element(alloc, tokens, start, depth)?;
@@ -84,7 +84,7 @@ fn for_element(
     requires source { IsSource tokens.now }
     requires within { at < length tokens.now }
     requires shallow { depth ≤ LIMIT }
-    ensures { GivesPart tokens.now depth g.Felem at for_element_shown result }
+    ensures { GivesPart tokens.now depth g.ForElement at for_element_shown result }
 {
     let (value, next) = expression(alloc, tokens, at, depth)?;
     let token = token_no(tokens, next);
@@ -127,7 +127,7 @@ fn reference_elements(
     requires source { IsSource tokens.now }
     requires within { start < length tokens.now }
     requires shallow { depth ≤ LIMIT }
-    ensures { GivesAll tokens.now depth (Of Once g.Relem ∷ Of Many g.NextRelem ∷ []) start (λ v. reference_elements_shown v.items) result }
+    ensures { GivesAll tokens.now depth (Of Once g.ReferenceElement ∷ Of Many g.NextReferenceElement ∷ []) start (λ v. reference_elements_shown v.items) result }
 {
     let mut list = Vec::new(alloc);
     let (first, mut at) = reference_element(alloc, tokens, start, depth)?;
@@ -150,7 +150,7 @@ fn reference_element(
     requires source { IsSource tokens.now }
     requires within { at < length tokens.now }
     requires shallow { depth ≤ LIMIT }
-    ensures { GivesPart tokens.now depth g.Relem at reference_element_shown result }
+    ensures { GivesPart tokens.now depth g.ReferenceElement at reference_element_shown result }
 {
     let (value, next) = expression(alloc, tokens, at, depth)?;
     let token = token_no(tokens, next);

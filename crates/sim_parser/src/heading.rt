@@ -17,7 +17,7 @@ use sim_base::{Token, TokenNo};
 use sim_expr_parser::{Stop, eat, expect, terminal_at_token, token_no};
 use sim_tree::{
     Identifier, Mode, ModePart, Protection, Specification, Specifier, Terminal, TypeName,
-    VirtualSpec,
+    VirtualSpecification,
 };
 use std::alloc::Global;
 
@@ -110,7 +110,7 @@ fn specifications(
 ) -> Result<(Vec<Specification>, usize), Stop>
     requires source { IsSource tokens.now }
     requires within { start < length tokens.now }
-    ensures { (d : ℕ) → GivesSome tokens.now d g.Spec start specification_shown result }
+    ensures { (d : ℕ) → GivesSome tokens.now d g.Specification start specification_shown result }
 {
     let mut list = Vec::new(alloc);
     let (first, mut at) = specification(alloc, tokens, start)?;
@@ -126,7 +126,7 @@ fn specifications(
 fn specification(alloc: Global, tokens: &[Token], at: usize) -> Result<(Specification, usize), Stop>
     requires source { IsSource tokens.now }
     requires within { at < length tokens.now }
-    ensures gives { (d : ℕ) → GivesPart tokens.now d g.Spec at specification_shown result }
+    ensures gives { (d : ℕ) → GivesPart tokens.now d g.Specification at specification_shown result }
     ensures ahead { IfOk result (λ r. at < r.1) }
 {
     let (specifier, next) = specifier(alloc, tokens, at)?;
@@ -139,7 +139,7 @@ fn specification(alloc: Global, tokens: &[Token], at: usize) -> Result<(Specific
 fn specifier(alloc: Global, tokens: &[Token], at: usize) -> Result<(Specifier, usize), Stop>
     requires source { IsSource tokens.now }
     requires within { at < length tokens.now }
-    ensures { (d : ℕ) → GivesFront tokens.now d g.Spec at specifier_shown names_row result }
+    ensures { (d : ℕ) → GivesFront tokens.now d g.Specification at specifier_shown names_row result }
 {
     let token = token_no(tokens, at);
     if let Some(next) = eat(tokens, at, Terminal::Procedure) {
@@ -171,7 +171,7 @@ pub fn protections(
 ) -> Result<(Vec<Protection>, usize), Stop>
     requires source { IsSource tokens.now }
     requires within { start < length tokens.now }
-    ensures { (d : ℕ) → GivesRow tokens.now d g.Prot start (λ v. map protection_shown v.items) result }
+    ensures { (d : ℕ) → GivesRow tokens.now d g.Protection start (λ v. map protection_shown v.items) result }
 {
     let mut at = start;
     let mut list = Vec::new(alloc);
@@ -199,8 +199,8 @@ struct ProtectingWords {
 fn protecting_words(tokens: &[Token], at: usize) -> Option<(ProtectingWords, usize)>
     requires source { IsSource tokens.now }
     requires within { at < length tokens.now }
-    ensures { MatchOption result (right_side g.Prot (terminal_at tokens.now at) ≡ None)
-        (λ r. (d : ℕ) → ReadsFront tokens.now d g.Prot at (protecting r.0.hidden r.0.protected) names_row r.1) }
+    ensures { MatchOption result (right_side g.Protection (terminal_at tokens.now at) ≡ None)
+        (λ r. (d : ℕ) → ReadsFront tokens.now d g.Protection at (protecting r.0.hidden r.0.protected) names_row r.1) }
 {
     let (hidden, next) = word(tokens, at, Terminal::Hidden);
     let (protected, end) = word(tokens, next, Terminal::Protected);
@@ -230,10 +230,10 @@ pub fn virtuals(
     alloc: Global,
     tokens: &[Token],
     at: usize,
-) -> Result<(Vec<VirtualSpec>, usize), Stop>
+) -> Result<(Vec<VirtualSpecification>, usize), Stop>
     requires source { IsSource tokens.now }
     requires within { at < length tokens.now }
-    ensures { (d : ℕ) → GivesTo tokens.now d (Of Maybe g.Virt) at (λ v. virtuals_shown v.items) result }
+    ensures { (d : ℕ) → GivesTo tokens.now d (Of Maybe g.Virtuals) at (λ v. virtuals_shown v.items) result }
 {
     let Some(next) = eat(tokens, at, Terminal::Virtual) else {
         return Ok((Vec::new(alloc), at));
@@ -247,10 +247,10 @@ fn virtual_list(
     alloc: Global,
     tokens: &[Token],
     start: usize,
-) -> Result<(Vec<VirtualSpec>, usize), Stop>
+) -> Result<(Vec<VirtualSpecification>, usize), Stop>
     requires source { IsSource tokens.now }
     requires within { start < length tokens.now }
-    ensures { (d : ℕ) → GivesSome tokens.now d g.Vspec start virtual_shown result }
+    ensures { (d : ℕ) → GivesSome tokens.now d g.VirtualSpecification start virtual_shown result }
 {
     let mut list = Vec::new(alloc);
     let (first, mut at) = virtual_procedures(alloc, tokens, start)?;
@@ -268,10 +268,10 @@ fn virtual_procedures(
     alloc: Global,
     tokens: &[Token],
     at: usize,
-) -> Result<(VirtualSpec, usize), Stop>
+) -> Result<(VirtualSpecification, usize), Stop>
     requires source { IsSource tokens.now }
     requires within { at < length tokens.now }
-    ensures gives { (d : ℕ) → GivesPart tokens.now d g.Vspec at virtual_shown result }
+    ensures gives { (d : ℕ) → GivesPart tokens.now d g.VirtualSpecification at virtual_shown result }
     ensures ahead { IfOk result (λ r. at < r.1) }
 {
     let (result, next) = result_type(alloc, tokens, at)?;
@@ -280,7 +280,7 @@ fn virtual_procedures(
     let (names, next) = identifiers(alloc, tokens, next)?;
     let end = expect(tokens, next, Terminal::Semicolon)?;
     Ok((
-        VirtualSpec {
+        VirtualSpecification {
             result,
             token,
             names,
@@ -297,7 +297,7 @@ fn result_type(
 ) -> Result<(Option<TypeName>, usize), Stop>
     requires source { IsSource tokens.now }
     requires within { at < length tokens.now }
-    ensures { (d : ℕ) → GivesFront tokens.now d g.Vspec at typed (Kept (just t.Procedure) ∷ names_row) result }
+    ensures { (d : ℕ) → GivesFront tokens.now d g.VirtualSpecification at typed (Kept (just t.Procedure) ∷ names_row) result }
 {
     if terminal_at_token(tokens, at) == Terminal::Procedure {
         return Ok((None, at));

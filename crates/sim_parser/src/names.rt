@@ -48,7 +48,7 @@ pub fn identifiers(
 ) -> Result<(Vec<Identifier>, usize), Stop>
     requires source { IsSource tokens.now }
     requires within { start < length tokens.now }
-    ensures { (d : ℕ) → GivesPart tokens.now d g.Ids start (λ v. ids v.items) result }
+    ensures { (d : ℕ) → GivesPart tokens.now d g.Identifiers start (λ v. ids v.items) result }
 {
     let mut list = Vec::new(alloc);
     let (first, mut at) = identifier_at(alloc, tokens, start)?;

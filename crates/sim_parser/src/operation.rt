@@ -54,7 +54,7 @@ fn assignment_at(tokens: &[Token], at: usize) -> Option<(Assignment, usize)>
 
 /// A primary with what is taken of it.
 pub fn operand(alloc: Global, primary: Expr, selectors: Vec<Selector>) -> Result<Expr, AllocError>
-    ensures { (shown primary).level ≡ 0 → IfOk result (λ e. raise 1 (shown e) ≡ node g.Primary (raise 0 (shown primary)) (row g.Selected (map selector_shown selectors.items) done)) }
+    ensures { (shown primary).level ≡ 0 → IfOk result (λ e. raise 1 (shown e) ≡ node g.Primary (raise 0 (shown primary)) (row g.Selection (map selector_shown selectors.items) done)) }
 {
     if selectors.is_empty() {
         return Ok(primary);

@@ -28,11 +28,11 @@ pub fn parse(alloc: Global, tokens: &[Token]) -> Result<Program, SyntaxRefusal>
     match program(alloc, tokens) {
         Ok(program) => Ok(program),
         Err(Stop::Unexpected(bad)) => Err(SyntaxRefusal::Broken {
-            rule: Rule::Y1,
+            rule: Rule::UnexpectedToken,
             token: token_no(tokens, bad),
         }),
         Err(Stop::TooDeep(deep)) => Err(SyntaxRefusal::Broken {
-            rule: Rule::Y2,
+            rule: Rule::NestedTooDeeply,
             token: token_no(tokens, deep),
         }),
         Err(Stop::Memory) => Err(SyntaxRefusal::Memory),

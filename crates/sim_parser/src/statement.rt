@@ -67,7 +67,7 @@ pub fn statement(
     requires source { IsSource tokens.now }
     requires within { at < length tokens.now }
     requires shallow { depth ≤ LIMIT }
-    ensures { GivesPart tokens.now depth g.Stmt at stmt_shown result }
+    ensures { GivesPart tokens.now depth g.Statement at stmt_shown result }
 {
     if !begins_statement(terminal_at_token(tokens, at)) {
         let token = token_no(tokens, at);
@@ -247,7 +247,7 @@ fn body(alloc: Global, tokens: &[Token], at: usize, depth: u32) -> Result<(Stmt,
     requires source { IsSource tokens.now }
     requires within { at < length tokens.now }
     requires shallow { depth ≤ LIMIT }
-    ensures { GivesAll tokens.now depth body_row at (λ s. node g.Stmt (stmt_shown s) done) result }
+    ensures { GivesAll tokens.now depth body_row at (λ s. node g.Statement (stmt_shown s) done) result }
 {
     let next = expect(tokens, at, Terminal::Do)?;
     statement(alloc, tokens, next, depth)
@@ -559,7 +559,7 @@ fn procedure(
     requires source { IsSource tokens.now }
     requires within { at < length tokens.now }
     requires shallow { depth ≤ LIMIT }
-    ensures { GivesPart tokens.now depth g.Proc at procedure_shown result }
+    ensures { GivesPart tokens.now depth g.Procedure at procedure_shown result }
 {
     let (name, next) = identifier_at(alloc, tokens, at)?;
     let (heading, next) = heading_at(alloc, tokens, next)?;
@@ -588,7 +588,7 @@ fn class(alloc: Global, tokens: &[Token], at: usize, depth: u32) -> Result<(Clas
     requires source { IsSource tokens.now }
     requires within { at < length tokens.now }
     requires shallow { depth ≤ LIMIT }
-    ensures { GivesPart tokens.now depth g.Cls at class_shown result }
+    ensures { GivesPart tokens.now depth g.Class at class_shown result }
 {
     let (name, next) = identifier_at(alloc, tokens, at)?;
     let (heading, next) = heading_at(alloc, tokens, next)?;

@@ -71,7 +71,7 @@ solid (Of Many n ∷ s) = solid s
 solid _ = false
 
 rows_solid : (n : Part) → (not (is_counted n) || each_row (rows n) (λ r. is_empty r || solid r)) ≡ true
-rows_solid g.Expr = refl
+rows_solid g.Expression = refl
 rows_solid _ = refl
 
 module _ {most : ℕ} {ws : List Token} where

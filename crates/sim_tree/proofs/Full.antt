@@ -23,14 +23,14 @@ solid places (Of Maybe n ∷ s) = solid places s
 solid places (Of Many n ∷ s) = solid places s
 
 abbrev fitting : Part → List Symbol → Bool
-fitting g.Closing s = true
+fitting g.AfterDeclaration s = true
 fitting g.Heading s = true
-fitting g.AfterHead s = true
-fitting g.Stmt s = solid true s
+fitting g.AfterFirstOperand s = true
+fitting g.Statement s = solid true s
 fitting _ s = solid false s
 
 rows_fit : (n : Part) → each_row (rows n) (fitting n) ≡ true
-rows_fit g.Expr = refl
+rows_fit g.Expression = refl
 rows_fit _ = refl
 
 module _ {most : ℕ} {ws : List Token} where
@@ -46,7 +46,7 @@ module _ {most : ℕ} {ws : List Token} where
   token e (reads-skip {t = Maybe} b may r) = token e r
   token e (reads-skip {t = Many} b may r) = token e r
 
-  placed : {d i j : ℕ} {s : List Symbol} {f : Forest} → solid true s ≡ true → Reads most ws d s i f j → has_token g.Stmt f ≡ true
+  placed : {d i j : ℕ} {s : List Symbol} {f : Forest} → solid true s ≡ true → Reads most ws d s i f j → has_token g.Statement f ≡ true
   placed e reads-done = absurd (false≢true e)
   placed e (reads-kept h r) = refl
   placed e (reads-mark h r) = placed e r
@@ -59,10 +59,10 @@ module _ {most : ℕ} {ws : List Token} where
   placed e (reads-skip {t = Many} b may r) = placed e r
 
   part_token : {d i j : ℕ} (n : Part) {s : List Symbol} {f : Forest} → fitting n s ≡ true → Reads most ws d s i f j → has_token n f ≡ true
-  part_token g.Closing e r = refl
+  part_token g.AfterDeclaration e r = refl
   part_token g.Heading e r = refl
-  part_token g.AfterHead e r = refl
-  part_token g.Stmt e r = placed e r
+  part_token g.AfterFirstOperand e r = refl
+  part_token g.Statement e r = placed e r
   part_token _ e r = token e r
 
 right_fits : (n : Part) (ws : List Token) (i : ℕ) (right : List Symbol) → right_side n (terminal_at ws i) ≡ Some right → fitting n right ≡ true

@@ -12,19 +12,19 @@ use Rattle.sim_tree.proofs.Completion.{row_get, left_true, right_true}
 
 -- the parts that a kept token begins
 abbrev leading : Part → Bool
-leading g.Expr = true
-leading g.Simple = true
+leading g.Expression = true
+leading g.SimpleExpression = true
 leading g.AndThen = true
-leading g.Eqv = true
-leading g.Imp = true
-leading g.Disj = true
-leading g.Conj = true
-leading g.Neg = true
-leading g.NotMark = true
-leading g.Rel = true
-leading g.Cat = true
+leading g.Equivalence = true
+leading g.Implication = true
+leading g.Disjunction = true
+leading g.Conjunction = true
+leading g.Negation = true
+leading g.NotSign = true
+leading g.Relation = true
+leading g.Concatenation = true
 leading g.Sum = true
-leading g.Sign = true
+leading g.LeadingSign = true
 leading g.Term = true
 leading g.Factor = true
 leading g.Postfix = true
@@ -40,7 +40,7 @@ leads (Of Many n ∷ s) = leading n && leads s
 leads (_ ∷ s) = false
 
 rows_lead : (n : Part) → (not (leading n) || each_row (rows n) leads) ≡ true
-rows_lead g.Expr = refl
+rows_lead g.Expression = refl
 rows_lead _ = refl
 
 inside_leads : (n : Part) (ws : List Token) (i : ℕ) (right : List Symbol) → leading n ≡ true → right_side n (terminal_at ws i) ≡ Some right → leads right ≡ true
@@ -62,5 +62,5 @@ module _ {most : ℕ} {ws : List Token} where
   first_kept e (reads-skip {t = Maybe} {n = n} {s = s} b may r) = first_kept (right_true (leading n) (leads s) e) r
   first_kept e (reads-skip {t = Many} {n = n} {s = s} b may r) = first_kept (right_true (leading n) (leads s) e) r
 
-pub expr_leads : {most : ℕ} {ws : List Token} {d i j : ℕ} {right : List Symbol} {f : Forest} → right_side g.Expr (terminal_at ws i) ≡ Some right → Reads most ws d right i f j → first_leaf f ≡ Some i
-expr_leads {ws = ws} {i = i} {right = right} b r = first_kept (inside_leads g.Expr ws i right refl b) r
+pub expr_leads : {most : ℕ} {ws : List Token} {d i j : ℕ} {right : List Symbol} {f : Forest} → right_side g.Expression (terminal_at ws i) ≡ Some right → Reads most ws d right i f j → first_leaf f ≡ Some i
+expr_leads {ws = ws} {i = i} {right = right} b r = first_kept (inside_leads g.Expression ws i right refl b) r

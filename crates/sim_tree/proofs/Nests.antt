@@ -153,7 +153,7 @@ pub nests_argument : {s : Shown} {a : ℕ} → NestsInside s a → Nests (argume
 nests_argument {s} {a} h = record {
   known = λ full.
       let f = whole s in
-      let part : Nests (node g.Expr f done) (capped (a + 1)) =
+      let part : Nests (node g.Expression f done) (capped (a + 1)) =
       counted refl (no_token (is_bare f) (token_of (not (is_bare f)) (is_full f) true full)) (λ inner. raised 14 s a (omega arith) h (no_token (is_bare f) (token_of (not (is_bare f)) (is_full f) true full)) inner) in
       part.known full;
 }
@@ -207,30 +207,30 @@ in_operated l w m {s} {a = a} {b = b} le e h (largest-more one others) =
 
 pub in_negated : (tokens : List TokenNo) {s : Shown} {a : ℕ} → NestsInside s a → NestsInside (negated tokens s) a
 in_negated [] {a = a} h = vacant a
-in_negated (i ∷ is) h = within (flat_row g.NotMark not_mark (i ∷ is) refl (λ x. nests_leaf nests_done) (nests_level 6 (omega arith) h))
+in_negated (i ∷ is) h = within (flat_row g.NotSign not_mark (i ∷ is) refl (λ x. nests_leaf nests_done) (nests_level 6 (omega arith) h))
 
 pub in_summed : (sign : Option LeadingSign) {s : Shown} {fs : List Forest} {a b : ℕ} → NestsInside s a → Largest Nests fs b → NestsInside (summed sign s fs) (max a b)
 in_summed None {a = a} h largest-none = vacant (max a 0)
 in_summed None {b = b} h (largest-more one others) =
-    within (followed (nests_level 3 (omega arith) h) (same (let z : max b 0 ≡ b = omega arith in z) (rows g.Added refl (largest-more one others) nests_done)))
+    within (followed (nests_level 3 (omega arith) h) (same (let z : max b 0 ≡ b = omega arith in z) (rows g.NextTerm refl (largest-more one others) nests_done)))
 in_summed (Some t) {a = a} {b = b} h fits =
-    within (same (let z : max 0 (max a (max b 0)) ≡ max a b = omega arith in z) (nests_node refl (nests_leaf nests_done) (followed (nests_level 3 (omega arith) h) (rows g.Added refl fits nests_done))))
+    within (same (let z : max 0 (max a (max b 0)) ≡ max a b = omega arith in z) (nests_node refl (nests_leaf nests_done) (followed (nests_level 3 (omega arith) h) (rows g.NextTerm refl fits nests_done))))
 
 pub in_multiplied : {s : Shown} {fs : List Forest} {a b : ℕ} → NestsInside s a → Largest Nests fs b → NestsInside (multiplied s fs) (max a b)
 in_multiplied {a = a} h largest-none = vacant (max a 0)
 in_multiplied {b = b} h (largest-more one others) =
-    within (followed (nests_level 2 (omega arith) h) (same (let z : max b 0 ≡ b = omega arith in z) (rows g.Multiplied refl (largest-more one others) nests_done)))
+    within (followed (nests_level 2 (omega arith) h) (same (let z : max b 0 ≡ b = omega arith in z) (rows g.NextFactor refl (largest-more one others) nests_done)))
 
 pub in_selected : {s : Shown} {fs : List Forest} {a b : ℕ} → NestsInside s a → Largest Nests fs b → NestsInside (selected s fs) (max a b)
 in_selected {a = a} h largest-none = vacant (max a 0)
 in_selected {b = b} h (largest-more one others) =
-    within (followed (nests_level 0 (omega arith) h) (same (let z : max b 0 ≡ b = omega arith in z) (rows g.Selected refl (largest-more one others) nests_done)))
+    within (followed (nests_level 0 (omega arith) h) (same (let z : max b 0 ≡ b = omega arith in z) (rows g.Selection refl (largest-more one others) nests_done)))
 
 pub in_arguments : {ss : List Shown} {f : Forest} {a b : ℕ} → Largest (λ s. Nests (argument s)) ss a → Nests f b → Nests (arguments ss f) (max a b)
 in_arguments {b = b} largest-none h = same (let z : b ≡ max 0 b = omega arith in z) h
 in_arguments {b = b} (largest-more {a = x} {b = y} one others) h =
     same (let z : max (max x (max y 0)) b ≡ max (max x y) b = omega arith in z)
-    (nests_node refl (followed one (rows g.NextArg refl (mapped argument (λ s n w. w) others) nests_done)) h)
+    (nests_node refl (followed one (rows g.NextArgument refl (mapped argument (λ s n w. w) others) nests_done)) h)
 
 pub at_argument : {e h : Expr} {a : ℕ} → e ≡ h → Nests (argument (shown e)) a → Nests (argument (shown h)) a
 at_argument {a = a} is x = subst (λ z. Nests (argument (shown z)) a) is x
@@ -278,20 +278,20 @@ deepest-joined (node n inside f) h =
     let z : max x (deepest (joined f h)) ≡ max (max x (deepest f)) (deepest h) = omega (arith, e) in z
 
 -- the statement that a left side or a call begins
-pub nests_acted : (s : Shown) {f : Forest} {a b : ℕ} → NestsInside s a → Nests f b → Nests (node g.Stmt (acted (raise 1 s) f) done) (capped (max a b + 1))
+pub nests_acted : (s : Shown) {f : Forest} {a b : ℕ} → NestsInside s a → Nests f b → Nests (node g.Statement (acted (raise 1 s) f) done) (capped (max a b + 1))
 nests_acted s {f} {a} {b} h rest = go (raise 1 s) (λ bare full. raised 1 s a (omega arith) h bare full)
   where
-    go : (e : Forest) → (is_bare e ≡ false → is_full e ≡ true → a ≡ capped (deepest e)) → Nests (node g.Stmt (acted e f) done) (capped (max a b + 1))
+    go : (e : Forest) → (is_bare e ≡ false → is_full e ≡ true → a ≡ capped (deepest e)) → Nests (node g.Statement (acted e f) done) (capped (max a b + 1))
     go (node g.Primary (leaf i (k.Identifier name) actuals) selected) known =
         counted refl refl (λ full.
-        let one = full_joined actuals (node g.AfterHead (joined selected f) done) full in
+        let one = full_joined actuals (node g.AfterFirstOperand (joined selected f) done) full in
         let two = full_joined selected f (inside_of true (is_full (joined selected f)) true one.1) in
         let x = deepest actuals in
         let y = deepest selected in
         let z = deepest f in
         let left = known refl (all_true true (is_full actuals) (is_full selected) refl one.0 two.0) in
         let right = rest.known two.1 in
-        let deep : deepest (joined actuals (node g.AfterHead (joined selected f) done)) ≡ max x (max (deepest (joined selected f)) 0) = deepest-joined actuals (node g.AfterHead (joined selected f) done) in
+        let deep : deepest (joined actuals (node g.AfterFirstOperand (joined selected f) done)) ≡ max x (max (deepest (joined selected f)) 0) = deepest-joined actuals (node g.AfterFirstOperand (joined selected f) done) in
         let deep2 = deepest-joined selected f in
         omega (arith, left, right, deep, deep2))
     go e known =
@@ -301,7 +301,7 @@ nests_acted s {f} {a} {b} h rest = go (raise 1 s) (λ bare full. raised 1 s a (o
         omega (arith, left, right))
 
 -- the first statement of a block
-pub nests_begun : (f : Forest) {h : Forest} {a b : ℕ} → Nests (node g.Stmt f done) a → Nests h b → Nests (begun f h) (max a b)
+pub nests_begun : (f : Forest) {h : Forest} {a b : ℕ} → Nests (node g.Statement f done) a → Nests h b → Nests (begun f h) (max a b)
 nests_begun (leaf i (k.Identifier name) f) {h} {a} {b} first rest = record {
   known = λ full.
       let inner = inside_of true ((not (is_bare f)) && is_full f && is_full h) true full in
@@ -314,5 +314,5 @@ nests_begun (leaf i (k.Identifier name) f) {h} {a} {b} first rest = record {
 nests_begun f first rest = followed first rest
 
 -- a statement without a token
-pub nests_empty : (i : ℕ) → Nests (node g.Stmt (place i done) done) 0
+pub nests_empty : (i : ℕ) → Nests (node g.Statement (place i done) done) 0
 nests_empty i = record { known = λ full. refl }

@@ -27,40 +27,40 @@ use Rattle.sim_tree.specs.Grammar as g
 use Rattle.sim_tree.specs.Reading.{Forest, done, leaf, node}
 use Rattle.sim_tree.specs.Shown.{Shown, Item, level_part, raise, whole, row, identifier, arguments, sign_kind, multiplication_kind, relation_kind, membership_kind, operated, negated, summed, multiplied, selected, expr_layer, selector_layer, factor_layer, operand_layer, term_layer, shown, operand_shown, term_shown, factor_shown, selector_shown}
 
-pub shown-If : (i : TokenNo) (a : Box Expr Global) (b : Box Expr Global) (c : Box Expr Global) → shown (e.If i a b c) ≡ record { level = 14; inside = leaf i.0 k.If (node g.Expr (whole (shown a.value)) (node g.Simple (raise 13 (shown b.value)) (node g.Expr (whole (shown c.value)) done))) }
+pub shown-If : (i : TokenNo) (a : Box Expr Global) (b : Box Expr Global) (c : Box Expr Global) → shown (e.If i a b c) ≡ record { level = 14; inside = leaf i.0 k.If (node g.Expression (whole (shown a.value)) (node g.SimpleExpression (raise 13 (shown b.value)) (node g.Expression (whole (shown c.value)) done))) }
 shown-If i a b c = ap shown (sym (e.rolls-If i a b c)) ∙ fold-roll-Expr Shown Forest Forest Item Forest expr_layer selector_layer factor_layer operand_layer term_layer (Expr-F.If i a b c)
 
-pub shown-OrElse : (a : Box Expr Global) (v : Vec Operand Global) → shown (e.OrElse a v) ≡ operated 12 k.OrElse g.OrElsed (shown a.value) (map operand_shown v.items)
+pub shown-OrElse : (a : Box Expr Global) (v : Vec Operand Global) → shown (e.OrElse a v) ≡ operated 12 k.OrElse g.NextOrElse (shown a.value) (map operand_shown v.items)
 shown-OrElse a v = ap shown (sym (e.rolls-OrElse a v)) ∙ fold-roll-Expr Shown Forest Forest Item Forest expr_layer selector_layer factor_layer operand_layer term_layer (Expr-F.OrElse a v)
 
-pub shown-AndThen : (a : Box Expr Global) (v : Vec Operand Global) → shown (e.AndThen a v) ≡ operated 11 k.AndThen g.AndThened (shown a.value) (map operand_shown v.items)
+pub shown-AndThen : (a : Box Expr Global) (v : Vec Operand Global) → shown (e.AndThen a v) ≡ operated 11 k.AndThen g.NextAndThen (shown a.value) (map operand_shown v.items)
 shown-AndThen a v = ap shown (sym (e.rolls-AndThen a v)) ∙ fold-roll-Expr Shown Forest Forest Item Forest expr_layer selector_layer factor_layer operand_layer term_layer (Expr-F.AndThen a v)
 
-pub shown-Eqv : (a : Box Expr Global) (v : Vec Operand Global) → shown (e.Eqv a v) ≡ operated 10 k.Eqv g.Eqved (shown a.value) (map operand_shown v.items)
+pub shown-Eqv : (a : Box Expr Global) (v : Vec Operand Global) → shown (e.Eqv a v) ≡ operated 10 k.Eqv g.NextEquivalence (shown a.value) (map operand_shown v.items)
 shown-Eqv a v = ap shown (sym (e.rolls-Eqv a v)) ∙ fold-roll-Expr Shown Forest Forest Item Forest expr_layer selector_layer factor_layer operand_layer term_layer (Expr-F.Eqv a v)
 
-pub shown-Imp : (a : Box Expr Global) (v : Vec Operand Global) → shown (e.Imp a v) ≡ operated 9 k.Imp g.Imped (shown a.value) (map operand_shown v.items)
+pub shown-Imp : (a : Box Expr Global) (v : Vec Operand Global) → shown (e.Imp a v) ≡ operated 9 k.Imp g.NextImplication (shown a.value) (map operand_shown v.items)
 shown-Imp a v = ap shown (sym (e.rolls-Imp a v)) ∙ fold-roll-Expr Shown Forest Forest Item Forest expr_layer selector_layer factor_layer operand_layer term_layer (Expr-F.Imp a v)
 
-pub shown-Or : (a : Box Expr Global) (v : Vec Operand Global) → shown (e.Or a v) ≡ operated 8 k.Or g.Ored (shown a.value) (map operand_shown v.items)
+pub shown-Or : (a : Box Expr Global) (v : Vec Operand Global) → shown (e.Or a v) ≡ operated 8 k.Or g.NextOr (shown a.value) (map operand_shown v.items)
 shown-Or a v = ap shown (sym (e.rolls-Or a v)) ∙ fold-roll-Expr Shown Forest Forest Item Forest expr_layer selector_layer factor_layer operand_layer term_layer (Expr-F.Or a v)
 
-pub shown-And : (a : Box Expr Global) (v : Vec Operand Global) → shown (e.And a v) ≡ operated 7 k.And g.Anded (shown a.value) (map operand_shown v.items)
+pub shown-And : (a : Box Expr Global) (v : Vec Operand Global) → shown (e.And a v) ≡ operated 7 k.And g.NextAnd (shown a.value) (map operand_shown v.items)
 shown-And a v = ap shown (sym (e.rolls-And a v)) ∙ fold-roll-Expr Shown Forest Forest Item Forest expr_layer selector_layer factor_layer operand_layer term_layer (Expr-F.And a v)
 
-pub shown-Concatenation : (a : Box Expr Global) (v : Vec Operand Global) → shown (e.Concatenation a v) ≡ operated 4 k.Ampersand g.Catted (shown a.value) (map operand_shown v.items)
+pub shown-Concatenation : (a : Box Expr Global) (v : Vec Operand Global) → shown (e.Concatenation a v) ≡ operated 4 k.Ampersand g.NextConcatenated (shown a.value) (map operand_shown v.items)
 shown-Concatenation a v = ap shown (sym (e.rolls-Concatenation a v)) ∙ fold-roll-Expr Shown Forest Forest Item Forest expr_layer selector_layer factor_layer operand_layer term_layer (Expr-F.Concatenation a v)
 
-pub shown-Power : (a : Box Expr Global) (v : Vec Operand Global) → shown (e.Power a v) ≡ operated 1 k.Power g.Powered (shown a.value) (map operand_shown v.items)
+pub shown-Power : (a : Box Expr Global) (v : Vec Operand Global) → shown (e.Power a v) ≡ operated 1 k.Power g.NextPower (shown a.value) (map operand_shown v.items)
 shown-Power a v = ap shown (sym (e.rolls-Power a v)) ∙ fold-roll-Expr Shown Forest Forest Item Forest expr_layer selector_layer factor_layer operand_layer term_layer (Expr-F.Power a v)
 
 pub shown-Not : (v : Vec TokenNo Global) (a : Box Expr Global) → shown (e.Not v a) ≡ negated v.items (shown a.value)
 shown-Not v a = ap shown (sym (e.rolls-Not v a)) ∙ fold-roll-Expr Shown Forest Forest Item Forest expr_layer selector_layer factor_layer operand_layer term_layer (Expr-F.Not v a)
 
-pub shown-Related : (a : Box Expr Global) (i : TokenNo) (r : Relation) (b : Box Expr Global) → shown (e.Related a i r b) ≡ record { level = 6; inside = node g.Cat (raise 5 (shown a.value)) (node g.Related (leaf i.0 (relation_kind r) (node g.Cat (raise 5 (shown b.value)) done)) done) }
+pub shown-Related : (a : Box Expr Global) (i : TokenNo) (r : Relation) (b : Box Expr Global) → shown (e.Related a i r b) ≡ record { level = 6; inside = node g.Concatenation (raise 5 (shown a.value)) (node g.RelationTail (leaf i.0 (relation_kind r) (node g.Concatenation (raise 5 (shown b.value)) done)) done) }
 shown-Related a i r b = ap shown (sym (e.rolls-Related a i r b)) ∙ fold-roll-Expr Shown Forest Forest Item Forest expr_layer selector_layer factor_layer operand_layer term_layer (Expr-F.Related a i r b)
 
-pub shown-Member : (a : Box Expr Global) (i : TokenNo) (r : Membership) (x : Identifier) → shown (e.Member a i r x) ≡ record { level = 6; inside = node g.Cat (raise 5 (shown a.value)) (node g.Related (leaf i.0 (membership_kind r) (identifier x done)) done) }
+pub shown-Member : (a : Box Expr Global) (i : TokenNo) (r : Membership) (x : Identifier) → shown (e.Member a i r x) ≡ record { level = 6; inside = node g.Concatenation (raise 5 (shown a.value)) (node g.RelationTail (leaf i.0 (membership_kind r) (identifier x done)) done) }
 shown-Member a i r x = ap shown (sym (e.rolls-Member a i r x)) ∙ fold-roll-Expr Shown Forest Forest Item Forest expr_layer selector_layer factor_layer operand_layer term_layer (Expr-F.Member a i r x)
 
 pub shown-Sum : (s : Option LeadingSign) (a : Box Expr Global) (v : Vec Term Global) → shown (e.Sum s a v) ≡ summed s (shown a.value) (map term_shown v.items)
@@ -102,7 +102,7 @@ shown-This i x = ap shown (sym (e.rolls-This i x)) ∙ fold-roll-Expr Shown Fore
 pub shown-New : (i : TokenNo) (x : Identifier) (v : Vec Expr Global) → shown (e.New i x v) ≡ record { level = 0; inside = leaf i.0 k.New (identifier x (arguments (map shown v.items) done)) }
 shown-New i x v = ap shown (sym (e.rolls-New i x v)) ∙ fold-roll-Expr Shown Forest Forest Item Forest expr_layer selector_layer factor_layer operand_layer term_layer (Expr-F.New i x v)
 
-pub shown-Parentheses : (i : TokenNo) (a : Box Expr Global) → shown (e.Parentheses i a) ≡ record { level = 0; inside = leaf i.0 k.Open (node g.Expr (whole (shown a.value)) done) }
+pub shown-Parentheses : (i : TokenNo) (a : Box Expr Global) → shown (e.Parentheses i a) ≡ record { level = 0; inside = leaf i.0 k.Open (node g.Expression (whole (shown a.value)) done) }
 shown-Parentheses i a = ap shown (sym (e.rolls-Parentheses i a)) ∙ fold-roll-Expr Shown Forest Forest Item Forest expr_layer selector_layer factor_layer operand_layer term_layer (Expr-F.Parentheses i a)
 
 pub shown-Dot : (i : TokenNo) (x : Identifier) (v : Vec Expr Global) → selector_shown (selector.Dot i x v) ≡ leaf i.0 k.Dot (identifier x (arguments (map shown v.items) done))

@@ -22,14 +22,14 @@ use Rattle.sim_tree.specs.declared.stmt.ModePart.{ModePart}
 use Rattle.sim_tree.specs.declared.stmt.Procedure.{Procedure}
 use Rattle.sim_tree.specs.declared.stmt.Protection.{Protection}
 use Rattle.sim_tree.specs.declared.stmt.ReferenceElement.{ReferenceElement}
-use Rattle.sim_tree.specs.declared.stmt.Segment.{Segment}
+use Rattle.sim_tree.specs.declared.stmt.ArraySegment.{ArraySegment}
 use Rattle.sim_tree.specs.declared.stmt.Specification.{Specification}
 use Rattle.sim_tree.specs.declared.stmt.Stmt.{Stmt}
 use Rattle.sim_tree.specs.declared.stmt.Stmt.TheVariants as s
 use Rattle.sim_tree.specs.declared.stmt.Timing.{Timing}
 use Rattle.sim_tree.specs.declared.stmt.TypeName.{TypeName}
 use Rattle.sim_tree.specs.declared.stmt.Variable.{Variable}
-use Rattle.sim_tree.specs.declared.stmt.VirtualSpec.{VirtualSpec}
+use Rattle.sim_tree.specs.declared.stmt.VirtualSpecification.{VirtualSpecification}
 use Rattle.sim_tree.specs.declared.stmt.When.{When}
 use Rattle.sim_tree.specs.Grammar as g
 use Rattle.sim_tree.specs.Reading.{Forest, done, leaf, place, node}
@@ -42,7 +42,7 @@ shown-Empty i = ap stmt_shown (sym (s.rolls-Empty i)) ∙ fold-roll-Stmt Declare
 pub shown-Block : (b : Block) → stmt_shown (s.Block b) ≡ node g.Compound (block_shown b) done
 shown-Block b = ap stmt_shown (sym (s.rolls-Block b)) ∙ fold-roll-Stmt Declared Forest Forest Forest Forest Forest decl_layer stmt_layer block_layer class_layer procedure_layer when_layer (Stmt-F.Block b)
 
-pub shown-PrefixedBlock : (p : BlockPrefix) (b : Block) → stmt_shown (s.PrefixedBlock p b) ≡ prefix_shown p (node g.AfterHead (node g.Compound (block_shown b) done) done)
+pub shown-PrefixedBlock : (p : BlockPrefix) (b : Block) → stmt_shown (s.PrefixedBlock p b) ≡ prefix_shown p (node g.AfterFirstOperand (node g.Compound (block_shown b) done) done)
 shown-PrefixedBlock p b = ap stmt_shown (sym (s.rolls-PrefixedBlock p b)) ∙ fold-roll-Stmt Declared Forest Forest Forest Forest Forest decl_layer stmt_layer block_layer class_layer procedure_layer when_layer (Stmt-F.PrefixedBlock p b)
 
 pub shown-Inner : (i : TokenNo) → stmt_shown (s.Inner i) ≡ leaf i.0 k.Inner done
@@ -54,49 +54,49 @@ shown-Call e = ap stmt_shown (sym (s.rolls-Call e)) ∙ fold-roll-Stmt Declared 
 pub shown-Assignment : (e : Expr) (v : Vec Assigned Global) → stmt_shown (s.Assignment e v) ≡ assigning e v.items
 shown-Assignment e v = ap stmt_shown (sym (s.rolls-Assignment e v)) ∙ fold-roll-Stmt Declared Forest Forest Forest Forest Forest decl_layer stmt_layer block_layer class_layer procedure_layer when_layer (Stmt-F.Assignment e v)
 
-pub shown-While : (i : TokenNo) (e : Expr) (a : Box Stmt Global) → stmt_shown (s.While i e a) ≡ leaf i.0 k.While (expr e (node g.Stmt (stmt_shown a.value) done))
+pub shown-While : (i : TokenNo) (e : Expr) (a : Box Stmt Global) → stmt_shown (s.While i e a) ≡ leaf i.0 k.While (expr e (node g.Statement (stmt_shown a.value) done))
 shown-While i e a = ap stmt_shown (sym (s.rolls-While i e a)) ∙ fold-roll-Stmt Declared Forest Forest Forest Forest Forest decl_layer stmt_layer block_layer class_layer procedure_layer when_layer (Stmt-F.While i e a)
 
-pub shown-For : (i : TokenNo) (x : Identifier) (n : TokenNo) (v : Vec ForElement Global) (a : Box Stmt Global) → stmt_shown (s.For i x n v a) ≡ leaf i.0 k.For (identifier x (node g.ForList (leaf n.0 k.Assign (for_elements v.items)) (node g.Stmt (stmt_shown a.value) done)))
+pub shown-For : (i : TokenNo) (x : Identifier) (n : TokenNo) (v : Vec ForElement Global) (a : Box Stmt Global) → stmt_shown (s.For i x n v a) ≡ leaf i.0 k.For (identifier x (node g.ForList (leaf n.0 k.Assign (for_elements v.items)) (node g.Statement (stmt_shown a.value) done)))
 shown-For i x n v a = ap stmt_shown (sym (s.rolls-For i x n v a)) ∙ fold-roll-Stmt Declared Forest Forest Forest Forest Forest decl_layer stmt_layer block_layer class_layer procedure_layer when_layer (Stmt-F.For i x n v a)
 
-pub shown-ForReference : (i : TokenNo) (x : Identifier) (n : TokenNo) (v : Vec ReferenceElement Global) (a : Box Stmt Global) → stmt_shown (s.ForReference i x n v a) ≡ leaf i.0 k.For (identifier x (node g.ForList (leaf n.0 k.AssignReference (reference_elements v.items)) (node g.Stmt (stmt_shown a.value) done)))
+pub shown-ForReference : (i : TokenNo) (x : Identifier) (n : TokenNo) (v : Vec ReferenceElement Global) (a : Box Stmt Global) → stmt_shown (s.ForReference i x n v a) ≡ leaf i.0 k.For (identifier x (node g.ForList (leaf n.0 k.AssignReference (reference_elements v.items)) (node g.Statement (stmt_shown a.value) done)))
 shown-ForReference i x n v a = ap stmt_shown (sym (s.rolls-ForReference i x n v a)) ∙ fold-roll-Stmt Declared Forest Forest Forest Forest Forest decl_layer stmt_layer block_layer class_layer procedure_layer when_layer (Stmt-F.ForReference i x n v a)
 
 pub shown-Activation : (i : TokenNo) (w : Activation) (e : Expr) (t : Option Timing) → stmt_shown (s.Activation i w e t) ≡ leaf i.0 (activation_kind w) (expr e (timing_shown t))
 shown-Activation i w e t = ap stmt_shown (sym (s.rolls-Activation i w e t)) ∙ fold-roll-Stmt Declared Forest Forest Forest Forest Forest decl_layer stmt_layer block_layer class_layer procedure_layer when_layer (Stmt-F.Activation i w e t)
 
-pub shown-If : (i : TokenNo) (e : Expr) (a : Box Stmt Global) → stmt_shown (s.If i e a None) ≡ leaf i.0 k.If (expr e (node g.Stmt (stmt_shown a.value) done))
+pub shown-If : (i : TokenNo) (e : Expr) (a : Box Stmt Global) → stmt_shown (s.If i e a None) ≡ leaf i.0 k.If (expr e (node g.Statement (stmt_shown a.value) done))
 shown-If i e a = ap stmt_shown (sym (s.rolls-If i e a None)) ∙ fold-roll-Stmt Declared Forest Forest Forest Forest Forest decl_layer stmt_layer block_layer class_layer procedure_layer when_layer (Stmt-F.If i e a None)
 
-pub shown-If-two : (i : TokenNo) (e : Expr) (a : Box Stmt Global) (o : Box Stmt Global) → stmt_shown (s.If i e a (Some o)) ≡ leaf i.0 k.If (expr e (node g.Stmt (stmt_shown a.value) (node g.ElseBranch (node g.Stmt (stmt_shown o.value) done) done)))
+pub shown-If-two : (i : TokenNo) (e : Expr) (a : Box Stmt Global) (o : Box Stmt Global) → stmt_shown (s.If i e a (Some o)) ≡ leaf i.0 k.If (expr e (node g.Statement (stmt_shown a.value) (node g.ElseBranch (node g.Statement (stmt_shown o.value) done) done)))
 shown-If-two i e a o = ap stmt_shown (sym (s.rolls-If i e a (Some o))) ∙ fold-roll-Stmt Declared Forest Forest Forest Forest Forest decl_layer stmt_layer block_layer class_layer procedure_layer when_layer (Stmt-F.If i e a (Some o))
 
-pub shown-Inspect : (i : TokenNo) (e : Expr) (a : Box Stmt Global) → stmt_shown (s.Inspect i e a None) ≡ leaf i.0 k.Inspect (expr e (node g.Arms (node g.Stmt (stmt_shown a.value) done) done))
+pub shown-Inspect : (i : TokenNo) (e : Expr) (a : Box Stmt Global) → stmt_shown (s.Inspect i e a None) ≡ leaf i.0 k.Inspect (expr e (node g.Arms (node g.Statement (stmt_shown a.value) done) done))
 shown-Inspect i e a = ap stmt_shown (sym (s.rolls-Inspect i e a None)) ∙ fold-roll-Stmt Declared Forest Forest Forest Forest Forest decl_layer stmt_layer block_layer class_layer procedure_layer when_layer (Stmt-F.Inspect i e a None)
 
-pub shown-Inspect-two : (i : TokenNo) (e : Expr) (a : Box Stmt Global) (o : Box Stmt Global) → stmt_shown (s.Inspect i e a (Some o)) ≡ leaf i.0 k.Inspect (expr e (node g.Arms (node g.Stmt (stmt_shown a.value) done) (node g.OtherwiseBranch (node g.Stmt (stmt_shown o.value) done) done)))
+pub shown-Inspect-two : (i : TokenNo) (e : Expr) (a : Box Stmt Global) (o : Box Stmt Global) → stmt_shown (s.Inspect i e a (Some o)) ≡ leaf i.0 k.Inspect (expr e (node g.Arms (node g.Statement (stmt_shown a.value) done) (node g.OtherwiseBranch (node g.Statement (stmt_shown o.value) done) done)))
 shown-Inspect-two i e a o = ap stmt_shown (sym (s.rolls-Inspect i e a (Some o))) ∙ fold-roll-Stmt Declared Forest Forest Forest Forest Forest decl_layer stmt_layer block_layer class_layer procedure_layer when_layer (Stmt-F.Inspect i e a (Some o))
 
 pub shown-InspectWhen : (i : TokenNo) (e : Expr) (v : Vec When Global) → stmt_shown (s.InspectWhen i e v None) ≡ leaf i.0 k.Inspect (expr e (node g.Arms (row g.WhenArm (map when_shown v.items) done) done))
 shown-InspectWhen i e v = ap stmt_shown (sym (s.rolls-InspectWhen i e v None)) ∙ fold-roll-Stmt Declared Forest Forest Forest Forest Forest decl_layer stmt_layer block_layer class_layer procedure_layer when_layer (Stmt-F.InspectWhen i e v None)
 
-pub shown-InspectWhen-two : (i : TokenNo) (e : Expr) (v : Vec When Global) (o : Box Stmt Global) → stmt_shown (s.InspectWhen i e v (Some o)) ≡ leaf i.0 k.Inspect (expr e (node g.Arms (row g.WhenArm (map when_shown v.items) done) (node g.OtherwiseBranch (node g.Stmt (stmt_shown o.value) done) done)))
+pub shown-InspectWhen-two : (i : TokenNo) (e : Expr) (v : Vec When Global) (o : Box Stmt Global) → stmt_shown (s.InspectWhen i e v (Some o)) ≡ leaf i.0 k.Inspect (expr e (node g.Arms (row g.WhenArm (map when_shown v.items) done) (node g.OtherwiseBranch (node g.Statement (stmt_shown o.value) done) done)))
 shown-InspectWhen-two i e v o = ap stmt_shown (sym (s.rolls-InspectWhen i e v (Some o))) ∙ fold-roll-Stmt Declared Forest Forest Forest Forest Forest decl_layer stmt_layer block_layer class_layer procedure_layer when_layer (Stmt-F.InspectWhen i e v (Some o))
 
-pub shown-Variables : (t : TypeName) (v : Vec Variable Global) → decl_shown (decl.Variables t v) ≡ Plain (node g.TypeName (type_shown t) (node g.Typed (variables_shown v.items) done))
+pub shown-Variables : (t : TypeName) (v : Vec Variable Global) → decl_shown (decl.Variables t v) ≡ Plain (node g.TypeName (type_shown t) (node g.TypedDeclaration (variables_shown v.items) done))
 shown-Variables t v = ap decl_shown (sym (decl.rolls-Variables t v)) ∙ fold-roll-Decl Declared Forest Forest Forest Forest Forest decl_layer stmt_layer block_layer class_layer procedure_layer when_layer (Decl-F.Variables t v)
 
-pub shown-Arrays : (t : TypeName) (i : TokenNo) (v : Vec Segment Global) → decl_shown (decl.Arrays t i v) ≡ Plain (node g.TypeName (type_shown t) (node g.Typed (leaf i.0 k.Array (segments_shown v.items)) done))
+pub shown-Arrays : (t : TypeName) (i : TokenNo) (v : Vec ArraySegment Global) → decl_shown (decl.Arrays t i v) ≡ Plain (node g.TypeName (type_shown t) (node g.TypedDeclaration (leaf i.0 k.Array (segments_shown v.items)) done))
 shown-Arrays t i v = ap decl_shown (sym (decl.rolls-Arrays t i v)) ∙ fold-roll-Decl Declared Forest Forest Forest Forest Forest decl_layer stmt_layer block_layer class_layer procedure_layer when_layer (Decl-F.Arrays t i v)
 
-pub shown-Procedure : (i : TokenNo) (p : Procedure) → decl_shown (decl.Procedure None i p) ≡ Plain (leaf i.0 k.Procedure (node g.Proc (procedure_shown p) done))
+pub shown-Procedure : (i : TokenNo) (p : Procedure) → decl_shown (decl.Procedure None i p) ≡ Plain (leaf i.0 k.Procedure (node g.Procedure (procedure_shown p) done))
 shown-Procedure i p = ap decl_shown (sym (decl.rolls-Procedure None i p)) ∙ fold-roll-Decl Declared Forest Forest Forest Forest Forest decl_layer stmt_layer block_layer class_layer procedure_layer when_layer (Decl-F.Procedure None i p)
 
-pub shown-Procedure-typed : (t : TypeName) (i : TokenNo) (p : Procedure) → decl_shown (decl.Procedure (Some t) i p) ≡ Plain (node g.TypeName (type_shown t) (node g.Typed (leaf i.0 k.Procedure (node g.Proc (procedure_shown p) done)) done))
+pub shown-Procedure-typed : (t : TypeName) (i : TokenNo) (p : Procedure) → decl_shown (decl.Procedure (Some t) i p) ≡ Plain (node g.TypeName (type_shown t) (node g.TypedDeclaration (leaf i.0 k.Procedure (node g.Procedure (procedure_shown p) done)) done))
 shown-Procedure-typed t i p = ap decl_shown (sym (decl.rolls-Procedure (Some t) i p)) ∙ fold-roll-Decl Declared Forest Forest Forest Forest Forest decl_layer stmt_layer block_layer class_layer procedure_layer when_layer (Decl-F.Procedure (Some t) i p)
 
-pub shown-Class : (i : TokenNo) (c : Class) → decl_shown (decl.Class None i c) ≡ Plain (leaf i.0 k.Class (node g.Cls (class_shown c) done))
+pub shown-Class : (i : TokenNo) (c : Class) → decl_shown (decl.Class None i c) ≡ Plain (leaf i.0 k.Class (node g.Class (class_shown c) done))
 shown-Class i c = ap decl_shown (sym (decl.rolls-Class None i c)) ∙ fold-roll-Decl Declared Forest Forest Forest Forest Forest decl_layer stmt_layer block_layer class_layer procedure_layer when_layer (Decl-F.Class None i c)
 
 pub shown-Class-prefixed : (x : Identifier) (i : TokenNo) (c : Class) → decl_shown (decl.Class (Some x) i c) ≡ Prefixed x i.0 (class_shown c)
@@ -108,16 +108,16 @@ shown-block i ds ss e =
     fold-roll-Block Declared Forest Forest Forest Forest Forest decl_layer stmt_layer block_layer class_layer procedure_layer when_layer (record { token = i; declarations = ds; statements = ss; end = e })
 
 pub shown-procedure : (x : Identifier) (ps : Vec Identifier Global) (ms : Vec ModePart Global) (ss : Vec Specification Global) (b : Box Stmt Global)
-    → procedure_shown (roll-Procedure (record { name = x; parameters = ps; modes = ms; specifications = ss; body = b })) ≡ identifier x (node g.Heading (heading_shown ps.items ms.items ss.items) (node g.Stmt (stmt_shown b.value) done))
+    → procedure_shown (roll-Procedure (record { name = x; parameters = ps; modes = ms; specifications = ss; body = b })) ≡ identifier x (node g.Heading (heading_shown ps.items ms.items ss.items) (node g.Statement (stmt_shown b.value) done))
 shown-procedure x ps ms ss b =
     fold-roll-Procedure Declared Forest Forest Forest Forest Forest decl_layer stmt_layer block_layer class_layer procedure_layer when_layer (record { name = x; parameters = ps; modes = ms; specifications = ss; body = b })
 
-pub shown-class : (x : Identifier) (ps : Vec Identifier Global) (ms : Vec ModePart Global) (ss : Vec Specification Global) (rs : Vec Protection Global) (vs : Vec VirtualSpec Global) (b : Box Stmt Global) (e : TokenNo)
-    → class_shown (roll-Class (record { name = x; parameters = ps; modes = ms; specifications = ss; protections = rs; virtuals = vs; body = b; end = e })) ≡ identifier x (node g.Heading (heading_shown ps.items ms.items ss.items) (row g.Prot (map protection_shown rs.items) (virtuals_shown vs.items (node g.Stmt (stmt_shown b.value) (place e.0 done)))))
+pub shown-class : (x : Identifier) (ps : Vec Identifier Global) (ms : Vec ModePart Global) (ss : Vec Specification Global) (rs : Vec Protection Global) (vs : Vec VirtualSpecification Global) (b : Box Stmt Global) (e : TokenNo)
+    → class_shown (roll-Class (record { name = x; parameters = ps; modes = ms; specifications = ss; protections = rs; virtuals = vs; body = b; end = e })) ≡ identifier x (node g.Heading (heading_shown ps.items ms.items ss.items) (row g.Protection (map protection_shown rs.items) (virtuals_shown vs.items (node g.Statement (stmt_shown b.value) (place e.0 done)))))
 shown-class x ps ms ss rs vs b e =
     fold-roll-Class Declared Forest Forest Forest Forest Forest decl_layer stmt_layer block_layer class_layer procedure_layer when_layer (record { name = x; parameters = ps; modes = ms; specifications = ss; protections = rs; virtuals = vs; body = b; end = e })
 
 pub shown-when : (i : TokenNo) (x : Identifier) (b : Stmt)
-    → when_shown (roll-When (record { token = i; class = x; body = b })) ≡ leaf i.0 k.When (identifier x (node g.Stmt (stmt_shown b) done))
+    → when_shown (roll-When (record { token = i; class = x; body = b })) ≡ leaf i.0 k.When (identifier x (node g.Statement (stmt_shown b) done))
 shown-when i x b =
     fold-roll-When Declared Forest Forest Forest Forest Forest decl_layer stmt_layer block_layer class_layer procedure_layer when_layer (record { token = i; class = x; body = b })

@@ -24,7 +24,7 @@ use Rattle.sim_tree.specs.declared.stmt.ForElement.{ForElement}
 use Rattle.sim_tree.specs.declared.stmt.ModePart.{ModePart}
 use Rattle.sim_tree.specs.declared.stmt.Protection.{Protection}
 use Rattle.sim_tree.specs.declared.stmt.ReferenceElement.{ReferenceElement}
-use Rattle.sim_tree.specs.declared.stmt.Segment.{Segment}
+use Rattle.sim_tree.specs.declared.stmt.ArraySegment.{ArraySegment}
 use Rattle.sim_tree.specs.declared.stmt.Specification.{Specification}
 use Rattle.sim_tree.specs.declared.stmt.Specifier.{Specifier}
 use Rattle.sim_tree.specs.declared.stmt.Specifier.TheVariants as specifier
@@ -33,7 +33,7 @@ use Rattle.sim_tree.specs.declared.stmt.Stmt.TheVariants as s
 use Rattle.sim_tree.specs.declared.stmt.TypeName.{TypeName}
 use Rattle.sim_tree.specs.declared.stmt.TypeName.TheVariants as type_name
 use Rattle.sim_tree.specs.declared.stmt.Variable.{Variable}
-use Rattle.sim_tree.specs.declared.stmt.VirtualSpec.{VirtualSpec}
+use Rattle.sim_tree.specs.declared.stmt.VirtualSpecification.{VirtualSpecification}
 use Rattle.sim_tree.specs.declared.stmt.When.{When}
 use Rattle.sim_tree.specs.Grammar as g
 use Rattle.sim_tree.specs.Reading.{Forest, done, leaf, place, node}
@@ -49,9 +49,9 @@ use Rattle.sim_tree.proofs.StatementLemmas as lemma
 -- What has no statement or expression in it.
 pub flat_ids : (xs : List Identifier) → Nests (ids xs) 0
 flat_ids [] = nests_done
-flat_ids (x ∷ xs) = nests_leaf (flat_row g.NextId next_id xs refl (λ y. nests_leaf nests_done) nests_done)
+flat_ids (x ∷ xs) = nests_leaf (flat_row g.NextIdentifier next_id xs refl (λ y. nests_leaf nests_done) nests_done)
 
-flat_names : (xs : List Identifier) → Nests (node g.Ids (ids xs) done) 0
+flat_names : (xs : List Identifier) → Nests (node g.Identifiers (ids xs) done) 0
 flat_names xs = nests_alone refl (flat_ids xs)
 
 -- a part without statements and expressions, and what is behind it
@@ -86,7 +86,7 @@ flat_variable v = nests_leaf (flat_value v.value)
 
 pub flat_variables : (vs : List Variable) → Nests (variables_shown vs) 0
 flat_variables [] = nests_done
-flat_variables (v ∷ vs) = before refl (flat_variable v) (flat_row g.NextVar next_variable vs refl (λ x. nests_alone refl (flat_variable x)) nests_done)
+flat_variables (v ∷ vs) = before refl (flat_variable v) (flat_row g.NextVariable next_variable vs refl (λ x. nests_alone refl (flat_variable x)) nests_done)
 
 flat_specifier : (x : Specifier) {f : Forest} → Nests f 0 → Nests (specifier_shown x f) 0
 flat_specifier (specifier.Simple t) h = before refl (flat_type t) h
@@ -98,7 +98,7 @@ pub flat_heading : (ps : List Identifier) (ms : List ModePart) (ss : List Specif
 flat_heading [] [] [] = nests_done
 flat_heading ps ms ss =
     before refl (flat_ids ps) (flat_row g.Mode mode_shown ms refl (λ m. nests_leaf (flat_names m.names.items))
-    (flat_row g.Spec specification_shown ss refl (λ x. flat_specifier x.specifier (flat_names x.names.items)) nests_done))
+    (flat_row g.Specification specification_shown ss refl (λ x. flat_specifier x.specifier (flat_names x.names.items)) nests_done))
 
 flat_protecting : (h p : Option TokenNo) {f : Forest} → Nests f 0 → Nests (protecting h p f) 0
 flat_protecting None None rest = nests_done
@@ -110,22 +110,22 @@ flat_protecting (Some h) (Some p) {f} rest = go (nat_lt h.0 p.0)
     go true = nests_leaf (before refl (nests_leaf nests_done) rest)
     go false = nests_leaf (before refl (nests_leaf nests_done) rest)
 
-flat_protections : (ps : List Protection) {f : Forest} {a : ℕ} → Nests f a → Nests (row g.Prot (map protection_shown ps) f) a
-flat_protections ps rest = flat_row g.Prot protection_shown ps refl (λ p. flat_protecting p.hidden p.protected (flat_names p.names.items)) rest
+flat_protections : (ps : List Protection) {f : Forest} {a : ℕ} → Nests f a → Nests (row g.Protection (map protection_shown ps) f) a
+flat_protections ps rest = flat_row g.Protection protection_shown ps refl (λ p. flat_protecting p.hidden p.protected (flat_names p.names.items)) rest
 
-flat_virtuals : (vs : List VirtualSpec) {f : Forest} {a : ℕ} → Nests f a → Nests (virtuals_shown vs f) a
+flat_virtuals : (vs : List VirtualSpecification) {f : Forest} {a : ℕ} → Nests f a → Nests (virtuals_shown vs f) a
 flat_virtuals [] rest = rest
 flat_virtuals (v ∷ vs) rest =
-    before refl (flat_row g.Vspec virtual_shown (v ∷ vs) refl (λ x. flat_typed x.result (nests_leaf (flat_names x.names.items))) nests_done) rest
+    before refl (flat_row g.VirtualSpecification virtual_shown (v ∷ vs) refl (λ x. flat_typed x.result (nests_leaf (flat_names x.names.items))) nests_done) rest
 
 -- what stands in front of the body of a procedure, and of a class
 pub nests_procedure : (x : Identifier) (ps : List Identifier) (ms : List ModePart) (ss : List Specification) {f : Forest} {a : ℕ}
-    → Nests (next_statement f) a → Nests (identifier x (node g.Heading (heading_shown ps ms ss) (node g.Stmt f done))) a
+    → Nests (next_statement f) a → Nests (identifier x (node g.Heading (heading_shown ps ms ss) (node g.Statement f done))) a
 nests_procedure x ps ms ss body = nests_leaf (before refl (flat_heading ps ms ss) body)
 
-pub nests_class : (x : Identifier) (ps : List Identifier) (ms : List ModePart) (ss : List Specification) (rs : List Protection) (vs : List VirtualSpec) (i : ℕ) {f : Forest} {a : ℕ}
+pub nests_class : (x : Identifier) (ps : List Identifier) (ms : List ModePart) (ss : List Specification) (rs : List Protection) (vs : List VirtualSpecification) (i : ℕ) {f : Forest} {a : ℕ}
     → Nests (next_statement f) a
-    → Nests (identifier x (node g.Heading (heading_shown ps ms ss) (row g.Prot (map protection_shown rs) (virtuals_shown vs (node g.Stmt f (place i done)))))) a
+    → Nests (identifier x (node g.Heading (heading_shown ps ms ss) (row g.Protection (map protection_shown rs) (virtuals_shown vs (node g.Statement f (place i done)))))) a
 nests_class x ps ms ss rs vs i {a = a} body =
     nests_leaf (before refl (flat_heading ps ms ss) (flat_protections rs (flat_virtuals vs (same (let z : max a 0 ≡ a = omega arith in z) (followed body (nests_place nests_done))))))
 
@@ -137,17 +137,17 @@ pub nests_dimensions : {bs : List Bounds} {a : ℕ} → Largest (λ x. Nests (bo
 nests_dimensions largest-none = nests_done
 nests_dimensions (largest-more {a = a} {b = b} one others) = same (first_and_more a b) (followed (nests_alone refl one) (rows g.NextBounds refl (mapped next_bounds (λ x n z. nests_alone refl z) others) nests_done))
 
-pub nests_segments : {ss : List Segment} {a : ℕ} → Largest (λ x. Nests (segment_shown x)) ss a → Nests (segments_shown ss) a
+pub nests_segments : {ss : List ArraySegment} {a : ℕ} → Largest (λ x. Nests (segment_shown x)) ss a → Nests (segments_shown ss) a
 nests_segments largest-none = nests_done
-nests_segments (largest-more {a = a} {b = b} one others) = same (first_and_more a b) (followed (nests_alone refl one) (rows g.NextSeg refl (mapped next_segment (λ x n z. nests_alone refl z) others) nests_done))
+nests_segments (largest-more {a = a} {b = b} one others) = same (first_and_more a b) (followed (nests_alone refl one) (rows g.NextArraySegment refl (mapped next_segment (λ x n z. nests_alone refl z) others) nests_done))
 
 pub nests_for_elements : {es : List ForElement} {a : ℕ} → Largest (λ x. Nests (for_element_shown x)) es a → Nests (for_elements es) a
 nests_for_elements largest-none = nests_done
-nests_for_elements (largest-more {a = a} {b = b} one others) = same (first_and_more a b) (followed (nests_alone refl one) (rows g.NextFelem refl (mapped next_for_element (λ x n z. nests_alone refl z) others) nests_done))
+nests_for_elements (largest-more {a = a} {b = b} one others) = same (first_and_more a b) (followed (nests_alone refl one) (rows g.NextForElement refl (mapped next_for_element (λ x n z. nests_alone refl z) others) nests_done))
 
 pub nests_reference_elements : {es : List ReferenceElement} {a : ℕ} → Largest (λ x. Nests (reference_element_shown x)) es a → Nests (reference_elements es) a
 nests_reference_elements largest-none = nests_done
-nests_reference_elements (largest-more {a = a} {b = b} one others) = same (first_and_more a b) (followed (nests_alone refl one) (rows g.NextRelem refl (mapped next_reference_element (λ x n z. nests_alone refl z) others) nests_done))
+nests_reference_elements (largest-more {a = a} {b = b} one others) = same (first_and_more a b) (followed (nests_alone refl one) (rows g.NextReferenceElement refl (mapped next_reference_element (λ x n z. nests_alone refl z) others) nests_done))
 
 -- Statements.
 pub nests_stmt : {f : Forest} {a : ℕ} → is_bare f ≡ false → Nests f a → Nests (next_statement f) (capped (a + 1))
@@ -186,7 +186,7 @@ nests_inspect_when i e v (Some o) {x} {y} {z} one two three =
 -- the statements of a block
 pub nests_statements : (fs : List Forest) (i : ℕ) {a : ℕ} → Largest (λ f. Nests (next_statement f)) fs a → Nests (statements fs i) a
 nests_statements [] i largest-none = nests_leaf nests_done
-nests_statements (f ∷ fs) i (largest-more {a = a} {b = b} one others) = same (first_and_more a b) (nests_begun f one (rows g.NextStmt refl (mapped next_statement (λ x n z. z) others) (nests_leaf nests_done)))
+nests_statements (f ∷ fs) i (largest-more {a = a} {b = b} one others) = same (first_and_more a b) (nests_begun f one (rows g.NextStatement refl (mapped next_statement (λ x n z. z) others) (nests_leaf nests_done)))
 
 -- a block
 pub nests_contents : (ds : List Declared) (fs : List Forest) (i : ℕ) {a b : ℕ} → Largest (λ d. Nests (apart d)) ds a → Largest (λ f. Nests (next_statement f)) fs b → Nests (contents ds fs i) (max a b)
@@ -224,7 +224,7 @@ flat_prior None = nests_done
 flat_prior (Some i) = nests_alone refl (nests_leaf nests_done)
 
 -- an expression, and the word `prior`
-pub nests_time : (i : Option TokenNo) (e : Expr) {a : ℕ} → Nests (argument (shown e)) a → Nests (node g.Expr (whole (shown e)) (prior_shown i)) a
+pub nests_time : (i : Option TokenNo) (e : Expr) {a : ℕ} → Nests (argument (shown e)) a → Nests (node g.Expression (whole (shown e)) (prior_shown i)) a
 nests_time i e {a} h = same (let z : max a 0 ≡ a = omega arith in z) (followed h (flat_prior i))
 
 pub at_stmt : {x y : Stmt} {a : ℕ} → x ≡ y → Nests (next_statement (stmt_shown x)) a → Nests (next_statement (stmt_shown y)) a

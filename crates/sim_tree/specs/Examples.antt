@@ -41,7 +41,7 @@ operand i kind = whole (record { level = 0; inside = leaf i kind done })
 
 -- a call without actuals
 abbrev pub call : ℕ → TokenKind → Forest
-call i kind = leaf i kind (node g.AfterHead done done)
+call i kind = leaf i kind (node g.AfterFirstOperand done done)
 
 -- a block from its first token on
 abbrev pub block : Forest → Forest

@@ -16,11 +16,11 @@ capped n = min n 4294967295
 
 -- A part has a token, unless the grammar has it without one. A statement has at least its place.
 abbrev pub has_token : Part → Forest → Bool
-has_token g.Closing f = true
+has_token g.AfterDeclaration f = true
 has_token g.Heading f = true
-has_token g.AfterHead f = true
-has_token g.Stmt done = false
-has_token g.Stmt f = true
+has_token g.AfterFirstOperand f = true
+has_token g.Statement done = false
+has_token g.Statement f = true
 has_token _ f = not (is_bare f)
 
 -- no part of a derivation lacks its token
@@ -45,8 +45,8 @@ pub data Largest {A : Type 0} (Fits : A → ℕ → Type 0) : List A → ℕ →
 
 -- a declaration, apart from those behind it
 abbrev pub apart : Declared → Forest
-apart (Plain f) = node g.Decl f done
-apart (Prefixed x i f) = node g.Cls f done
+apart (Plain f) = node g.Declaration f done
+apart (Prefixed x i f) = node g.Class f done
 
 -- the statement of a branch, where there is one
 abbrev pub branch_shown : Option (Box Stmt Global) → Forest

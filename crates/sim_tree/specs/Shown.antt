@@ -33,8 +33,8 @@ pub record Shown : Type 0 where
 abbrev pub level_part : ℕ → Part
 level_part level =
     slice_index_or
-    (g.Primary ∷ g.Postfix ∷ g.Factor ∷ g.Term ∷ g.Sum ∷ g.Cat ∷ g.Rel ∷ g.Neg ∷ g.Conj ∷ g.Disj ∷ g.Imp ∷ g.Eqv ∷ g.AndThen ∷ g.Simple ∷ [])
-    level g.Expr
+    (g.Primary ∷ g.Postfix ∷ g.Factor ∷ g.Term ∷ g.Sum ∷ g.Concatenation ∷ g.Relation ∷ g.Negation ∷ g.Conjunction ∷ g.Disjunction ∷ g.Implication ∷ g.Equivalence ∷ g.AndThen ∷ g.SimpleExpression ∷ [])
+    level g.Expression
 
 -- the same inside of a higher level: a level with a single operand makes no node in the tree
 unfoldable pub raise : ℕ → Shown → Forest
@@ -61,12 +61,12 @@ abbrev pub identifier : Identifier → Forest → Forest
 identifier x rest = leaf x.token.0 (k.Identifier x.name) rest
 
 abbrev pub argument : Shown → Forest
-argument s = node g.Expr (whole s) done
+argument s = node g.Expression (whole s) done
 
 -- the actuals, where there are some
 abbrev pub arguments : List Shown → Forest → Forest
 arguments [] rest = rest
-arguments (s ∷ ss) rest = node g.Args (node g.Expr (whole s) (row g.NextArg (map argument ss) done)) rest
+arguments (s ∷ ss) rest = node g.Arguments (node g.Expression (whole s) (row g.NextArgument (map argument ss) done)) rest
 
 abbrev pub sign_kind : Sign → TokenKind
 sign_kind sign.Plus = k.Plus
@@ -111,21 +111,21 @@ not_mark i = leaf i.0 k.Not done
 
 abbrev pub negated : List TokenNo → Shown → Shown
 negated [] operand = nothing
-negated (i ∷ is) operand = record { level = 7; inside = row g.NotMark (map not_mark (i ∷ is)) (node g.Rel (raise 6 operand) done) }
+negated (i ∷ is) operand = record { level = 7; inside = row g.NotSign (map not_mark (i ∷ is)) (node g.Relation (raise 6 operand) done) }
 
 abbrev pub summed : Option LeadingSign → Shown → List Forest → Shown
 summed None first [] = nothing
-summed None first (f ∷ fs) = record { level = 4; inside = node g.Term (raise 3 first) (row g.Added (f ∷ fs) done) }
+summed None first (f ∷ fs) = record { level = 4; inside = node g.Term (raise 3 first) (row g.NextTerm (f ∷ fs) done) }
 summed (Some s) first fs =
-    record { level = 4; inside = node g.Sign (leaf s.token.0 (sign_kind s.sign) done) (node g.Term (raise 3 first) (row g.Added fs done)) }
+    record { level = 4; inside = node g.LeadingSign (leaf s.token.0 (sign_kind s.sign) done) (node g.Term (raise 3 first) (row g.NextTerm fs done)) }
 
 abbrev pub multiplied : Shown → List Forest → Shown
 multiplied first [] = nothing
-multiplied first (f ∷ fs) = record { level = 3; inside = node g.Factor (raise 2 first) (row g.Multiplied (f ∷ fs) done) }
+multiplied first (f ∷ fs) = record { level = 3; inside = node g.Factor (raise 2 first) (row g.NextFactor (f ∷ fs) done) }
 
 abbrev pub selected : Shown → List Forest → Shown
 selected primary [] = nothing
-selected primary (f ∷ fs) = record { level = 1; inside = node g.Primary (raise 0 primary) (row g.Selected (f ∷ fs) done) }
+selected primary (f ∷ fs) = record { level = 1; inside = node g.Primary (raise 0 primary) (row g.Selection (f ∷ fs) done) }
 
 abbrev pub operand_layer : Operand-F Shown Forest Forest Item Forest → Item
 operand_layer o = record { token = o.token.0; operand = o.operand }
@@ -143,27 +143,27 @@ selector_layer (Selector-F.Qua i class) = leaf i.0 k.Qua (identifier class done)
 abbrev pub expr_layer : Expr-F Shown Forest Forest Item Forest → Shown
 expr_layer (Expr-F.If i condition first second) = record {
   level = 14;
-  inside = leaf i.0 k.If (node g.Expr (whole condition.value) (node g.Simple (raise 13 first.value) (node g.Expr (whole second.value) done)));
+  inside = leaf i.0 k.If (node g.Expression (whole condition.value) (node g.SimpleExpression (raise 13 first.value) (node g.Expression (whole second.value) done)));
 }
-expr_layer (Expr-F.OrElse first rest) = operated 12 k.OrElse g.OrElsed first.value rest.items
-expr_layer (Expr-F.AndThen first rest) = operated 11 k.AndThen g.AndThened first.value rest.items
-expr_layer (Expr-F.Eqv first rest) = operated 10 k.Eqv g.Eqved first.value rest.items
-expr_layer (Expr-F.Imp first rest) = operated 9 k.Imp g.Imped first.value rest.items
-expr_layer (Expr-F.Or first rest) = operated 8 k.Or g.Ored first.value rest.items
-expr_layer (Expr-F.And first rest) = operated 7 k.And g.Anded first.value rest.items
+expr_layer (Expr-F.OrElse first rest) = operated 12 k.OrElse g.NextOrElse first.value rest.items
+expr_layer (Expr-F.AndThen first rest) = operated 11 k.AndThen g.NextAndThen first.value rest.items
+expr_layer (Expr-F.Eqv first rest) = operated 10 k.Eqv g.NextEquivalence first.value rest.items
+expr_layer (Expr-F.Imp first rest) = operated 9 k.Imp g.NextImplication first.value rest.items
+expr_layer (Expr-F.Or first rest) = operated 8 k.Or g.NextOr first.value rest.items
+expr_layer (Expr-F.And first rest) = operated 7 k.And g.NextAnd first.value rest.items
 expr_layer (Expr-F.Not tokens operand) = negated tokens.items operand.value
 expr_layer (Expr-F.Related left i relation right) = record {
   level = 6;
-  inside = node g.Cat (raise 5 left.value) (node g.Related (leaf i.0 (relation_kind relation) (node g.Cat (raise 5 right.value) done)) done);
+  inside = node g.Concatenation (raise 5 left.value) (node g.RelationTail (leaf i.0 (relation_kind relation) (node g.Concatenation (raise 5 right.value) done)) done);
 }
 expr_layer (Expr-F.Member object i membership class) = record {
   level = 6;
-  inside = node g.Cat (raise 5 object.value) (node g.Related (leaf i.0 (membership_kind membership) (identifier class done)) done);
+  inside = node g.Concatenation (raise 5 object.value) (node g.RelationTail (leaf i.0 (membership_kind membership) (identifier class done)) done);
 }
-expr_layer (Expr-F.Concatenation first rest) = operated 4 k.Ampersand g.Catted first.value rest.items
+expr_layer (Expr-F.Concatenation first rest) = operated 4 k.Ampersand g.NextConcatenated first.value rest.items
 expr_layer (Expr-F.Sum sign first rest) = summed sign first.value rest.items
 expr_layer (Expr-F.Product first rest) = multiplied first.value rest.items
-expr_layer (Expr-F.Power first rest) = operated 1 k.Power g.Powered first.value rest.items
+expr_layer (Expr-F.Power first rest) = operated 1 k.Power g.NextPower first.value rest.items
 expr_layer (Expr-F.Postfix primary rest) = selected primary.value rest.items
 expr_layer (Expr-F.Integer i value) = record { level = 0; inside = leaf i.0 (k.Integer value) done }
 expr_layer (Expr-F.Character i value) = record { level = 0; inside = leaf i.0 (k.Character value) done }
@@ -175,7 +175,7 @@ expr_layer (Expr-F.Notext i) = record { level = 0; inside = leaf i.0 k.Notext do
 expr_layer (Expr-F.Named name args) = record { level = 0; inside = identifier name (arguments args.items done) }
 expr_layer (Expr-F.This i class) = record { level = 0; inside = leaf i.0 k.This (identifier class done) }
 expr_layer (Expr-F.New i class args) = record { level = 0; inside = leaf i.0 k.New (identifier class (arguments args.items done)) }
-expr_layer (Expr-F.Parentheses i inner) = record { level = 0; inside = leaf i.0 k.Open (node g.Expr (whole inner.value) done) }
+expr_layer (Expr-F.Parentheses i inner) = record { level = 0; inside = leaf i.0 k.Open (node g.Expression (whole inner.value) done) }
 
 abbrev pub shown : Expr → Shown
 shown = fold-Expr Shown Forest Forest Item Forest expr_layer selector_layer factor_layer operand_layer term_layer

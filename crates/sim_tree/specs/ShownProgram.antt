@@ -25,7 +25,7 @@ use Rattle.sim_tree.specs.declared.stmt.ModePart.{ModePart}
 use Rattle.sim_tree.specs.declared.stmt.Protection.{Protection}
 use Rattle.sim_tree.specs.declared.stmt.ReferenceElement.{ReferenceElement}
 use Rattle.sim_tree.specs.declared.stmt.ReferenceElement.TheVariants as reference_element
-use Rattle.sim_tree.specs.declared.stmt.Segment.{Segment}
+use Rattle.sim_tree.specs.declared.stmt.ArraySegment.{ArraySegment}
 use Rattle.sim_tree.specs.declared.stmt.Specification.{Specification}
 use Rattle.sim_tree.specs.declared.stmt.Specifier.{Specifier}
 use Rattle.sim_tree.specs.declared.stmt.Specifier.TheVariants as specifier
@@ -39,7 +39,7 @@ use Rattle.sim_tree.specs.declared.stmt.Timing.TheVariants as timing
 use Rattle.sim_tree.specs.declared.stmt.TypeName.{TypeName}
 use Rattle.sim_tree.specs.declared.stmt.TypeName.TheVariants as type_name
 use Rattle.sim_tree.specs.declared.stmt.Variable.{Variable}
-use Rattle.sim_tree.specs.declared.stmt.VirtualSpec.{VirtualSpec}
+use Rattle.sim_tree.specs.declared.stmt.VirtualSpecification.{VirtualSpecification}
 use Rattle.sim_tree.specs.declared.stmt.When.{When}
 use Rattle.sim_tree.specs.Grammar as g
 use Rattle.sim_tree.specs.Reading.{Forest, done, leaf, place, node}
@@ -53,7 +53,7 @@ joined (place i f) rest = place i (joined f rest)
 joined (node n inside f) rest = node n inside (joined f rest)
 
 abbrev pub expr : Expr → Forest → Forest
-expr e rest = node g.Expr (expression e) rest
+expr e rest = node g.Expression (expression e) rest
 
 -- Lists of identifiers, which have at least one.
 abbrev pub next_id : Identifier → Forest
@@ -61,7 +61,7 @@ next_id x = identifier x done
 
 abbrev pub ids : List Identifier → Forest
 ids [] = done
-ids (x ∷ xs) = identifier x (row g.NextId (map next_id xs) done)
+ids (x ∷ xs) = identifier x (row g.NextIdentifier (map next_id xs) done)
 
 -- Types and constants.
 abbrev pub type_shown : TypeName → Forest
@@ -92,11 +92,11 @@ abbrev pub variable_shown : Variable → Forest
 variable_shown v = identifier v.name (value_shown v.value)
 
 abbrev pub next_variable : Variable → Forest
-next_variable v = node g.Var (variable_shown v) done
+next_variable v = node g.Variable (variable_shown v) done
 
 abbrev pub variables_shown : List Variable → Forest
 variables_shown [] = done
-variables_shown (v ∷ vs) = node g.Var (variable_shown v) (row g.NextVar (map next_variable vs) done)
+variables_shown (v ∷ vs) = node g.Variable (variable_shown v) (row g.NextVariable (map next_variable vs) done)
 
 -- Arrays.
 abbrev pub bounds_shown : Bounds → Forest
@@ -109,15 +109,15 @@ abbrev pub dimensions : List Bounds → Forest
 dimensions [] = done
 dimensions (b ∷ bs) = node g.Bounds (bounds_shown b) (row g.NextBounds (map next_bounds bs) done)
 
-abbrev pub segment_shown : Segment → Forest
-segment_shown s = node g.Ids (ids s.names.items) (dimensions s.bounds.items)
+abbrev pub segment_shown : ArraySegment → Forest
+segment_shown s = node g.Identifiers (ids s.names.items) (dimensions s.bounds.items)
 
-abbrev pub next_segment : Segment → Forest
-next_segment s = node g.Seg (segment_shown s) done
+abbrev pub next_segment : ArraySegment → Forest
+next_segment s = node g.ArraySegment (segment_shown s) done
 
-abbrev pub segments_shown : List Segment → Forest
+abbrev pub segments_shown : List ArraySegment → Forest
 segments_shown [] = done
-segments_shown (s ∷ ss) = node g.Seg (segment_shown s) (row g.NextSeg (map next_segment ss) done)
+segments_shown (s ∷ ss) = node g.ArraySegment (segment_shown s) (row g.NextArraySegment (map next_segment ss) done)
 
 -- Formal parameters.
 abbrev pub mode_kind : Mode → TokenKind
@@ -125,20 +125,20 @@ mode_kind mode.Value = k.Value
 mode_kind mode.Name = k.Name
 
 abbrev pub mode_shown : ModePart → Forest
-mode_shown m = leaf m.token.0 (mode_kind m.mode) (node g.Ids (ids m.names.items) done)
+mode_shown m = leaf m.token.0 (mode_kind m.mode) (node g.Identifiers (ids m.names.items) done)
 
 abbrev pub specifier_shown : Specifier → Forest → Forest
 specifier_shown (specifier.Simple t) rest = node g.TypeName (type_shown t) rest
-specifier_shown (specifier.Array t i) rest = node g.TypeName (type_shown t) (node g.SpecKind (leaf i.0 k.Array done) rest)
+specifier_shown (specifier.Array t i) rest = node g.TypeName (type_shown t) (node g.SpecifiedKind (leaf i.0 k.Array done) rest)
 specifier_shown (specifier.Procedure None i) rest = leaf i.0 k.Procedure rest
-specifier_shown (specifier.Procedure (Some t) i) rest = node g.TypeName (type_shown t) (node g.SpecKind (leaf i.0 k.Procedure done) rest)
+specifier_shown (specifier.Procedure (Some t) i) rest = node g.TypeName (type_shown t) (node g.SpecifiedKind (leaf i.0 k.Procedure done) rest)
 
 abbrev pub specification_shown : Specification → Forest
-specification_shown s = specifier_shown s.specifier (node g.Ids (ids s.names.items) done)
+specification_shown s = specifier_shown s.specifier (node g.Identifiers (ids s.names.items) done)
 
 abbrev pub heading_shown : List Identifier → List ModePart → List Specification → Forest
 heading_shown [] [] [] = done
-heading_shown ps ms ss = node g.Ids (ids ps) (row g.Mode (map mode_shown ms) (row g.Spec (map specification_shown ss) done))
+heading_shown ps ms ss = node g.Identifiers (ids ps) (row g.Mode (map mode_shown ms) (row g.Specification (map specification_shown ss) done))
 
 -- Protection and virtual procedures.
 abbrev pub protecting : Option TokenNo → Option TokenNo → Forest → Forest
@@ -151,14 +151,14 @@ protecting (Some h) (Some p) rest =
     else leaf p.0 k.Protected (node g.AndHidden (leaf h.0 k.Hidden done) rest)
 
 abbrev pub protection_shown : Protection → Forest
-protection_shown p = protecting p.hidden p.protected (node g.Ids (ids p.names.items) done)
+protection_shown p = protecting p.hidden p.protected (node g.Identifiers (ids p.names.items) done)
 
-abbrev pub virtual_shown : VirtualSpec → Forest
-virtual_shown v = typed v.result (leaf v.token.0 k.Procedure (node g.Ids (ids v.names.items) done))
+abbrev pub virtual_shown : VirtualSpecification → Forest
+virtual_shown v = typed v.result (leaf v.token.0 k.Procedure (node g.Identifiers (ids v.names.items) done))
 
-abbrev pub virtuals_shown : List VirtualSpec → Forest → Forest
+abbrev pub virtuals_shown : List VirtualSpecification → Forest → Forest
 virtuals_shown [] rest = rest
-virtuals_shown (v ∷ vs) rest = node g.Virt (row g.Vspec (map virtual_shown (v ∷ vs)) done) rest
+virtuals_shown (v ∷ vs) rest = node g.Virtuals (row g.VirtualSpecification (map virtual_shown (v ∷ vs)) done) rest
 
 -- Parts of statements.
 abbrev pub assignment_kind : Assignment → TokenKind
@@ -171,7 +171,7 @@ assigned_shown a = leaf a.token.0 (assignment_kind a.sign) (expr a.value done)
 -- A left side or a call, and what is assigned. Where an identifier begins it, that and its actuals are taken first.
 abbrev pub acted : Forest → Forest → Forest
 acted (node g.Primary (leaf i (k.Identifier name) actuals) selected) rest =
-    leaf i (k.Identifier name) (joined actuals (node g.AfterHead (joined selected rest) done))
+    leaf i (k.Identifier name) (joined actuals (node g.AfterFirstOperand (joined selected rest) done))
 acted f rest = node g.Postfix f rest
 
 abbrev pub assigning : Expr → List Assigned → Forest
@@ -180,26 +180,26 @@ assigning left (a ∷ others) = acted (raise 1 (shown left)) (row g.Assigned (ma
 
 abbrev pub for_element_shown : ForElement → Forest
 for_element_shown (for_element.Value value) = expr value done
-for_element_shown (for_element.Step start i step limit) = expr start (node g.FelemTail (leaf i.0 k.Step (expr step (expr limit done))) done)
-for_element_shown (for_element.While value i condition) = expr value (node g.FelemTail (leaf i.0 k.While (expr condition done)) done)
+for_element_shown (for_element.Step start i step limit) = expr start (node g.ForElementTail (leaf i.0 k.Step (expr step (expr limit done))) done)
+for_element_shown (for_element.While value i condition) = expr value (node g.ForElementTail (leaf i.0 k.While (expr condition done)) done)
 
 abbrev pub next_for_element : ForElement → Forest
-next_for_element e = node g.Felem (for_element_shown e) done
+next_for_element e = node g.ForElement (for_element_shown e) done
 
 abbrev pub for_elements : List ForElement → Forest
 for_elements [] = done
-for_elements (e ∷ es) = node g.Felem (for_element_shown e) (row g.NextFelem (map next_for_element es) done)
+for_elements (e ∷ es) = node g.ForElement (for_element_shown e) (row g.NextForElement (map next_for_element es) done)
 
 abbrev pub reference_element_shown : ReferenceElement → Forest
 reference_element_shown (reference_element.Value value) = expr value done
-reference_element_shown (reference_element.While value i condition) = expr value (node g.RelemTail (leaf i.0 k.While (expr condition done)) done)
+reference_element_shown (reference_element.While value i condition) = expr value (node g.ReferenceElementTail (leaf i.0 k.While (expr condition done)) done)
 
 abbrev pub next_reference_element : ReferenceElement → Forest
-next_reference_element e = node g.Relem (reference_element_shown e) done
+next_reference_element e = node g.ReferenceElement (reference_element_shown e) done
 
 abbrev pub reference_elements : List ReferenceElement → Forest
 reference_elements [] = done
-reference_elements (e ∷ es) = node g.Relem (reference_element_shown e) (row g.NextRelem (map next_reference_element es) done)
+reference_elements (e ∷ es) = node g.ReferenceElement (reference_element_shown e) (row g.NextReferenceElement (map next_reference_element es) done)
 
 abbrev pub activation_kind : Activation → TokenKind
 activation_kind activation.Activate = k.Activate
@@ -229,67 +229,67 @@ pub data Declared : Type 0 where
   Prefixed : (prefix : Identifier) → (token : ℕ) → (class : Forest) → Declared
 
 abbrev pub next_statement : Forest → Forest
-next_statement f = node g.Stmt f done
+next_statement f = node g.Statement f done
 
 -- The statements of a block and its `end`. Where an identifier begins the first one, it is taken before it.
 abbrev pub begun : Forest → Forest → Forest
-begun (leaf i (k.Identifier name) f) rest = leaf i (k.Identifier name) (node g.AfterId (node g.IdStmt f rest) done)
-begun f rest = node g.Stmt f rest
+begun (leaf i (k.Identifier name) f) rest = leaf i (k.Identifier name) (node g.AfterIdentifier (node g.StatementOfIdentifier f rest) done)
+begun f rest = node g.Statement f rest
 
 abbrev pub statements : List Forest → ℕ → Forest
 statements [] end = leaf end k.End done
-statements (f ∷ fs) end = begun f (row g.NextStmt (map next_statement fs) (leaf end k.End done))
+statements (f ∷ fs) end = begun f (row g.NextStatement (map next_statement fs) (leaf end k.End done))
 
 abbrev pub contents : List Declared → List Forest → ℕ → Forest
 contents [] fs end = statements fs end
-contents (Plain f ∷ ds) fs end = node g.Decl f (node g.Closing done (node g.Block (contents ds fs end) done))
+contents (Plain f ∷ ds) fs end = node g.Declaration f (node g.AfterDeclaration done (node g.Block (contents ds fs end) done))
 contents (Prefixed x i f ∷ ds) fs end =
-    identifier x (node g.AfterId (leaf i k.Class (node g.Cls f (node g.Closing done (node g.Block (contents ds fs end) done)))) done)
+    identifier x (node g.AfterIdentifier (leaf i k.Class (node g.Class f (node g.AfterDeclaration done (node g.Block (contents ds fs end) done)))) done)
 
 abbrev pub block_layer : Block-F Declared Forest Forest Forest Forest Forest → Forest
 block_layer b = leaf b.token.0 k.Begin (node g.Block (contents b.declarations.items b.statements.items b.end.0) done)
 
 abbrev pub procedure_layer : Procedure-F Declared Forest Forest Forest Forest Forest → Forest
 procedure_layer p =
-    identifier p.name (node g.Heading (heading_shown p.parameters.items p.modes.items p.specifications.items) (node g.Stmt p.body.value done))
+    identifier p.name (node g.Heading (heading_shown p.parameters.items p.modes.items p.specifications.items) (node g.Statement p.body.value done))
 
 abbrev pub class_layer : Class-F Declared Forest Forest Forest Forest Forest → Forest
 class_layer c =
     identifier c.name (node g.Heading (heading_shown c.parameters.items c.modes.items c.specifications.items)
-    (row g.Prot (map protection_shown c.protections.items) (virtuals_shown c.virtuals.items (node g.Stmt c.body.value (place c.end.0 done)))))
+    (row g.Protection (map protection_shown c.protections.items) (virtuals_shown c.virtuals.items (node g.Statement c.body.value (place c.end.0 done)))))
 
 abbrev pub when_layer : When-F Declared Forest Forest Forest Forest Forest → Forest
-when_layer w = leaf w.token.0 k.When (identifier w.class (node g.Stmt w.body done))
+when_layer w = leaf w.token.0 k.When (identifier w.class (node g.Statement w.body done))
 
 abbrev pub decl_layer : Decl-F Declared Forest Forest Forest Forest Forest → Declared
-decl_layer (Decl-F.Variables t vs) = Plain (node g.TypeName (type_shown t) (node g.Typed (variables_shown vs.items) done))
-decl_layer (Decl-F.Arrays t i ss) = Plain (node g.TypeName (type_shown t) (node g.Typed (leaf i.0 k.Array (segments_shown ss.items)) done))
-decl_layer (Decl-F.Procedure None i p) = Plain (leaf i.0 k.Procedure (node g.Proc p done))
-decl_layer (Decl-F.Procedure (Some t) i p) = Plain (node g.TypeName (type_shown t) (node g.Typed (leaf i.0 k.Procedure (node g.Proc p done)) done))
-decl_layer (Decl-F.Class None i c) = Plain (leaf i.0 k.Class (node g.Cls c done))
+decl_layer (Decl-F.Variables t vs) = Plain (node g.TypeName (type_shown t) (node g.TypedDeclaration (variables_shown vs.items) done))
+decl_layer (Decl-F.Arrays t i ss) = Plain (node g.TypeName (type_shown t) (node g.TypedDeclaration (leaf i.0 k.Array (segments_shown ss.items)) done))
+decl_layer (Decl-F.Procedure None i p) = Plain (leaf i.0 k.Procedure (node g.Procedure p done))
+decl_layer (Decl-F.Procedure (Some t) i p) = Plain (node g.TypeName (type_shown t) (node g.TypedDeclaration (leaf i.0 k.Procedure (node g.Procedure p done)) done))
+decl_layer (Decl-F.Class None i c) = Plain (leaf i.0 k.Class (node g.Class c done))
 decl_layer (Decl-F.Class (Some x) i c) = Prefixed x i.0 c
 
 abbrev pub stmt_layer : Stmt-F Declared Forest Forest Forest Forest Forest → Forest
 stmt_layer (Stmt-F.Empty i) = place i.0 done
 stmt_layer (Stmt-F.Block b) = node g.Compound b done
-stmt_layer (Stmt-F.PrefixedBlock p b) = prefix_shown p (node g.AfterHead (node g.Compound b done) done)
+stmt_layer (Stmt-F.PrefixedBlock p b) = prefix_shown p (node g.AfterFirstOperand (node g.Compound b done) done)
 stmt_layer (Stmt-F.Inner i) = leaf i.0 k.Inner done
 stmt_layer (Stmt-F.Call e) = acted (raise 1 (shown e)) done
 stmt_layer (Stmt-F.Assignment left rest) = assigning left rest.items
-stmt_layer (Stmt-F.If i condition first None) = leaf i.0 k.If (expr condition (node g.Stmt first.value done))
+stmt_layer (Stmt-F.If i condition first None) = leaf i.0 k.If (expr condition (node g.Statement first.value done))
 stmt_layer (Stmt-F.If i condition first (Some second)) =
-    leaf i.0 k.If (expr condition (node g.Stmt first.value (node g.ElseBranch (node g.Stmt second.value done) done)))
-stmt_layer (Stmt-F.While i condition body) = leaf i.0 k.While (expr condition (node g.Stmt body.value done))
+    leaf i.0 k.If (expr condition (node g.Statement first.value (node g.ElseBranch (node g.Statement second.value done) done)))
+stmt_layer (Stmt-F.While i condition body) = leaf i.0 k.While (expr condition (node g.Statement body.value done))
 stmt_layer (Stmt-F.For i x s elements body) =
-    leaf i.0 k.For (identifier x (node g.ForList (leaf s.0 k.Assign (for_elements elements.items)) (node g.Stmt body.value done)))
+    leaf i.0 k.For (identifier x (node g.ForList (leaf s.0 k.Assign (for_elements elements.items)) (node g.Statement body.value done)))
 stmt_layer (Stmt-F.ForReference i x s elements body) =
-    leaf i.0 k.For (identifier x (node g.ForList (leaf s.0 k.AssignReference (reference_elements elements.items)) (node g.Stmt body.value done)))
-stmt_layer (Stmt-F.Inspect i object body None) = leaf i.0 k.Inspect (expr object (node g.Arms (node g.Stmt body.value done) done))
+    leaf i.0 k.For (identifier x (node g.ForList (leaf s.0 k.AssignReference (reference_elements elements.items)) (node g.Statement body.value done)))
+stmt_layer (Stmt-F.Inspect i object body None) = leaf i.0 k.Inspect (expr object (node g.Arms (node g.Statement body.value done) done))
 stmt_layer (Stmt-F.Inspect i object body (Some otherwise)) =
-    leaf i.0 k.Inspect (expr object (node g.Arms (node g.Stmt body.value done) (node g.OtherwiseBranch (node g.Stmt otherwise.value done) done)))
+    leaf i.0 k.Inspect (expr object (node g.Arms (node g.Statement body.value done) (node g.OtherwiseBranch (node g.Statement otherwise.value done) done)))
 stmt_layer (Stmt-F.InspectWhen i object arms None) = leaf i.0 k.Inspect (expr object (node g.Arms (row g.WhenArm arms.items done) done))
 stmt_layer (Stmt-F.InspectWhen i object arms (Some otherwise)) =
-    leaf i.0 k.Inspect (expr object (node g.Arms (row g.WhenArm arms.items done) (node g.OtherwiseBranch (node g.Stmt otherwise.value done) done)))
+    leaf i.0 k.Inspect (expr object (node g.Arms (row g.WhenArm arms.items done) (node g.OtherwiseBranch (node g.Statement otherwise.value done) done)))
 stmt_layer (Stmt-F.Activation i word process time) = leaf i.0 (activation_kind word) (expr process (timing_shown time))
 
 abbrev pub stmt_shown : Stmt → Forest

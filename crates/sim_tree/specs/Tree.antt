@@ -35,7 +35,7 @@ pub record ReadsPart (ws : List Token) (d : ℕ) (n : Part) (i : ℕ) (f : Fores
 
 -- the tokens from i up to j are this expression, d deep
 abbrev pub IsExpr : List Token → ℕ → ℕ → Expr → ℕ → Type 0
-IsExpr ws d i e j = ReadsPart ws d g.Expr i (expression e) j
+IsExpr ws d i e j = ReadsPart ws d g.Expression i (expression e) j
 
 -- the last token ends the source, and is there
 pub record IsEnded (ws : List Token) : Type 0 where

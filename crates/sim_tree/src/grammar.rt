@@ -53,18 +53,18 @@ pub fn examples()
     ensures empty { IsProgram (k.Begin ∷ k.End ∷ []) (block (end 1)) }
     // begin x; end has two statements, the second of which is empty.
     ensures two { IsProgram (k.Begin ∷ x ∷ k.Semicolon ∷ k.End ∷ [])
-        (block (leaf 1 x (node g.AfterId (node g.IdStmt (node g.AfterHead done done) (node g.NextStmt (node g.Stmt (place 3 done) done) (end 3))) done))) }
+        (block (leaf 1 x (node g.AfterIdentifier (node g.StatementOfIdentifier (node g.AfterFirstOperand done done) (node g.NextStatement (node g.Statement (place 3 done) done) (end 3))) done))) }
     // begin if true then if false then x else y end: the `else` belongs to the inner `if`.
     ensures nearest { IsProgram (k.Begin ∷ k.If ∷ k.True ∷ k.Then ∷ k.If ∷ k.False ∷ k.Then ∷ x ∷ k.Else ∷ y ∷ k.End ∷ [])
-        (block (node g.Stmt (leaf 1 k.If (node g.Expr (operand 2 k.True) (node g.Stmt (leaf 4 k.If (node g.Expr (operand 5 k.False)
-        (node g.Stmt (call 7 x) (node g.ElseBranch (node g.Stmt (call 9 y) done) done)))) done))) (end 10))) }
+        (block (node g.Statement (leaf 1 k.If (node g.Expression (operand 2 k.True) (node g.Statement (leaf 4 k.If (node g.Expression (operand 5 k.False)
+        (node g.Statement (call 7 x) (node g.ElseBranch (node g.Statement (call 9 y) done) done)))) done))) (end 10))) }
     // begin x class y; ; end: the identifier is the prefix of a class with an empty body.
     ensures prefix { IsProgram (k.Begin ∷ x ∷ k.Class ∷ y ∷ k.Semicolon ∷ k.Semicolon ∷ k.End ∷ [])
-        (block (leaf 1 x (node g.AfterId (leaf 2 k.Class (node g.Cls (leaf 3 y (node g.Heading done (node g.Stmt (place 5 done) (place 5 done))))
-        (node g.Closing done (node g.Block (end 6) done)))) done))) }
+        (block (leaf 1 x (node g.AfterIdentifier (leaf 2 k.Class (node g.Class (leaf 3 y (node g.Heading done (node g.Statement (place 5 done) (place 5 done))))
+        (node g.AfterDeclaration done (node g.Block (end 6) done)))) done))) }
     // x (y) begin end;: a prefixed block, and a semicolon after it.
     ensures prefixed { IsProgram (x ∷ k.Open ∷ y ∷ k.Close ∷ k.Begin ∷ k.End ∷ k.Semicolon ∷ [])
-        (leaf 0 x (node g.Args (node g.Expr (operand 2 y) done) (node g.Compound (leaf 4 k.Begin (node g.Block (end 5) done)) done))) }
+        (leaf 0 x (node g.Arguments (node g.Expression (operand 2 y) done) (node g.Compound (leaf 4 k.Begin (node g.Block (end 5) done)) done))) }
     // The empty source is bad at its end.
     ensures nothing { IsBadAt [] 0 }
     // begin x := end lacks a value.

@@ -19,8 +19,8 @@ pub use measure::first_token;
 pub use nesting::depth;
 pub use program::{BlockPrefix, Program};
 pub use stmt::{
-    Activation, Assigned, Assignment, Block, Bounds, Class, Constant, Decl, ForElement, Mode,
-    ModePart, Procedure, Protection, ReferenceElement, Segment, Specification, Specifier, Stmt,
-    Timing, TypeName, Variable, VirtualSpec, When,
+    Activation, ArraySegment, Assigned, Assignment, Block, Bounds, Class, Constant, Decl,
+    ForElement, Mode, ModePart, Procedure, Protection, ReferenceElement, Specification, Specifier,
+    Stmt, Timing, TypeName, Variable, VirtualSpecification, When,
 };
 pub use terminal::Terminal;

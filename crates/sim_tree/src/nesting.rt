@@ -10,7 +10,7 @@ ghost use Rattle.sim_tree.specs.Tree.{IsTree, depth_of};
 use crate::expr::{Expr, Factor, Operand, Selector, Term};
 use crate::program::{BlockPrefix, Program};
 use crate::stmt::{
-    Assigned, Block, Bounds, Decl, ForElement, ReferenceElement, Segment, Stmt, Timing, When,
+    ArraySegment, Assigned, Block, Bounds, Decl, ForElement, ReferenceElement, Stmt, Timing, When,
 };
 
 /// How many statements and expressions stand around a token of a program, at most. An empty statement does not count.
@@ -178,7 +178,7 @@ fn bound_pair(bounds: &Bounds) -> u32
     expression(&bounds.lower).max(expression(&bounds.upper))
 }
 
-fn segments(list: &[Segment]) -> u32
+fn segments(list: &[ArraySegment]) -> u32
     ensures { Largest (λ x. Nests (segment_shown x)) list.now result }
 {
     let mut deepest = 0;

@@ -59,7 +59,7 @@ pub struct Variable {
 
 /// Arrays with the same bounds.
 #[derive(Drop)]
-pub struct Segment {
+pub struct ArraySegment {
     /// The arrays.
     pub names: Vec<Identifier>,
     /// The bounds of each dimension, at least one.
@@ -134,7 +134,7 @@ pub struct Protection {
 
 /// Virtual procedures of one result type.
 #[derive(Debug, Drop)]
-pub struct VirtualSpec {
+pub struct VirtualSpecification {
     /// The type of the result.
     pub result: Option<TypeName>,
     /// The token of `procedure`.
@@ -357,7 +357,7 @@ pub enum Decl {
     Arrays {
         type_name: TypeName,
         token: TokenNo,
-        segments: Vec<Segment>,
+        segments: Vec<ArraySegment>,
     },
     /// A procedure, with the type of its result. The token is that of `procedure`.
     Procedure {
@@ -404,7 +404,7 @@ pub struct Class {
     /// The attributes that are protected or hidden.
     pub protections: Vec<Protection>,
     /// The virtual procedures.
-    pub virtuals: Vec<VirtualSpec>,
+    pub virtuals: Vec<VirtualSpecification>,
     /// The body.
     pub body: Box<Stmt>,
     /// The token behind the body, so that the one in front of it is the last token of the class.

@@ -3,7 +3,7 @@
 use Rattle.std.specs.Prelude.{zero, suc, Bool, ◌+◌, ◌^◌, ℤ, pos, negsuc, neg_ℤ, ◌+ℤ◌, ◌-ℤ◌, ◌*ℤ◌, nat_lt, ◌==◌, Result, Ok, Err, if◌then◌else◌, unsigned_abs, int_div}
 use Rattle.std.specs.Int.{int_pow}
 use Rattle.sim_base.specs.declared.run_error.RunError.{RunError}
-use Rattle.sim_base.specs.declared.run_error.RunError.TheVariants.{E1, E2, E3}
+use Rattle.sim_base.specs.declared.run_error.RunError.TheVariants.{IntegerOverflow, ZeroDivisor, BadExponent}
 
 -- whether z is an integer of the language
 abbrev pub is_integer : ℤ → Bool
@@ -12,7 +12,7 @@ is_integer (negsuc n) = nat_lt n (2 ^ 63)
 
 -- z as a result: itself, or E1 where it lies outside the range
 abbrev pub in_range : ℤ → Result ℤ RunError
-in_range z = if is_integer z then Ok z else Err E1
+in_range z = if is_integer z then Ok z else Err IntegerOverflow
 
 -- `a + b`, `a - b` and `a * b`
 abbrev pub sum_of : ℤ → ℤ → Result ℤ RunError
@@ -33,11 +33,11 @@ absolute_of a = in_range (pos (unsigned_abs a))
 
 -- `a // b`, truncated toward zero: E2 where b is 0
 abbrev pub quotient_of : ℤ → ℤ → Result ℤ RunError
-quotient_of a b = if unsigned_abs b == 0 then Err E2 else in_range (int_div a b)
+quotient_of a b = if unsigned_abs b == 0 then Err ZeroDivisor else in_range (int_div a b)
 
 -- `rem(a, b)`, which is a - (a // b) * b over the unbounded integers: E2 where b is 0
 abbrev pub remainder_of : ℤ → ℤ → Result ℤ RunError
-remainder_of a b = if unsigned_abs b == 0 then Err E2 else Ok (a -ℤ int_div a b *ℤ b)
+remainder_of a b = if unsigned_abs b == 0 then Err ZeroDivisor else Ok (a -ℤ int_div a b *ℤ b)
 
 -- r moved by b where it is not 0 and its sign is not that of b
 abbrev pub with_sign_of : ℤ → ℤ → ℤ
@@ -49,9 +49,9 @@ with_sign_of (negsuc b) (negsuc r) = negsuc r
 
 -- `mod(a, b)`, the remainder that has the sign of b: E2 where b is 0
 abbrev pub modulus_of : ℤ → ℤ → Result ℤ RunError
-modulus_of a b = if unsigned_abs b == 0 then Err E2 else Ok (with_sign_of b (a -ℤ int_div a b *ℤ b))
+modulus_of a b = if unsigned_abs b == 0 then Err ZeroDivisor else Ok (with_sign_of b (a -ℤ int_div a b *ℤ b))
 
 -- `a ** n`: E3 where the exponent is negative, and for 0 ** 0
 abbrev pub power_of : ℤ → ℤ → Result ℤ RunError
-power_of a (negsuc n) = Err E3
-power_of a (pos n) = if unsigned_abs a + n == 0 then Err E3 else in_range (int_pow a n)
+power_of a (negsuc n) = Err BadExponent
+power_of a (pos n) = if unsigned_abs a + n == 0 then Err BadExponent else in_range (int_pow a n)

@@ -3,7 +3,7 @@ use Rattle.std.specs.Prelude.{ℕ, zero, suc, ◌+◌, ◌-◌, Bool, true, fals
 use Rattle.std.specs.List.{before_first, after_first}
 use Rattle.std.specs.Fmt.{signed_decimal}
 use Rattle.sim_base.specs.declared.run_error.RunError.{RunError}
-use Rattle.sim_base.specs.declared.run_error.RunError.TheVariants.{E30, E31, E32, E34}
+use Rattle.sim_base.specs.declared.run_error.RunError.TheVariants.{FieldTooLong, InputLineTooLong, InputAtEnd, NoItemBeforeEnd}
 use Rattle.sim_values.specs.declared.value.TextVal.{TextVal}
 use Rattle.sim_values.specs.Texts.{Frame, characters, with_characters, with_character, next_character, padded, content_length, at_position, after_separators, integer_item, right_justified}
 
@@ -64,9 +64,9 @@ filled s cs endfile left = record {
 abbrev pub inimage : InputState → InputStep (Unit {0})
 inimage s =
     let line = before_first is_line_feed s.left in
-    if s.endfile then refuses s E32
+    if s.endfile then refuses s InputAtEnd
     else if length s.left == 0 then answers (filled s (25 ∷ []) true []) tt
-    else if nat_lt s.image.length (length line) then refuses s E31
+    else if nat_lt s.image.length (length line) then refuses s InputLineTooLong
     else answers (filled s line false (after_first is_line_feed s.left)) tt
 
 -- the call where the image is used up, else nothing
@@ -104,7 +104,7 @@ item_taken s (Err e) = refuses s e
 
 -- `inint`: E34 where `lastitem` is true, else the integer from the position on, as `getint` reads it
 abbrev pub inint : InputState → InputStep ℤ
-inint s = and_then (lastitem s) (λ (r : InputState) (last : Bool). if last then refuses r E34 else item_taken r (integer_item (characters_left r.frames r.image)))
+inint s = and_then (lastitem s) (λ (r : InputState) (last : Bool). if last then refuses r NoItemBeforeEnd else item_taken r (integer_item (characters_left r.frames r.image)))
 
 -- ---- output
 
@@ -167,7 +167,7 @@ all_placed s (c ∷ cs) = all_placed (placed s c) cs
 abbrev pub outint : OutputState → ℤ → ℤ → Result OutputState RunError
 outint s i w =
     let field = integer_field i w in
-    if nat_lt s.image.length (length field) then Err E30 else Ok (all_placed (with_room s (length field)) field)
+    if nat_lt s.image.length (length field) then Err FieldTooLong else Ok (all_placed (with_room s (length field)) field)
 
 -- the end of a run: the image is written where its position is above 1
 abbrev pub last_image : OutputState → OutputState

@@ -8,7 +8,7 @@ use Rattle.std.specs.Char.{is_ascii_digit, to_ascii_uppercase, to_ascii_lowercas
 use Rattle.std.specs.Fmt.{signed_decimal}
 use Rattle.std.specs.Str.Parse.{digits_value}
 use Rattle.sim_base.specs.declared.run_error.RunError.{RunError}
-use Rattle.sim_base.specs.declared.run_error.RunError.TheVariants.{E20, E21, E22, E23, E24, E25, E26, E27, E28}
+use Rattle.sim_base.specs.declared.run_error.RunError.TheVariants.{SubtextOutOfRange, TextTooLong, TextIsConstant, GetcharPastEnd, PutcharPastEnd, NoIntegerItem, PutintOnNotext, NegativeLength, IntegerItemTooLarge}
 use Rattle.sim_values.specs.declared.value.TextVal.{TextVal}
 use Rattle.sim_values.specs.Arithmetic.{is_integer}
 
@@ -73,7 +73,7 @@ is_constant frames t = t.length == 0 || (frame_at frames t.frame).constant
 
 -- E22 where the text is a constant of positive length
 abbrev pub constant_refusal : List Frame → TextVal → Option RunError
-constant_refusal frames t = if nat_lt 0 t.length && (frame_at frames t.frame).constant then Some E22 else None
+constant_refusal frames t = if nat_lt 0 t.length && (frame_at frames t.frame).constant then Some TextIsConstant else None
 
 -- ---- new texts
 
@@ -89,7 +89,7 @@ with_new frames (c ∷ cs) = frames ++ (record { bytes = c ∷ cs; constant = fa
 -- `blanks(n)`
 abbrev pub blanks_refusal : ℤ → Option RunError
 blanks_refusal (pos n) = None
-blanks_refusal (negsuc n) = Some E27
+blanks_refusal (negsuc n) = Some NegativeLength
 
 abbrev pub blank_characters : ℤ → List ℕ
 blank_characters (pos n) = replicate n 32
@@ -103,7 +103,7 @@ padded n cs = cs ++ replicate (n - length cs) 32
 
 -- `left := right`
 abbrev pub assign_refusal : List Frame → TextVal → TextVal → Option RunError
-assign_refusal frames left right = if nat_lt left.length right.length then Some E21 else constant_refusal frames left
+assign_refusal frames left right = if nat_lt left.length right.length then Some TextTooLong else constant_refusal frames left
 
 abbrev pub assigned : List Frame → TextVal → TextVal → List Frame
 assigned frames left right = with_characters frames left (padded left.length (characters frames right))
@@ -120,9 +120,9 @@ part t i n = if n == 0 then notext else record { frame = t.frame; start = t.star
 
 -- `t.sub(i, n)`: E20 unless 1 <= i, 0 <= n and i + n <= length + 1
 abbrev pub sub_outcome : TextVal → ℤ → ℤ → Result TextVal RunError
-sub_outcome t (pos i) (pos n) = if nat_lt 0 i && nat_le (i + n) (t.length + 1) then Ok (part t i n) else Err E20
-sub_outcome t (pos i) (negsuc n) = Err E20
-sub_outcome t (negsuc i) n = Err E20
+sub_outcome t (pos i) (pos n) = if nat_lt 0 i && nat_le (i + n) (t.length + 1) then Ok (part t i n) else Err SubtextOutOfRange
+sub_outcome t (pos i) (negsuc n) = Err SubtextOutOfRange
+sub_outcome t (negsuc i) n = Err SubtextOutOfRange
 
 -- how many characters there are without trailing blanks
 abbrev pub content_length : List ℕ → ℕ
@@ -149,14 +149,14 @@ moved t (negsuc i) = at_position t (t.length + 1)
 
 -- `t.getchar`: E23 where the position is behind the last character
 abbrev pub getchar_refusal : TextVal → Option RunError
-getchar_refusal t = if nat_lt t.length t.pos then Some E23 else None
+getchar_refusal t = if nat_lt t.length t.pos then Some GetcharPastEnd else None
 
 abbrev pub next_character : List Frame → TextVal → ℕ
 next_character frames t = slice_index (characters frames t) (t.pos - 1)
 
 -- `t.putchar(c)`: E24 where the position is behind the last character, then E22
 abbrev pub putchar_refusal : List Frame → TextVal → Option RunError
-putchar_refusal frames t = if nat_lt t.length t.pos then Some E24 else constant_refusal frames t
+putchar_refusal frames t = if nat_lt t.length t.pos then Some PutcharPastEnd else constant_refusal frames t
 
 abbrev pub with_character : List Frame → TextVal → ℕ → List Frame
 with_character frames t c = written frames t.frame (t.start + t.pos - 2) (c ∷ [])
@@ -198,9 +198,9 @@ integer_item cs =
     let digits = take_while is_ascii_digit unsigned in
     let size = digits_value 10 digits in
     let value = if has_minus signed then neg_ℤ (pos size) else pos size in
-    if length digits == 0 then Err E25
+    if length digits == 0 then Err NoIntegerItem
     else if is_integer value then Ok (value, length cs - length unsigned + length digits)
-    else Err E28
+    else Err IntegerItemTooLarge
 
 -- `t.getint`: the value, and the text with its position after the last digit; where it is refused the text is as before
 abbrev pub item_value : Result (ℤ × ℕ) RunError → Result ℤ RunError
@@ -213,7 +213,7 @@ after_item t (Err e) = t
 
 -- `t.putint(i)`: E26 for a text of length 0, then E22
 abbrev pub putint_refusal : List Frame → TextVal → Option RunError
-putint_refusal frames t = if t.length == 0 then Some E26 else constant_refusal frames t
+putint_refusal frames t = if t.length == 0 then Some PutintOnNotext else constant_refusal frames t
 
 -- these characters at the right end of n places, with blanks before them; n stars where they do not fit
 abbrev pub right_justified : ℕ → List ℕ → List ℕ

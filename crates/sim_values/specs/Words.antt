@@ -1,7 +1,7 @@
 -- How many words of storage instances, arrays and texts take.
 use Rattle.std.specs.Prelude.{ℕ, ◌+◌, ◌*◌, ◌^◌, ◌/◌, Bool, ℤ, pos, negsuc, ◌+ℤ◌, ◌-ℤ◌, List, [], ◌∷◌, length, nat_lt, ◌==◌, Result, Ok, Err, if◌then◌else◌}
 use Rattle.sim_base.specs.declared.run_error.RunError.{RunError}
-use Rattle.sim_base.specs.declared.run_error.RunError.TheVariants.{E13}
+use Rattle.sim_base.specs.declared.run_error.RunError.TheVariants.{ArrayTooLarge}
 
 -- an instance: four words, one for each cell, and four more for a process
 abbrev pub instance_words : ℕ → Bool → ℕ
@@ -29,5 +29,5 @@ element_count (bounds ∷ others) = extent_of bounds * element_count others
 abbrev pub array_words : List (ℤ × ℤ) → Result ℕ RunError
 array_words dimensions =
     if nat_lt (2 ^ 31) (element_count dimensions)
-    then Err E13
+    then Err ArrayTooLarge
     else Ok (3 + element_count dimensions + 2 * length dimensions)

@@ -8,35 +8,35 @@ use sim_base::RunError;
 pub fn add(a: i64, b: i64) -> Result<i64, RunError>
     ensures sum { result ≡ sum_of a b }
 {
-    a.checked_add(b).ok_or(RunError::E1)
+    a.checked_add(b).ok_or(RunError::IntegerOverflow)
 }
 
 /// `a - b`, or E1 where the difference is outside the range.
 pub fn sub(a: i64, b: i64) -> Result<i64, RunError>
     ensures difference { result ≡ difference_of a b }
 {
-    a.checked_sub(b).ok_or(RunError::E1)
+    a.checked_sub(b).ok_or(RunError::IntegerOverflow)
 }
 
 /// `a * b`, or E1 where the product is outside the range.
 pub fn mul(a: i64, b: i64) -> Result<i64, RunError>
     ensures product { result ≡ product_of a b }
 {
-    a.checked_mul(b).ok_or(RunError::E1)
+    a.checked_mul(b).ok_or(RunError::IntegerOverflow)
 }
 
 /// `-a`, or E1 for the least integer.
 pub fn negate(a: i64) -> Result<i64, RunError>
     ensures negation { result ≡ negation_of a }
 {
-    a.checked_neg().ok_or(RunError::E1)
+    a.checked_neg().ok_or(RunError::IntegerOverflow)
 }
 
 /// `abs(a)`, or E1 for the least integer.
 pub fn absolute(a: i64) -> Result<i64, RunError>
     ensures absolute { result ≡ absolute_of a }
 {
-    a.checked_abs().ok_or(RunError::E1)
+    a.checked_abs().ok_or(RunError::IntegerOverflow)
 }
 
 /// `a // b`, truncated toward zero; E2 where `b` is 0, and E1 for the least integer divided by -1.
@@ -44,9 +44,9 @@ pub fn div(a: i64, b: i64) -> Result<i64, RunError>
     ensures quotient { result ≡ quotient_of a b }
 {
     if b == 0 {
-        return Err(RunError::E2);
+        return Err(RunError::ZeroDivisor);
     }
-    a.checked_div(b).ok_or(RunError::E1)
+    a.checked_div(b).ok_or(RunError::IntegerOverflow)
 }
 
 /// `rem(a, b)`: what `a // b` leaves over, with the sign of `a`; E2 where `b` is 0.
@@ -54,7 +54,7 @@ pub fn remainder(a: i64, b: i64) -> Result<i64, RunError>
     ensures remainder { result ≡ remainder_of a b }
 {
     if b == 0 {
-        return Err(RunError::E2);
+        return Err(RunError::ZeroDivisor);
     }
     Ok(left_over(a, b))
 }
@@ -64,7 +64,7 @@ pub fn modulo(a: i64, b: i64) -> Result<i64, RunError>
     ensures modulus { result ≡ modulus_of a b }
 {
     if b == 0 {
-        return Err(RunError::E2);
+        return Err(RunError::ZeroDivisor);
     }
     Ok(signed_as(left_over(a, b), b))
 }
@@ -93,12 +93,12 @@ pub fn pow(base: i64, exponent: i64) -> Result<i64, RunError>
     ensures power { result ≡ power_of base exponent }
 {
     if exponent < 0 || (base == 0 && exponent == 0) {
-        return Err(RunError::E3);
+        return Err(RunError::BadExponent);
     }
     let exponent = exponent.unsigned_abs();
     let negative = base < 0 && exponent % 2 == 1;
-    let size = natural_power(base.unsigned_abs(), exponent).ok_or(RunError::E1)?;
-    with_sign(negative, size).ok_or(RunError::E1)
+    let size = natural_power(base.unsigned_abs(), exponent).ok_or(RunError::IntegerOverflow)?;
+    with_sign(negative, size).ok_or(RunError::IntegerOverflow)
 }
 
 /// The integer of this size and sign, if it is in the range.

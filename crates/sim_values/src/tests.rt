@@ -1,7 +1,7 @@
 //! Values at the edges of the ranges.
 
 use super::*;
-use sim_base::RunError::{self, E1, E2, E3, E13};
+use sim_base::RunError::{self, IntegerOverflow, ZeroDivisor, BadExponent, ArrayTooLarge};
 
 const LEAST: i64 = i64::MIN;
 
@@ -11,9 +11,9 @@ const MOST: i64 = i64::MAX;
 fn arithmetic_at_the_edges(rt: HostRuntime) {
     let sums = [
         (MOST, 0, Ok(MOST)),
-        (MOST, 1, Err(E1)),
+        (MOST, 1, Err(IntegerOverflow)),
         (MOST - 1, 1, Ok(MOST)),
-        (LEAST, -1, Err(E1)),
+        (LEAST, -1, Err(IntegerOverflow)),
         (LEAST + 1, -1, Ok(LEAST)),
         (LEAST, MOST, Ok(-1)),
     ];
@@ -22,8 +22,8 @@ fn arithmetic_at_the_edges(rt: HostRuntime) {
     }
     let differences = [
         (LEAST, 0, Ok(LEAST)),
-        (LEAST, 1, Err(E1)),
-        (0, LEAST, Err(E1)),
+        (LEAST, 1, Err(IntegerOverflow)),
+        (0, LEAST, Err(IntegerOverflow)),
         (-1, LEAST, Ok(MOST)),
         (7, 9, Ok(-2)),
     ];
@@ -31,11 +31,11 @@ fn arithmetic_at_the_edges(rt: HostRuntime) {
         assert_eq!(rt; sub(a, b), want, "{a} - {b}");
     }
     let products = [
-        (LEAST, -1, Err(E1)),
+        (LEAST, -1, Err(IntegerOverflow)),
         (LEAST, 1, Ok(LEAST)),
-        (3_037_000_500, 3_037_000_500, Err(E1)),
+        (3_037_000_500, 3_037_000_500, Err(IntegerOverflow)),
         (4_294_967_296, -2_147_483_648, Ok(LEAST)),
-        (4_294_967_296, 2_147_483_648, Err(E1)),
+        (4_294_967_296, 2_147_483_648, Err(IntegerOverflow)),
         (-6, 7, Ok(-42)),
     ];
     for (a, b, want) in products {
@@ -49,7 +49,7 @@ fn sizes(rt: HostRuntime) {
         (0, Ok(0), Ok(0)),
         (-5, Ok(5), Ok(5)),
         (MOST, Ok(-MOST), Ok(MOST)),
-        (LEAST, Err(E1), Err(E1)),
+        (LEAST, Err(IntegerOverflow), Err(IntegerOverflow)),
     ] {
         assert_eq!(rt; negate(a), negation, "-{a}");
         assert_eq!(rt; absolute(a), size, "abs({a})");
@@ -64,8 +64,8 @@ fn quotients_and_remainders(rt: HostRuntime) {
         (7, -2, Ok(-3), Ok(1), Ok(-1)),
         (-7, -2, Ok(3), Ok(-1), Ok(-1)),
         (6, -3, Ok(-2), Ok(0), Ok(0)),
-        (1, 0, Err(E2), Err(E2), Err(E2)),
-        (LEAST, -1, Err(E1), Ok(0), Ok(0)),
+        (1, 0, Err(ZeroDivisor), Err(ZeroDivisor), Err(ZeroDivisor)),
+        (LEAST, -1, Err(IntegerOverflow), Ok(0), Ok(0)),
         (LEAST, 1, Ok(LEAST), Ok(0), Ok(0)),
         (MOST, LEAST, Ok(0), Ok(MOST), Ok(-1)),
     ];
@@ -79,9 +79,9 @@ fn quotients_and_remainders(rt: HostRuntime) {
 #[test]
 fn powers(rt: HostRuntime) {
     let cases: [(i64, i64, Result<i64, RunError>); 17] = [
-        (0, 0, Err(E3)),
-        (5, -1, Err(E3)),
-        (0, -1, Err(E3)),
+        (0, 0, Err(BadExponent)),
+        (5, -1, Err(BadExponent)),
+        (0, -1, Err(BadExponent)),
         (0, 1, Ok(0)),
         (0, MOST, Ok(0)),
         (1, 0, Ok(1)),
@@ -89,10 +89,10 @@ fn powers(rt: HostRuntime) {
         (-1, MOST, Ok(-1)),
         (-1, MOST - 1, Ok(1)),
         (2, 62, Ok(4_611_686_018_427_387_904)),
-        (2, 63, Err(E1)),
+        (2, 63, Err(IntegerOverflow)),
         (-2, 63, Ok(LEAST)),
-        (-2, 64, Err(E1)),
-        (2, MOST, Err(E1)),
+        (-2, 64, Err(IntegerOverflow)),
+        (2, MOST, Err(IntegerOverflow)),
         (3, 39, Ok(4_052_555_153_018_976_267)),
         (-7, 0, Ok(1)),
         (LEAST, 1, Ok(LEAST)),
@@ -118,7 +118,7 @@ fn words(rt: HostRuntime) {
     assert_eq!(rt; words_array(&[(1, 10)]), Ok(15));
     assert_eq!(rt; words_array(&[(-1, 1), (0, 3)]), Ok(19));
     assert_eq!(rt; words_array(&[(1, 2_147_483_648)]), Ok(2_147_483_653));
-    assert_eq!(rt; words_array(&[(0, 2_147_483_648)]), Err(E13));
-    assert_eq!(rt; words_array(&[(LEAST, MOST), (LEAST, MOST)]), Err(E13));
+    assert_eq!(rt; words_array(&[(0, 2_147_483_648)]), Err(ArrayTooLarge));
+    assert_eq!(rt; words_array(&[(LEAST, MOST), (LEAST, MOST)]), Err(ArrayTooLarge));
     assert_eq!(rt; words_array(&[(LEAST, MOST), (1, 0), (LEAST, MOST)]), Ok(9));
 }

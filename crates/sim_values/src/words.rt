@@ -22,7 +22,7 @@ pub fn words_array(bounds: &[(i64, i64)]) -> Result<u64, RunError>
 {
     let elements = capped_count(bounds);
     if elements > MOST_ELEMENTS {
-        return Err(RunError::E13);
+        return Err(RunError::ArrayTooLarge);
     }
     Ok(3 + elements + 2 * bounds.len() as u64)
 }

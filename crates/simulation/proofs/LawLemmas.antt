@@ -7,7 +7,7 @@ use Rattle.std.proofs.lemmas.Bool.{eq-eqb, eqb-true, cond-true, cond-false}
 use Rattle.std.proofs.lemmas.Int.{ints, clamps}
 use Rattle.std.proofs.lemmas.List.Elements.{All-nil, All-cons, All-head, All-tail, All-append, All-filter, All-push, All-take, All-drop}
 use Rattle.sim_base.specs.declared.run_error.RunError.{RunError}
-use Rattle.sim_base.specs.declared.run_error.RunError.TheVariants.{E50, E51}
+use Rattle.sim_base.specs.declared.run_error.RunError.TheVariants.{NoNoticeLeft, TimeTooLarge}
 use Rattle.notices.specs.declared.notice.Notice.{Notice}
 use Rattle.notices.specs.Notices.{is_of, is_earlier_than, is_at_most, is_at_least, is_later_than, notice_of, has_notice, removed, placed_between, placed_at, placed_direct, placed_beside}
 use Rattle.notices.specs.Schedule.{IsOrdered, IsOnce}
@@ -53,7 +53,7 @@ after_placed_at t time false x l all h =
 after_scheduled_at : (t time : ℤ) (prior : Bool) (x : ℕ) (l new : List Notice) → scheduled_at time prior x l ≡ Ok new → All (NotBefore t) l → t ≤ℤ time → All (NotBefore t) new
 after_scheduled_at t time prior x l new done all h = by_test (is_too_late time) t (placed_at time prior x l) new done (after_placed_at t time prior x l all h)
   where
-    by_test : (late : Bool) (t : ℤ) (placed new : List Notice) → ◌≡◌ {A = Result (List Notice) RunError} (cond late (Err E51) (Ok placed)) (Ok new) → All (NotBefore t) placed → All (NotBefore t) new
+    by_test : (late : Bool) (t : ℤ) (placed new : List Notice) → ◌≡◌ {A = Result (List Notice) RunError} (cond late (Err TimeTooLarge) (Ok placed)) (Ok new) → All (NotBefore t) placed → All (NotBefore t) new
     by_test true t placed new done all = absurd (cc)
     by_test false t placed new done all = let same : placed ≡ new = cc in subst (λ k. All (NotBefore t) k) same all
 
@@ -150,7 +150,7 @@ cancelled-current n l once = removed-first (n ∷ l) (n.time, n.process) once re
 
 -- ---- the answers
 
-pub answer-empty : (old new : List Notice) → (next_of old new ≡ Err E50) ↔ (new ≡ [])
+pub answer-empty : (old new : List Notice) → (next_of old new ≡ Err NoNoticeLeft) ↔ (new ≡ [])
 answer-empty old [] = (λ _. refl, λ _. refl)
 answer-empty old (n ∷ new) = (λ e. absurd (cc), λ e. absurd (cc))
 

@@ -3,7 +3,7 @@
 use Rattle.std.specs.Prelude.{ℕ, ℤ, pos, ◌+ℤ◌, ◌^◌, Bool, true, false, not, ◌&&◌, ◌==◌, int_le, List, [], ◌∷◌, Option, Some, None, Result, Ok, Err, if◌then◌else◌}
 use Rattle.std.specs.Int.{int_max}
 use Rattle.sim_base.specs.declared.run_error.RunError.{RunError}
-use Rattle.sim_base.specs.declared.run_error.RunError.TheVariants.{E50, E51}
+use Rattle.sim_base.specs.declared.run_error.RunError.TheVariants.{NoNoticeLeft, TimeTooLarge}
 use Rattle.notices.specs.declared.notice.Notice.{Notice}
 use Rattle.notices.specs.Notices.{has_notice, removed, placed_at, placed_direct, placed_near}
 use Rattle.simulation.specs.declared.activation.Activation.{Activation}
@@ -36,7 +36,7 @@ is_too_late t = int_le (pos (2 ^ 63)) t
 
 -- a notice of x at time t, which is E51 where the time is too large
 abbrev pub scheduled_at : ℤ → Bool → ℕ → List Notice → Result (List Notice) RunError
-scheduled_at t prior x l = if is_too_late t then Err E51 else Ok (placed_at t prior x l)
+scheduled_at t prior x l = if is_too_late t then Err TimeTooLarge else Ok (placed_at t prior x l)
 
 -- `hold(t)`: t is added to the time of the first notice, where it is above 0, and the notice moves after all
 -- notices of its time or less
@@ -84,7 +84,7 @@ list_after old (Err _) = old
 
 -- Where no notice is left, E50. Control stays where it is exactly where the first process is as before.
 abbrev pub next_of : List Notice → List Notice → Result Next RunError
-next_of old [] = Err E50
+next_of old [] = Err NoNoticeLeft
 next_of old (n ∷ _) = Ok (if is_current n.process old then Stay else Resume n.process)
 
 -- the error of a refused procedure, or the answer by the lists

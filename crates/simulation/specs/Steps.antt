@@ -1,7 +1,7 @@
 -- What the steps of the procedures answer.
 use Rattle.std.specs.Prelude.{ℕ, List, [], ◌∷◌, Result, Ok, Err, ◌==◌, if◌then◌else◌}
 use Rattle.sim_base.specs.declared.run_error.RunError.{RunError}
-use Rattle.sim_base.specs.declared.run_error.RunError.TheVariants.{E50}
+use Rattle.sim_base.specs.declared.run_error.RunError.TheVariants.{NoNoticeLeft}
 use Rattle.notices.specs.declared.notice.Notice.{Notice}
 use Rattle.simulation.specs.declared.next.Next.{Next}
 use Rattle.simulation.specs.declared.next.Next.TheVariants.{Stay, Resume}
@@ -13,5 +13,5 @@ refusal_of (Err e) = Err e
 
 -- who goes on after process x
 abbrev pub next_after : ℕ → List Notice → Result Next RunError
-next_after x [] = Err E50
+next_after x [] = Err NoNoticeLeft
 next_after x (n ∷ _) = Ok (if n.process == x then Stay else Resume n.process)

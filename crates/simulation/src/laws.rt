@@ -1,7 +1,7 @@
 //! Laws of the definitions that the contracts cite.
 ghost use Rattle.std.specs.Prelude.{◌≡◌, ℕ, ℤ, ◌↔◌, ◌≤ℤ◌, List, [], ◌∷◌, Option, Some, Ok, Err};
 ghost use Rattle.std.specs.List.{All};
-ghost use Rattle.sim_base.specs.declared.run_error.RunError.TheVariants.{E50};
+ghost use Rattle.sim_base.specs.declared.run_error.RunError.TheVariants.{NoNoticeLeft};
 ghost use Rattle.notices.specs.declared.notice.Notice.{Notice};
 ghost use Rattle.notices.specs.Schedule.{IsOrdered, IsOnce};
 ghost use Rattle.simulation.specs.declared.activation.Activation.{Activation};
@@ -28,7 +28,7 @@ pub fn cancel_of_the_current_is_passivate()
 /// `E50` comes exactly where no notice is left, and control stays exactly where the first process is the
 /// same as before.
 pub fn answers_tell_the_list()
-    ensures empty { (old new : List Notice) → (next_of old new ≡ Err E50) ↔ (new ≡ []) }
+    ensures empty { (old new : List Notice) → (next_of old new ≡ Err NoNoticeLeft) ↔ (new ≡ []) }
     ensures stay { (m n : Notice) (old new : List Notice) →
         (next_of (m ∷ old) (n ∷ new) ≡ Ok Stay) ↔ (n.process ≡ m.process) }
 {}

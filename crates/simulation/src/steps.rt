@@ -25,7 +25,7 @@ pub fn next_after<N: NoticeSet>(notices: &N, current: u32) -> Result<Next, RunEr
     ensures { result ≡ next_after current (N.notices notices.now) }
 {
     match notices.first() {
-        None => Err(RunError::E50),
+        None => Err(RunError::NoNoticeLeft),
         Some((_, process)) if process == current => Ok(Next::Stay),
         Some((_, process)) => Ok(Next::Resume(process)),
     }
@@ -44,7 +44,7 @@ pub fn put_later<N: NoticeSet>(
     ensures answer { result ≡ refusal_of (scheduled_at (later_by delay now) prior process (N.notices notices.old)) }
     ensures not_lower { N.room notices.old ≤ N.room notices.new }
 {
-    let time = now.checked_add(delay.max(0)).ok_or(RunError::E51)?;
+    let time = now.checked_add(delay.max(0)).ok_or(RunError::TimeTooLarge)?;
     notices.put_at(time, prior, process);
     Ok(())
 }

@@ -51,7 +51,7 @@ fn answer(sim: &mut Sim<NoticeVec>, rings: &mut Rings, call: &Call) -> Result<Ne
     ensures { 8 ≤ sim.new.room }
 {
     if sim.notices().first().is_none() {
-        return Err(RunError::E50);
+        return Err(RunError::NoNoticeLeft);
     }
     match call {
         Call::Hold(time) => sim.hold(*time),
@@ -60,12 +60,12 @@ fn answer(sim: &mut Sim<NoticeVec>, rings: &mut Rings, call: &Call) -> Result<Ne
             if rings.is_link(*link) && rings.is_head(PROCESSES) {
                 sim.wait(rings, *link, Some(PROCESSES))
             } else {
-                Err(RunError::E53)
+                Err(RunError::OtherSimulation)
             }
         }
         Call::Cancel(process) => sim.cancel(*process),
         Call::Activate(activation) => match activation.process {
-            Some(process) if PROCESSES <= process => Err(RunError::E53),
+            Some(process) if PROCESSES <= process => Err(RunError::OtherSimulation),
             _ => sim.activate(*activation),
         },
     }
@@ -193,7 +193,7 @@ fn refusals(rt: HostRuntime) -> Result<(), Fail> {
     // With its only notice gone, `main` cannot go on.
     let alone = [Step {
         call: Call::Passivate,
-        answer: Err(RunError::E50),
+        answer: Err(RunError::NoNoticeLeft),
         time: 0,
     }];
     assert_eq!(rt; steps_done(rt.alloc(), &mut rings, &alone)?, alone.len());
@@ -201,7 +201,7 @@ fn refusals(rt: HostRuntime) -> Result<(), Fail> {
     // If it waits instead, it is in the queue.
     let queued = [Step {
         call: Call::Wait(0),
-        answer: Err(RunError::E50),
+        answer: Err(RunError::NoNoticeLeft),
         time: 0,
     }];
     assert_eq!(rt; steps_done(rt.alloc(), &mut rings, &queued)?, queued.len());
@@ -212,7 +212,7 @@ fn refusals(rt: HostRuntime) -> Result<(), Fail> {
         stays(Call::Hold(i64::MAX), i64::MAX),
         Step {
             call: Call::Hold(1),
-            answer: Err(RunError::E51),
+            answer: Err(RunError::TimeTooLarge),
             time: i64::MAX,
         },
         stays(Call::Hold(-1), i64::MAX),

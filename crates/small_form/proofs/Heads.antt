@@ -80,7 +80,7 @@ module _ (names : List (List ℕ)) (lines : List Line) where
       ap (multiplied_in names lines) (factor_is f)
       ∙ ap (λ o. multiplied_in names lines (leaf f.token.0 (multiplication_kind o) (node g.Factor (raise 2 (shown f.factor)) done))) divide
 
-  pub factors_row : (fs : List Factor) → factors_in names lines (row g.Multiplied (map factor_shown fs) done) ≡ sequence (map (λ f. multiplied_in names lines (factor_shown f)) fs)
+  pub factors_row : (fs : List Factor) → factors_in names lines (row g.NextFactor (map factor_shown fs) done) ≡ sequence (map (λ f. multiplied_in names lines (factor_shown f)) fs)
   factors_row [] = refl
   factors_row (f ∷ fs) = ap (both ◌∷◌ (multiplied_in names lines (factor_shown f))) (factors_row fs)
 
@@ -91,22 +91,22 @@ module _ (names : List (List ℕ)) (lines : List Line) where
       ap (added_in names lines) (term_is t)
       ∙ ap (λ o. with_sign o (line_of lines t.token.0) (product_in names lines (raise 3 (shown t.term)))) is
 
-  pub terms_row : (ts : List Term) → terms_in names lines (row g.Added (map term_shown ts) done) ≡ sequence (map (λ t. added_in names lines (term_shown t)) ts)
+  pub terms_row : (ts : List Term) → terms_in names lines (row g.NextTerm (map term_shown ts) done) ≡ sequence (map (λ t. added_in names lines (term_shown t)) ts)
   terms_row [] = refl
   terms_row (t ∷ ts) = ap (both ◌∷◌ (added_in names lines (term_shown t))) (terms_row ts)
 
   -- what an identifier begins
   head_of : (x : Identifier) (ss : List Shown) (rest : Forest) → statement_in names lines (acted (node g.Primary (identifier x (arguments ss done)) done) rest)
-      ≡ behind_in names lines x.token.0 x.name (arguments ss (node g.AfterHead rest done))
+      ≡ behind_in names lines x.token.0 x.name (arguments ss (node g.AfterFirstOperand rest done))
   head_of x [] rest = refl
   head_of x (s ∷ ss) rest = refl
 
   pub named_head : (x : Identifier) (v : Vec Expr Global) (rest : Forest) → statement_in names lines (acted (raise 1 (shown (e.Named x v))) rest)
-      ≡ behind_in names lines x.token.0 x.name (arguments (map shown v.items) (node g.AfterHead rest done))
+      ≡ behind_in names lines x.token.0 x.name (arguments (map shown v.items) (node g.AfterFirstOperand rest done))
   unfolding raise
   named_head x v rest = ap (λ z. statement_in names lines (acted (raise 1 z) rest)) (lemma.shown-Named x v) ∙ head_of x (map shown v.items) rest
 
-  pub assignment_head : (i : ℕ) (name : List ℕ) (ss : List Shown) (f : Forest) → behind_in names lines i name (arguments ss (node g.AfterHead (node g.Assigned f done) done))
+  pub assignment_head : (i : ℕ) (name : List ℕ) (ss : List Shown) (f : Forest) → behind_in names lines i name (arguments ss (node g.AfterFirstOperand (node g.Assigned f done) done))
       ≡ both statement.Assignment (variable_in names lines i name (arguments ss done)) (assigned_in names lines f)
   assignment_head i name [] f = refl
   assignment_head i name (s ∷ ss) f = refl
@@ -117,15 +117,15 @@ module _ (names : List (List ℕ)) (lines : List Line) where
       ≡ both statement.Assignment (variable_in names lines x.token.0 x.name (arguments (map shown v.items) done)) (sum_in names lines (expression a.value))
   assigns x v a value =
       named_head x v (row g.Assigned (map assigned_shown (a ∷ [])) done) ∙ assignment_head x.token.0 x.name (map shown v.items) (assigned_shown a)
-      ∙ ap (λ o. both statement.Assignment (variable_in names lines x.token.0 x.name (arguments (map shown v.items) done)) (assigned_in names lines (leaf a.token.0 (assignment_kind o) (node g.Expr (expression a.value) done)))) value
+      ∙ ap (λ o. both statement.Assignment (variable_in names lines x.token.0 x.name (arguments (map shown v.items) done)) (assigned_in names lines (leaf a.token.0 (assignment_kind o) (node g.Expression (expression a.value) done)))) value
 
   pub assigns_reference : (x : Identifier) (v : Vec Expr Global) (a : Assigned) → a.sign ≡ assignment.Reference → statement_in names lines (assigning (e.Named x v) (a ∷ [])) ≡ None
   assigns_reference x v a reference =
       named_head x v (row g.Assigned (map assigned_shown (a ∷ [])) done) ∙ assignment_head x.token.0 x.name (map shown v.items) (assigned_shown a)
-      ∙ ap (λ o. both statement.Assignment (variable_in names lines x.token.0 x.name (arguments (map shown v.items) done)) (assigned_in names lines (leaf a.token.0 (assignment_kind o) (node g.Expr (expression a.value) done)))) reference
+      ∙ ap (λ o. both statement.Assignment (variable_in names lines x.token.0 x.name (arguments (map shown v.items) done)) (assigned_in names lines (leaf a.token.0 (assignment_kind o) (node g.Expression (expression a.value) done)))) reference
       ∙ both_none statement.Assignment (variable_in names lines x.token.0 x.name (arguments (map shown v.items) done))
 
-  chained : (i : ℕ) (name : List ℕ) (ss : List Shown) (f h rest : Forest) → behind_in names lines i name (arguments ss (node g.AfterHead (node g.Assigned f (node g.Assigned h rest)) done)) ≡ None
+  chained : (i : ℕ) (name : List ℕ) (ss : List Shown) (f h rest : Forest) → behind_in names lines i name (arguments ss (node g.AfterFirstOperand (node g.Assigned f (node g.Assigned h rest)) done)) ≡ None
   chained i name [] f h rest = refl
   chained i name (s ∷ ss) f h rest = refl
 
@@ -142,7 +142,7 @@ module _ (names : List (List ℕ)) (lines : List Line) where
   either_none false p none = refl
 
   -- calls with one actual, or more than two
-  pub other_call : (i : ℕ) (name : List ℕ) (l : List Expr) → (length l ≡ 0 → ⊥) → (length l ≡ 2 → ⊥) → behind_in names lines i name (arguments (map shown l) (node g.AfterHead done done)) ≡ None
+  pub other_call : (i : ℕ) (name : List ℕ) (l : List Expr) → (length l ≡ 0 → ⊥) → (length l ≡ 2 → ⊥) → behind_in names lines i name (arguments (map shown l) (node g.AfterFirstOperand done done)) ≡ None
   other_call i name [] h0 h2 = absurd (h0 refl)
   other_call i name (a ∷ []) h0 h2 = either_none (bytes_eq name (codes "outint")) None refl
   other_call i name (a ∷ b ∷ []) h0 h2 = absurd (h2 refl)
@@ -150,10 +150,10 @@ module _ (names : List (List ℕ)) (lines : List Line) where
 
   -- a call, by its actuals
   pub called : (x : Expr) (y : Identifier) (v : Vec Expr Global) (l : List Expr) → x ≡ e.Named y v → l ≡ v.items
-      → statement_in names lines (acted (raise 1 (shown x)) done) ≡ behind_in names lines y.token.0 y.name (arguments (map shown l) (node g.AfterHead done done))
+      → statement_in names lines (acted (raise 1 (shown x)) done) ≡ behind_in names lines y.token.0 y.name (arguments (map shown l) (node g.AfterFirstOperand done done))
   called x y v l is same =
       ap (λ z. statement_in names lines (acted (raise 1 (shown z)) done)) is ∙ named_head y v done
-      ∙ ap (λ l. behind_in names lines y.token.0 y.name (arguments (map shown l) (node g.AfterHead done done))) (sym same)
+      ∙ ap (λ l. behind_in names lines y.token.0 y.name (arguments (map shown l) (node g.AfterFirstOperand done done))) (sym same)
 
   end_of_line : (old : Identifiers) (b : Bool) (r : Result Statement FormRefusal) → r ≡ (if b then Ok statement.OutImage else Err refusal.NotBuilt)
       → Builds (if b then Some (plain statement.OutImage) else None) old old r
@@ -164,7 +164,7 @@ module _ (names : List (List ℕ)) (lines : List Line) where
   pub no_arguments : (old : Identifiers) (x : Expr) (y : Identifier) (v : Vec Expr Global) (l : List Expr) (r : Result Statement FormRefusal) → x ≡ e.Named y v → l ≡ v.items → l ≡ []
       → r ≡ (if bytes_eq y.name (codes "outimage") then Ok statement.OutImage else Err refusal.NotBuilt) → Builds (statement_in names lines (acted (raise 1 (shown x)) done)) old old r
   no_arguments old x y v l r is same none ends =
-      subst (λ p. Builds p old old r) (sym (called x y v l is same ∙ ap (λ l. behind_in names lines y.token.0 y.name (arguments (map shown l) (node g.AfterHead done done))) none))
+      subst (λ p. Builds p old old r) (sym (called x y v l is same ∙ ap (λ l. behind_in names lines y.token.0 y.name (arguments (map shown l) (node g.AfterFirstOperand done done))) none))
       (end_of_line old (bytes_eq y.name (codes "outimage")) r ends)
 
   -- what is assigned to no identifier
@@ -172,7 +172,7 @@ module _ (names : List (List ℕ)) (lines : List Line) where
   unassigned x [] h = refl
   unassigned x (a ∷ l) h = no_head names lines x h (row g.Assigned (map assigned_shown (a ∷ l)) done)
 
-  prefixed_head : (i : ℕ) (name : List ℕ) (ss : List Shown) (f : Forest) → behind_in names lines i name (arguments ss (node g.AfterHead (node g.Compound f done) done)) ≡ None
+  prefixed_head : (i : ℕ) (name : List ℕ) (ss : List Shown) (f : Forest) → behind_in names lines i name (arguments ss (node g.AfterFirstOperand (node g.Compound f done) done)) ≡ None
   prefixed_head i name [] f = refl
   prefixed_head i name (s ∷ ss) f = refl
 
@@ -216,7 +216,7 @@ module _ (names : List (List ℕ)) (lines : List Line) where
   begun_one (leaf i (k.Identifier name) f) rest = refl
   begun_one (leaf i _ f) rest = refl
 
-  statements_row : (end : ℕ) (l : List Stmt) → statements_in names lines (row g.NextStmt (map next_statement (map stmt_shown l)) (leaf end k.End done)) ≡ sequence (map (λ x. statement_in names lines (stmt_shown x)) l)
+  statements_row : (end : ℕ) (l : List Stmt) → statements_in names lines (row g.NextStatement (map next_statement (map stmt_shown l)) (leaf end k.End done)) ≡ sequence (map (λ x. statement_in names lines (stmt_shown x)) l)
   statements_row end [] = refl
   statements_row end (x ∷ l) = ap (both ◌∷◌ (statement_in names lines (stmt_shown x))) (statements_row end l)
 
@@ -224,15 +224,15 @@ module _ (names : List (List ℕ)) (lines : List Line) where
   pub statements_list : (end : ℕ) (l : List Stmt) → statements_in names lines (statements (map stmt_shown l) end) ≡ sequence (map (λ x. statement_in names lines (stmt_shown x)) l)
   statements_list end [] = refl
   statements_list end (x ∷ l) =
-      begun_one (stmt_shown x) (row g.NextStmt (map next_statement (map stmt_shown l)) (leaf end k.End done)) ∙ ap (both ◌∷◌ (statement_in names lines (stmt_shown x))) (statements_row end l)
+      begun_one (stmt_shown x) (row g.NextStatement (map next_statement (map stmt_shown l)) (leaf end k.End done)) ∙ ap (both ◌∷◌ (statement_in names lines (stmt_shown x))) (statements_row end l)
 
 -- Declarations.
 
-pub next_variables : (l : List Variable) (names : List (List ℕ)) → variables_in names (row g.NextVar (map next_variable l) done) ≡ each (λ names v. name_in names (variable_shown v)) names l
+pub next_variables : (l : List Variable) (names : List (List ℕ)) → variables_in names (row g.NextVariable (map next_variable l) done) ≡ each (λ names v. name_in names (variable_shown v)) names l
 next_variables [] names = refl
 next_variables (v ∷ l) names =
     elim (name_in names (variable_shown v)) as
-    (λ o. option_and_then (λ more. variables_in more (row g.NextVar (map next_variable l) done)) o ≡ option_and_then (λ more. each (λ names v. name_in names (variable_shown v)) more l) o)
+    (λ o. option_and_then (λ more. variables_in more (row g.NextVariable (map next_variable l) done)) o ≡ option_and_then (λ more. each (λ names v. name_in names (variable_shown v)) more l) o)
     [ None ↦ refl | Some more ↦ next_variables l more ]
 
 -- the variables of a declaration
@@ -240,13 +240,13 @@ pub variables_list : (l : List Variable) (names : List (List ℕ)) → variables
 variables_list [] names = refl
 variables_list (v ∷ l) names =
     elim (name_in names (variable_shown v)) as
-    (λ o. option_and_then (λ more. variables_in more (row g.NextVar (map next_variable l) done)) o ≡ option_and_then (λ more. each (λ names v. name_in names (variable_shown v)) more l) o)
+    (λ o. option_and_then (λ more. variables_in more (row g.NextVariable (map next_variable l) done)) o ≡ option_and_then (λ more. each (λ names v. name_in names (variable_shown v)) more l) o)
     [ None ↦ refl | Some more ↦ next_variables l more ]
 
 pub declares_integers : (names : List (List ℕ)) (t : TypeName) (i : TokenNo) (v : Vec Variable Global) → t ≡ type_name.Integer i
     → declared_by names (decl_shown (decl.Variables t v)) ≡ each (λ names v. name_in names (variable_shown v)) names v.items
 declares_integers names t i v is =
-    ap (declared_by names) (stmts.shown-Variables t v) ∙ ap (λ t. declaration_in names (node g.TypeName (type_shown t) (node g.Typed (variables_shown v.items) done))) is
+    ap (declared_by names) (stmts.shown-Variables t v) ∙ ap (λ t. declaration_in names (node g.TypeName (type_shown t) (node g.TypedDeclaration (variables_shown v.items) done))) is
     ∙ variables_list v.items names
 
 not_integer : (names : List (List ℕ)) (t : TypeName) (f : Forest) → ((i : TokenNo) → t ≡ type_name.Integer i → ⊥) → declaration_in names (node g.TypeName (type_shown t) f) ≡ None
@@ -257,9 +257,9 @@ not_integer names (type_name.Text i) f h = refl
 not_integer names (type_name.Reference i class) f h = refl
 
 pub declares_no_integers : (names : List (List ℕ)) (t : TypeName) (v : Vec Variable Global) → ((i : TokenNo) → t ≡ type_name.Integer i → ⊥) → declared_by names (decl_shown (decl.Variables t v)) ≡ None
-declares_no_integers names t v h = ap (declared_by names) (stmts.shown-Variables t v) ∙ not_integer names t (node g.Typed (variables_shown v.items) done) h
+declares_no_integers names t v h = ap (declared_by names) (stmts.shown-Variables t v) ∙ not_integer names t (node g.TypedDeclaration (variables_shown v.items) done) h
 
-typed_none : (names : List (List ℕ)) (t : TypeName) (i : ℕ) (kind : TokenKind) (f : Forest) → declaration_in names (node g.TypeName (type_shown t) (node g.Typed (leaf i kind f) done)) ≡ None
+typed_none : (names : List (List ℕ)) (t : TypeName) (i : ℕ) (kind : TokenKind) (f : Forest) → declaration_in names (node g.TypeName (type_shown t) (node g.TypedDeclaration (leaf i kind f) done)) ≡ None
 typed_none names (type_name.Integer n) i kind f = refl
 typed_none names (type_name.Boolean n) i kind f = refl
 typed_none names (type_name.Character n) i kind f = refl
@@ -304,8 +304,8 @@ no_declarations : (lines : List Line) (names : List (List ℕ)) (fs : List Fores
     → block_form lines (declared_in names (statements fs end)) (behind_declarations (statements fs end)) ≡ block_form lines (Some names) (statements fs end)
 no_declarations lines names [] end = refl
 no_declarations lines names (f ∷ fs) end =
-    ap (λ o. block_form lines o (behind_declarations (statements (f ∷ fs) end))) (begun_declares names f (row g.NextStmt (map next_statement fs) (leaf end k.End done)))
-    ∙ ap (block_form lines (Some names)) (begun_behind f (row g.NextStmt (map next_statement fs) (leaf end k.End done)))
+    ap (λ o. block_form lines o (behind_declarations (statements (f ∷ fs) end))) (begun_declares names f (row g.NextStatement (map next_statement fs) (leaf end k.End done)))
+    ∙ ap (block_form lines (Some names)) (begun_behind f (row g.NextStatement (map next_statement fs) (leaf end k.End done)))
 
 declarations_first : (lines : List Line) (fs : List Forest) (end : ℕ) (ds : List Declared) (names : List (List ℕ))
     → block_form lines (declared_in names (contents ds fs end)) (behind_declarations (contents ds fs end)) ≡ block_form lines (each declared_by names ds) (statements fs end)

@@ -154,7 +154,7 @@ module _ (names : List (List ℕ)) (lines : List Line) where
   empty_product s = refl
 
   pub product_of : (s : Shown) (fs : List Forest) → 0 < length fs → product_in names lines (raise 3 (multiplied s fs))
-      ≡ both (λ (first : Operand) others. record { first = first; rest = others }) (factor_in names lines (raise 2 s)) (factors_in names lines (row g.Multiplied fs done))
+      ≡ both (λ (first : Operand) others. record { first = first; rest = others }) (factor_in names lines (raise 2 s)) (factors_in names lines (row g.NextFactor fs done))
   unfolding raise
   product_of s [] some = absurd (omega (arith, some))
   product_of s (f ∷ fs) some = refl
@@ -168,7 +168,7 @@ module _ (names : List (List ℕ)) (lines : List Line) where
   signed_sum x s fs = refl
 
   pub sum_of : (s : Shown) (fs : List Forest) → 0 < length fs → sum_in names lines (raise 14 (summed None s fs))
-      ≡ both (λ (first : Product) others. record { first = first; rest = others }) (product_in names lines (raise 3 s)) (terms_in names lines (row g.Added fs done))
+      ≡ both (λ (first : Product) others. record { first = first; rest = others }) (product_in names lines (raise 3 s)) (terms_in names lines (row g.NextTerm fs done))
   unfolding raise
   sum_of s [] some = absurd (omega (arith, some))
   sum_of s (f ∷ fs) some = refl
@@ -186,32 +186,32 @@ module _ (names : List (List ℕ)) (lines : List Line) where
   head-summed None s (f ∷ fs) rest = refl
   head-summed (Some x) s fs rest = refl
 
-  selected-name : (y : Identifier) (ss : List Shown) (f more rest : Forest) → statement_in names lines (acted (node g.Primary (identifier y (arguments ss done)) (node g.Selected f more)) rest) ≡ None
+  selected-name : (y : Identifier) (ss : List Shown) (f more rest : Forest) → statement_in names lines (acted (node g.Primary (identifier y (arguments ss done)) (node g.Selection f more)) rest) ≡ None
   selected-name y [] f more rest = refl
   selected-name y (s ∷ ss) f more rest = refl
 
-  selected-multiplied : (s : Shown) (fs : List Forest) (f more rest : Forest) → statement_in names lines (acted (node g.Primary (raise 0 (multiplied s fs)) (node g.Selected f more)) rest) ≡ None
+  selected-multiplied : (s : Shown) (fs : List Forest) (f more rest : Forest) → statement_in names lines (acted (node g.Primary (raise 0 (multiplied s fs)) (node g.Selection f more)) rest) ≡ None
   unfolding raise
   selected-multiplied s [] f more rest = refl
   selected-multiplied s (x ∷ fs) f more rest = refl
 
-  selected-summed : (x : Option LeadingSign) (s : Shown) (fs : List Forest) (f more rest : Forest) → statement_in names lines (acted (node g.Primary (raise 0 (summed x s fs)) (node g.Selected f more)) rest) ≡ None
+  selected-summed : (x : Option LeadingSign) (s : Shown) (fs : List Forest) (f more rest : Forest) → statement_in names lines (acted (node g.Primary (raise 0 (summed x s fs)) (node g.Selection f more)) rest) ≡ None
   unfolding raise
   selected-summed None s [] f more rest = refl
   selected-summed None s (x ∷ fs) f more rest = refl
   selected-summed (Some x) s fs f more rest = refl
 
   -- what is taken of an object begins no statement of the small form
-  selected-view : (x : Expr) (s : Shown) → View x s → (f more rest : Forest) → statement_in names lines (acted (node g.Primary (raise 0 s) (node g.Selected f more)) rest) ≡ None
+  selected-view : (x : Expr) (s : Shown) → View x s → (f more rest : Forest) → statement_in names lines (acted (node g.Primary (raise 0 s) (node g.Selection f more)) rest) ≡ None
   unfolding raise
   selected-view _ _ (an_integer i n) f more rest = refl
   selected-view _ _ (a_name y v) f more rest = selected-name y (map shown v.items) f more rest
-  selected-view _ _ (another i kind h is) f more rest = ap (statement_in names lines) (is.no_head (node g.Selected f more) rest)
+  selected-view _ _ (another i kind h is) f more rest = ap (statement_in names lines) (is.no_head (node g.Selection f more) rest)
   selected-view _ _ (a_selection a h others) f more rest = refl
   selected-view _ _ (a_power p h others) f more rest = refl
   selected-view _ _ (a_product a v) f more rest = selected-multiplied (shown a.value) (map factor_shown v.items) f more rest
   selected-view _ _ (a_sum s a v) f more rest = selected-summed s (shown a.value) (map term_shown v.items) f more rest
-  selected-view _ _ (a_bare b) f more rest = ap (λ p. statement_in names lines (acted (node g.Primary p (node g.Selected f more)) rest)) b.at_0
+  selected-view _ _ (a_bare b) f more rest = ap (λ p. statement_in names lines (acted (node g.Primary p (node g.Selection f more)) rest)) b.at_0
 
   head-view : (x : Expr) (s : Shown) → View x s → ((y : Identifier) (v : Vec Expr Global) → x ≡ e.Named y v → ⊥) → (rest : Forest) → statement_in names lines (acted (raise 1 s) rest) ≡ None
   unfolding raise
@@ -231,11 +231,11 @@ module _ (names : List (List ℕ)) (lines : List Line) where
   -- The same of a given expression.
 
   pub product_several : (x : Expr) (a : Box Expr Global) (v : Vec Factor Global) → x ≡ e.Product a v → 0 < length v.items → product_in names lines (raise 3 (shown x))
-      ≡ both (λ (first : Operand) others. record { first = first; rest = others }) (operand_in names lines (raise 0 (shown a.value))) (factors_in names lines (row g.Multiplied (map factor_shown v.items) done))
+      ≡ both (λ (first : Operand) others. record { first = first; rest = others }) (operand_in names lines (raise 0 (shown a.value))) (factors_in names lines (row g.NextFactor (map factor_shown v.items) done))
   product_several x a v is some =
       ap (λ z. product_in names lines (raise 3 (shown z))) is ∙ ap (λ s. product_in names lines (raise 3 s)) (lemma.shown-Product a v)
       ∙ product_of (shown a.value) (map factor_shown v.items) (omega (arith, some, length-map v.items factor_shown))
-      ∙ ap (λ f. both (λ (first : Operand) others. record { first = first; rest = others }) f (factors_in names lines (row g.Multiplied (map factor_shown v.items) done))) (factor_alone a.value)
+      ∙ ap (λ f. both (λ (first : Operand) others. record { first = first; rest = others }) f (factors_in names lines (row g.NextFactor (map factor_shown v.items) done))) (factor_alone a.value)
 
   pub product_none : (x : Expr) (a : Box Expr Global) (v : Vec Factor Global) → x ≡ e.Product a v → length v.items ≡ 0 → product_in names lines (raise 3 (shown x)) ≡ None
   product_none x a v is none =
@@ -247,7 +247,7 @@ module _ (names : List (List ℕ)) (lines : List Line) where
       empty_map (y ∷ l) h = absurd (omega (arith, h))
 
   pub sum_several : (x : Expr) (o : Option LeadingSign) (a : Box Expr Global) (v : Vec Term Global) → x ≡ e.Sum o a v → is_some o ≡ false → 0 < length v.items → sum_in names lines (expression x)
-      ≡ both (λ (first : Product) others. record { first = first; rest = others }) (product_in names lines (raise 3 (shown a.value))) (terms_in names lines (row g.Added (map term_shown v.items) done))
+      ≡ both (λ (first : Product) others. record { first = first; rest = others }) (product_in names lines (raise 3 (shown a.value))) (terms_in names lines (row g.NextTerm (map term_shown v.items) done))
   sum_several x None a v is none some =
       ap (λ z. sum_in names lines (raise 14 (shown z))) is ∙ ap (λ s. sum_in names lines (raise 14 s)) (lemma.shown-Sum None a v)
       ∙ sum_of (shown a.value) (map term_shown v.items) (omega (arith, some, length-map v.items term_shown))

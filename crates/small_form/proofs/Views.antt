@@ -43,8 +43,8 @@ pub data View : Expr → Shown → Type 0 where
   an_integer : (i : TokenNo) (n : ℤ) → View (e.Integer i n) (record { level = 0; inside = leaf i.0 (k.Integer n) done })
   a_name : (x : Identifier) (v : Vec Expr Global) → View (e.Named x v) (record { level = 0; inside = identifier x (arguments (map shown v.items) done) })
   another : {x : Expr} (i : ℕ) (kind : TokenKind) (f : Forest) → Another i kind f → View x (record { level = 0; inside = leaf i kind f })
-  a_selection : {x : Expr} (primary : Expr) (f rest : Forest) → View x (record { level = 1; inside = node g.Primary (raise 0 (shown primary)) (node g.Selected f rest) })
-  a_power : {x : Expr} (p f rest : Forest) → View x (record { level = 2; inside = node g.Postfix p (node g.Powered f rest) })
+  a_selection : {x : Expr} (primary : Expr) (f rest : Forest) → View x (record { level = 1; inside = node g.Primary (raise 0 (shown primary)) (node g.Selection f rest) })
+  a_power : {x : Expr} (p f rest : Forest) → View x (record { level = 2; inside = node g.Postfix p (node g.NextPower f rest) })
   a_product : (a : Box Expr Global) (v : Vec Factor Global) → View (e.Product a v) (multiplied (shown a.value) (map factor_shown v.items))
   a_sum : (s : Option LeadingSign) (a : Box Expr Global) (v : Vec Term Global) → View (e.Sum s a v) (summed s (shown a.value) (map term_shown v.items))
   a_bare : {x : Expr} {s : Shown} → Bare s → View x s
@@ -52,37 +52,37 @@ pub data View : Expr → Shown → Type 0 where
 moved : (x y : Expr) (s : Shown) → y ≡ x → shown x ≡ s → View x s → View y (shown y)
 moved x y s same is v = subst (λ z. View z (shown z)) (sym same) (subst (λ t. View x t) (sym is) v)
 
-operated-12 : (first : Shown) (is : List Item) → Bare (operated 12 k.OrElse g.OrElsed first is)
+operated-12 : (first : Shown) (is : List Item) → Bare (operated 12 k.OrElse g.NextOrElse first is)
 unfolding raise
 operated-12 first [] = record { at_0 = refl; at_1 = refl; at_2 = refl; at_3 = refl; at_14 = refl }
 operated-12 first (i ∷ is) = record { at_0 = refl; at_1 = refl; at_2 = refl; at_3 = refl; at_14 = refl }
 
-operated-11 : (first : Shown) (is : List Item) → Bare (operated 11 k.AndThen g.AndThened first is)
+operated-11 : (first : Shown) (is : List Item) → Bare (operated 11 k.AndThen g.NextAndThen first is)
 unfolding raise
 operated-11 first [] = record { at_0 = refl; at_1 = refl; at_2 = refl; at_3 = refl; at_14 = refl }
 operated-11 first (i ∷ is) = record { at_0 = refl; at_1 = refl; at_2 = refl; at_3 = refl; at_14 = refl }
 
-operated-10 : (first : Shown) (is : List Item) → Bare (operated 10 k.Eqv g.Eqved first is)
+operated-10 : (first : Shown) (is : List Item) → Bare (operated 10 k.Eqv g.NextEquivalence first is)
 unfolding raise
 operated-10 first [] = record { at_0 = refl; at_1 = refl; at_2 = refl; at_3 = refl; at_14 = refl }
 operated-10 first (i ∷ is) = record { at_0 = refl; at_1 = refl; at_2 = refl; at_3 = refl; at_14 = refl }
 
-operated-9 : (first : Shown) (is : List Item) → Bare (operated 9 k.Imp g.Imped first is)
+operated-9 : (first : Shown) (is : List Item) → Bare (operated 9 k.Imp g.NextImplication first is)
 unfolding raise
 operated-9 first [] = record { at_0 = refl; at_1 = refl; at_2 = refl; at_3 = refl; at_14 = refl }
 operated-9 first (i ∷ is) = record { at_0 = refl; at_1 = refl; at_2 = refl; at_3 = refl; at_14 = refl }
 
-operated-8 : (first : Shown) (is : List Item) → Bare (operated 8 k.Or g.Ored first is)
+operated-8 : (first : Shown) (is : List Item) → Bare (operated 8 k.Or g.NextOr first is)
 unfolding raise
 operated-8 first [] = record { at_0 = refl; at_1 = refl; at_2 = refl; at_3 = refl; at_14 = refl }
 operated-8 first (i ∷ is) = record { at_0 = refl; at_1 = refl; at_2 = refl; at_3 = refl; at_14 = refl }
 
-operated-7 : (first : Shown) (is : List Item) → Bare (operated 7 k.And g.Anded first is)
+operated-7 : (first : Shown) (is : List Item) → Bare (operated 7 k.And g.NextAnd first is)
 unfolding raise
 operated-7 first [] = record { at_0 = refl; at_1 = refl; at_2 = refl; at_3 = refl; at_14 = refl }
 operated-7 first (i ∷ is) = record { at_0 = refl; at_1 = refl; at_2 = refl; at_3 = refl; at_14 = refl }
 
-operated-4 : (first : Shown) (is : List Item) → Bare (operated 4 k.Ampersand g.Catted first is)
+operated-4 : (first : Shown) (is : List Item) → Bare (operated 4 k.Ampersand g.NextConcatenated first is)
 unfolding raise
 operated-4 first [] = record { at_0 = refl; at_1 = refl; at_2 = refl; at_3 = refl; at_14 = refl }
 operated-4 first (i ∷ is) = record { at_0 = refl; at_1 = refl; at_2 = refl; at_3 = refl; at_14 = refl }
@@ -93,7 +93,7 @@ negated-bare [] operand = record { at_0 = refl; at_1 = refl; at_2 = refl; at_3 =
 negated-bare (i ∷ []) operand = record { at_0 = refl; at_1 = refl; at_2 = refl; at_3 = refl; at_14 = refl }
 negated-bare (i ∷ j ∷ is) operand = record { at_0 = refl; at_1 = refl; at_2 = refl; at_3 = refl; at_14 = refl }
 
-powered : (x : Expr) (first : Shown) (is : List Item) → View x (operated 1 k.Power g.Powered first is)
+powered : (x : Expr) (first : Shown) (is : List Item) → View x (operated 1 k.Power g.NextPower first is)
 unfolding raise
 powered x first [] = a_bare (record { at_0 = refl; at_1 = refl; at_2 = refl; at_3 = refl; at_14 = refl })
 powered x first (i ∷ is) = a_power _ _ _

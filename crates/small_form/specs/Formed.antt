@@ -28,24 +28,24 @@ name_in names other = None
 
 abbrev pub variables_in : List (List ℕ) → Forest → Option (List (List ℕ))
 variables_in names done = Some names
-variables_in names (node g.Var f rest) = option_and_then (λ more. variables_in more rest) (name_in names f)
-variables_in names (node g.NextVar (node g.Var f done) rest) = option_and_then (λ more. variables_in more rest) (name_in names f)
+variables_in names (node g.Variable f rest) = option_and_then (λ more. variables_in more rest) (name_in names f)
+variables_in names (node g.NextVariable (node g.Variable f done) rest) = option_and_then (λ more. variables_in more rest) (name_in names f)
 variables_in names other = None
 
 -- inside a declaration: `integer` and its variables
 abbrev pub declaration_in : List (List ℕ) → Forest → Option (List (List ℕ))
-declaration_in names (node g.TypeName (leaf token k.IntegerWord done) (node g.Typed f done)) = variables_in names f
+declaration_in names (node g.TypeName (leaf token k.IntegerWord done) (node g.TypedDeclaration f done)) = variables_in names f
 declaration_in names other = None
 
 -- inside a block: the declarations at its start, and what stands behind them
 
 abbrev pub declared_in : List (List ℕ) → Forest → Option (List (List ℕ))
-declared_in names (node g.Decl f (node g.Closing end (node g.Block rest done))) =
+declared_in names (node g.Declaration f (node g.AfterDeclaration end (node g.Block rest done))) =
     option_and_then (λ more. declared_in more rest) (declaration_in names f)
 declared_in names other = Some names
 
 abbrev pub behind_declarations : Forest → Forest
-behind_declarations (node g.Decl f (node g.Closing end (node g.Block rest done))) = behind_declarations rest
+behind_declarations (node g.Declaration f (node g.AfterDeclaration end (node g.Block rest done))) = behind_declarations rest
 behind_declarations other = other
 
 -- what a program is

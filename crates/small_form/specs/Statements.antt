@@ -13,7 +13,7 @@ use Rattle.small_form.specs.declared.tree.Sum.{Sum}
 
 -- inside what is assigned: `:=` and the sum
 abbrev pub assigned_in : List (List ℕ) → List Line → Forest → Option (Piece Sum)
-assigned_in names lines (leaf token k.Assign (node g.Expr f done)) = sum_in names lines f
+assigned_in names lines (leaf token k.Assign (node g.Expression f done)) = sum_in names lines f
 assigned_in names lines other = None
 
 -- behind an identifier with no actuals: nothing, or one assignment
@@ -24,19 +24,19 @@ acted_in names lines token name (node g.Assigned f done) =
 acted_in names lines token name other = None
 
 abbrev pub argument_in : List (List ℕ) → List Line → Forest → Option (Piece Sum)
-argument_in names lines (node g.Expr f done) = sum_in names lines f
+argument_in names lines (node g.Expression f done) = sum_in names lines f
 argument_in names lines other = None
 
 -- inside the actuals of `outint` on this line: two sums
 abbrev pub output_in : List (List ℕ) → List Line → Line → Forest → Option (Piece Statement)
-output_in names lines line (node g.Expr f (node g.NextArg second done)) =
+output_in names lines line (node g.Expression f (node g.NextArgument second done)) =
     both (statement.OutInt line) (sum_in names lines f) (argument_in names lines second)
 output_in names lines line other = None
 
 -- inside a statement, behind the identifier that begins it
 abbrev pub behind_in : List (List ℕ) → List Line → ℕ → List ℕ → Forest → Option (Piece Statement)
-behind_in names lines token name (node g.AfterHead f done) = acted_in names lines token name f
-behind_in names lines token name (node g.Args f (node g.AfterHead done done)) =
+behind_in names lines token name (node g.AfterFirstOperand f done) = acted_in names lines token name f
+behind_in names lines token name (node g.Arguments f (node g.AfterFirstOperand done done)) =
     if bytes_eq name (codes "outint") then output_in names lines (line_of lines token) f else None
 behind_in names lines token name other = None
 
@@ -49,8 +49,8 @@ statement_in names lines other = None
 -- The statements of a block, behind its declarations. The identifier that begins the first one is taken before it.
 abbrev pub statements_in : List (List ℕ) → List Line → Forest → Option (Piece (List Statement))
 statements_in names lines (leaf token k.End done) = Some (plain [])
-statements_in names lines (leaf token (k.Identifier name) (node g.AfterId (node g.IdStmt f rest) done)) =
+statements_in names lines (leaf token (k.Identifier name) (node g.AfterIdentifier (node g.StatementOfIdentifier f rest) done)) =
     both ◌∷◌ (behind_in names lines token name f) (statements_in names lines rest)
-statements_in names lines (node g.Stmt f rest) = both ◌∷◌ (statement_in names lines f) (statements_in names lines rest)
-statements_in names lines (node g.NextStmt (node g.Stmt f done) rest) = both ◌∷◌ (statement_in names lines f) (statements_in names lines rest)
+statements_in names lines (node g.Statement f rest) = both ◌∷◌ (statement_in names lines f) (statements_in names lines rest)
+statements_in names lines (node g.NextStatement (node g.Statement f done) rest) = both ◌∷◌ (statement_in names lines f) (statements_in names lines rest)
 statements_in names lines other = None

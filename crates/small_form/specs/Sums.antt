@@ -24,15 +24,15 @@ level g.Postfix = 1
 level g.Factor = 2
 level g.Term = 3
 level g.Sum = 4
-level g.Cat = 5
-level g.Rel = 6
-level g.Neg = 7
-level g.Conj = 8
-level g.Disj = 9
-level g.Imp = 10
-level g.Eqv = 11
+level g.Concatenation = 5
+level g.Relation = 6
+level g.Negation = 7
+level g.Conjunction = 8
+level g.Disjunction = 9
+level g.Implication = 10
+level g.Equivalence = 11
 level g.AndThen = 12
-level g.Simple = 13
+level g.SimpleExpression = 13
 level part = 14
 
 -- what is inside the part of a level that stands alone, with no operator beside it
@@ -63,7 +63,7 @@ multiplied_in names lines other = None
 
 abbrev pub factors_in : List (List ℕ) → List Line → Forest → Option (Piece (List Multiplication))
 factors_in names lines done = Some (plain [])
-factors_in names lines (node g.Multiplied f rest) = both ◌∷◌ (multiplied_in names lines f) (factors_in names lines rest)
+factors_in names lines (node g.NextFactor f rest) = both ◌∷◌ (multiplied_in names lines f) (factors_in names lines rest)
 factors_in names lines other = None
 
 -- inside a term: a factor and further ones
@@ -88,7 +88,7 @@ added_in names lines other = None
 
 abbrev pub terms_in : List (List ℕ) → List Line → Forest → Option (Piece (List Addition))
 terms_in names lines done = Some (plain [])
-terms_in names lines (node g.Added f rest) = both ◌∷◌ (added_in names lines f) (terms_in names lines rest)
+terms_in names lines (node g.NextTerm f rest) = both ◌∷◌ (added_in names lines f) (terms_in names lines rest)
 terms_in names lines other = None
 
 -- inside a sum: a term, with no sign in front, and further ones

@@ -63,7 +63,7 @@ fn output(
     value: &Expr,
     width: &Expr,
 ) -> Result<Statement, FormRefusal>
-    ensures { Builds (behind_in identifiers.old.names lines.now name.now.token.0 name.now.name (actuals_of (shown value.now ∷ shown width.now ∷ []) (node g.AfterHead done done))) identifiers.old identifiers.new result }
+    ensures { Builds (behind_in identifiers.old.names lines.now name.now.token.0 name.now.name (actuals_of (shown value.now ∷ shown width.now ∷ []) (node g.AfterFirstOperand done done))) identifiers.old identifiers.new result }
 {
     if name.name.as_bytes() != b"outint".as_slice() {
         return Err(FormRefusal::NotBuilt);

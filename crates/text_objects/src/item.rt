@@ -19,10 +19,10 @@ pub fn integer_item(bytes: &[u8]) -> Result<(i64, usize), RunError>
     let unsigned = after_separators(after_sign(signed));
     let digits = leading_digits(unsigned);
     if digits == 0 {
-        return Err(RunError::E25);
+        return Err(RunError::NoIntegerItem);
     }
     let size = capped_value(&unsigned[..digits]);
-    let value = with_sign(has_minus(signed), size).ok_or(RunError::E28)?;
+    let value = with_sign(has_minus(signed), size).ok_or(RunError::IntegerItemTooLarge)?;
     Ok((value, bytes.len() - unsigned.len() + digits))
 }
 

@@ -3,7 +3,7 @@
 ghost use Rattle.std.specs.Prelude.{◌≤◌, length};
 
 use super::*;
-use sim_base::RunError::{self, E20, E21, E22, E23, E24, E25, E26, E27, E28};
+use sim_base::RunError::{self, SubtextOutOfRange, TextTooLong, TextIsConstant, GetcharPastEnd, PutcharPastEnd, NoIntegerItem, PutintOnNotext, NegativeLength, IntegerItemTooLarge};
 use sim_values::TextVal;
 use std::alloc::Global;
 use std::cmp::Ordering::{self, Equal, Greater, Less};
@@ -63,7 +63,7 @@ fn compared(alloc: Global, a: &[u8], b: &[u8]) -> Result<Ordering, Fail> {
 #[test]
 fn making(rt: HostRuntime) -> Result<(), Fail> {
     let mut texts = Texts::new(rt.alloc());
-    assert_eq!(rt; texts.blanks(-1, 0), Err(TextFault::Run(E27)));
+    assert_eq!(rt; texts.blanks(-1, 0), Err(TextFault::Run(NegativeLength)));
     assert_eq!(rt; texts.blanks(0, 0), Ok(NOTEXT));
     assert_eq!(rt; texts.blanks(8, 2), Err(TextFault::Full { wanted: 3 }));
     assert_eq!(rt;
@@ -112,11 +112,11 @@ fn parts(rt: HostRuntime) -> Result<(), Fail> {
         (1, 5, Ok((2, 5))),
         (3, 2, Ok((4, 2))),
         (6, 0, Ok((1, 0))),
-        (6, 1, Err(E20)),
-        (0, 1, Err(E20)),
-        (1, -1, Err(E20)),
-        (7, 0, Err(E20)),
-        (i64::MAX, i64::MAX, Err(E20)),
+        (6, 1, Err(SubtextOutOfRange)),
+        (0, 1, Err(SubtextOutOfRange)),
+        (1, -1, Err(SubtextOutOfRange)),
+        (7, 0, Err(SubtextOutOfRange)),
+        (i64::MAX, i64::MAX, Err(SubtextOutOfRange)),
     ];
     for (i, n, want) in cases {
         assert_eq!(rt;
@@ -172,10 +172,10 @@ fn positions(rt: HostRuntime) -> Result<(), Fail> {
     }
     texts.setpos(&mut t, 0);
     assert!(rt; !texts.more(t));
-    assert_eq!(rt; texts.getchar(&mut t), Err(E23));
-    assert_eq!(rt; texts.putchar(&mut t, b'z'), Err(E24));
+    assert_eq!(rt; texts.getchar(&mut t), Err(GetcharPastEnd));
+    assert_eq!(rt; texts.putchar(&mut t, b'z'), Err(PutcharPastEnd));
     texts.setpos(&mut t, 2);
-    assert_eq!(rt; texts.putchar(&mut t, b'z'), Err(E22));
+    assert_eq!(rt; texts.putchar(&mut t, b'z'), Err(TextIsConstant));
     assert_eq!(rt; texts.getchar(&mut t), Ok(b'y'));
     assert_eq!(rt; (texts.start(t), texts.length(t), texts.pos(t)), (1, 2, 3));
     Ok(())
@@ -186,8 +186,8 @@ fn changing(rt: HostRuntime) -> Result<(), Fail> {
     let mut texts = Texts::new(rt.alloc());
     let constant = texts.constant(b"aZ{09")?;
     let mut t = texts.copy(constant, 10)?;
-    assert_eq!(rt; texts.upcase(constant), Err(E22));
-    assert_eq!(rt; texts.lowcase(constant), Err(E22));
+    assert_eq!(rt; texts.upcase(constant), Err(TextIsConstant));
+    assert_eq!(rt; texts.lowcase(constant), Err(TextIsConstant));
     t = texts.upcase(t)?;
     assert_eq!(rt; texts.characters(t), b"AZ{09".as_slice());
     t = texts.lowcase(t)?;
@@ -218,8 +218,8 @@ fn assigning(rt: HostRuntime) -> Result<(), Fail> {
     let mut texts = Texts::new(rt.alloc());
     let two = texts.constant(b"ab")?;
     let t = texts.blanks(3, 3)?;
-    assert_eq!(rt; texts.assign(two, t), Err(E21));
-    assert_eq!(rt; texts.assign(two, two), Err(E22));
+    assert_eq!(rt; texts.assign(two, t), Err(TextTooLong));
+    assert_eq!(rt; texts.assign(two, two), Err(TextIsConstant));
     assert_eq!(rt; texts.assign(NOTEXT, NOTEXT), Ok(()));
     texts.assign(t, two)?;
     assert_eq!(rt; texts.characters(t), b"ab ".as_slice());
@@ -232,12 +232,12 @@ fn integers(rt: HostRuntime) -> Result<(), Fail> {
         (b"  +\t 12x             ", Ok(12), 8),
         (b"-9223372036854775808 ", Ok(i64::MIN), 21),
         (b"9223372036854775807  ", Ok(i64::MAX), 20),
-        (b"9223372036854775808  ", Err(E28), 1),
-        (b"-9223372036854775809 ", Err(E28), 1),
-        (b"99999999999999999999 ", Err(E28), 1),
-        (b"                     ", Err(E25), 1),
-        (b" -                   ", Err(E25), 1),
-        (b"+-1                  ", Err(E25), 1),
+        (b"9223372036854775808  ", Err(IntegerItemTooLarge), 1),
+        (b"-9223372036854775809 ", Err(IntegerItemTooLarge), 1),
+        (b"99999999999999999999 ", Err(IntegerItemTooLarge), 1),
+        (b"                     ", Err(NoIntegerItem), 1),
+        (b" -                   ", Err(NoIntegerItem), 1),
+        (b"+-1                  ", Err(NoIntegerItem), 1),
         (b"000000000000000000007", Ok(7), 22),
     ];
     for (bytes, value, position) in reads {
@@ -247,7 +247,7 @@ fn integers(rt: HostRuntime) -> Result<(), Fail> {
             "{bytes:?}"
         );
     }
-    assert_eq!(rt; read(rt.alloc(), b"")?, (Err(E25), 1));
+    assert_eq!(rt; read(rt.alloc(), b"")?, (Err(NoIntegerItem), 1));
     for (value, want) in [
         (0, b"   0"),
         (-7, b"  -7"),
@@ -268,9 +268,9 @@ fn integers(rt: HostRuntime) -> Result<(), Fail> {
     );
     let mut texts = Texts::new(rt.alloc());
     let mut none = NOTEXT;
-    assert_eq!(rt; texts.putint(&mut none, 1), Err(E26));
+    assert_eq!(rt; texts.putint(&mut none, 1), Err(PutintOnNotext));
     let mut constant = texts.constant(b"1")?;
-    assert_eq!(rt; texts.putint(&mut constant, 1), Err(E22));
+    assert_eq!(rt; texts.putint(&mut constant, 1), Err(TextIsConstant));
     Ok(())
 }
 

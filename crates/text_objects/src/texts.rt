@@ -86,7 +86,7 @@ impl Texts {
         ensures { result_err result ≡ constant_refusal self.now t }
     {
         if t.length > 0 && self.frame(t).is_constant() {
-            return Err(RunError::E22);
+            return Err(RunError::TextIsConstant);
         }
         Ok(())
     }
@@ -174,7 +174,7 @@ impl Texts {
     {
         let text = *t;
         if text.pos >= self.end(text) {
-            return Err(RunError::E23);
+            return Err(RunError::GetcharPastEnd);
         }
         let character = self.characters(text)[text.pos as usize - 1];
         t.pos = text.pos + 1;
@@ -189,7 +189,7 @@ impl Texts {
     {
         let end = i64::from(self.end(t));
         if i < 1 || n < 0 || i > end || n > end - i {
-            return Err(RunError::E20);
+            return Err(RunError::SubtextOutOfRange);
         }
         Ok(part(t, i as u32, n as u32))
     }

@@ -24,7 +24,7 @@ impl Texts {
         ensures others { SameBut left.frame self.old self.new }
     {
         if right.length > left.length {
-            return Err(RunError::E21);
+            return Err(RunError::TextTooLong);
         }
         self.check_variable(left)?;
         if left.length > 0 {
@@ -127,7 +127,7 @@ impl Texts {
     {
         let text = *t;
         if text.pos >= self.end(text) {
-            return Err(RunError::E24);
+            return Err(RunError::PutcharPastEnd);
         }
         self.check_variable(text)?;
         let frame = &mut self.frames[text.frame as usize];
@@ -153,7 +153,7 @@ impl Texts {
     {
         let text = *t;
         if text.length == 0 {
-            return Err(RunError::E26);
+            return Err(RunError::PutintOnNotext);
         }
         self.check_variable(text)?;
         let end = self.end(text);

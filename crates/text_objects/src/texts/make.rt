@@ -67,7 +67,7 @@ impl Texts {
         ensures others { SameBut (length self.old) self.old self.new }
     {
         if n < 0 {
-            return Err(TextFault::Run(RunError::E27));
+            return Err(TextFault::Run(RunError::NegativeLength));
         }
         let length = n.unsigned_abs();
         fits(length, room)?;

@@ -150,10 +150,10 @@ terms-returns-in_err-term u c =
     let w = c.in-Some.ensures in
     let e = c.in_err-term.field-0.0 in
     let r = c.from_residual in
-    let m0 = opened ws d at g.Added (Kept signs ∷ Of Once g.Term ∷ []) refl (one_row g.Added signs (Kept signs ∷ Of Once g.Term ∷ []) (terminal_at ws at) true refl w.among) l.invariant.within in
+    let m0 = opened ws d at g.NextTerm (Kept signs ∷ Of Once g.Term ∷ []) refl (one_row g.NextTerm signs (Kept signs ∷ Of Once g.Term ∷ []) (terminal_at ws at) true refl w.among) l.invariant.within in
     let m1 = to m0 (kept at refl w) in
-    exit (λ r. GivesRow ws d g.Added c.args.start (λ v. map term_shown v.items) r) r.result e r.ensures.1
-    (row-stops ws d c.args.start at g.Added _ l.invariant.goes e (stops-in Many m1 e (once-stops ws d c.in-Some.next g.Term e c.in_err-term.ensures)))
+    exit (λ r. GivesRow ws d g.NextTerm c.args.start (λ v. map term_shown v.items) r) r.result e r.ensures.1
+    (row-stops ws d c.args.start at g.NextTerm _ l.invariant.goes e (stops-in Many m1 e (once-stops ws d c.in-Some.next g.Term e c.in_err-term.ensures)))
 
 pub terms-loop-sign-preserved : goal.terms-loop-sign-preserved
 terms-loop-sign-preserved u c =
@@ -163,7 +163,7 @@ terms-loop-sign-preserved u c =
     let at = l.at in
     let w = c.in-Some.ensures in
     let n = c.token_no-token.result in
-    let m0 = opened ws d at g.Added (Kept signs ∷ Of Once g.Term ∷ []) refl (one_row g.Added signs (Kept signs ∷ Of Once g.Term ∷ []) (terminal_at ws at) true refl w.among) l.invariant.within in
+    let m0 = opened ws d at g.NextTerm (Kept signs ∷ Of Once g.Term ∷ []) refl (one_row g.NextTerm signs (Kept signs ∷ Of Once g.Term ∷ []) (terminal_at ws at) true refl w.among) l.invariant.within in
     let p = c.in_ok-term.ensures.1 in
     let m2 = to (to m0 (kept n.0 c.token_no-token.ensures w)) (once p) in
     record {
@@ -177,7 +177,7 @@ terms-returns u c =
     let ws = c.args.tokens.now in
     let d = c.args.depth in
     let l = c.loop-sign in
-    row-end term_shown l.rest.items l.invariant.goes (one_row g.Added signs (Kept signs ∷ Of Once g.Term ∷ []) (terminal_at ws l.at) false refl c.in_default.ensures) l.invariant.ahead l.invariant.within
+    row-end term_shown l.rest.items l.invariant.goes (one_row g.NextTerm signs (Kept signs ∷ Of Once g.Term ∷ []) (terminal_at ws l.at) false refl c.in_default.ensures) l.invariant.ahead l.invariant.within
 
 pub factors-loop-operator-init : goal.factors-loop-operator-init
 factors-loop-operator-init u c =
@@ -198,10 +198,10 @@ factors-returns-in_err-factor u c =
     let w = c.in-Some.ensures in
     let e = c.in_err-factor.field-0.0 in
     let r = c.from_residual in
-    let m0 = opened ws d at g.Multiplied (Kept operators ∷ Of Once g.Factor ∷ []) refl (one_row g.Multiplied operators (Kept operators ∷ Of Once g.Factor ∷ []) (terminal_at ws at) true refl w.among) l.invariant.within in
+    let m0 = opened ws d at g.NextFactor (Kept operators ∷ Of Once g.Factor ∷ []) refl (one_row g.NextFactor operators (Kept operators ∷ Of Once g.Factor ∷ []) (terminal_at ws at) true refl w.among) l.invariant.within in
     let m1 = to m0 (kept at refl w) in
-    exit (λ r. GivesRow ws d g.Multiplied c.args.start (λ v. map factor_shown v.items) r) r.result e r.ensures.1
-    (row-stops ws d c.args.start at g.Multiplied _ l.invariant.goes e (stops-in Many m1 e (once-stops ws d c.in-Some.next g.Factor e c.in_err-factor.ensures)))
+    exit (λ r. GivesRow ws d g.NextFactor c.args.start (λ v. map factor_shown v.items) r) r.result e r.ensures.1
+    (row-stops ws d c.args.start at g.NextFactor _ l.invariant.goes e (stops-in Many m1 e (once-stops ws d c.in-Some.next g.Factor e c.in_err-factor.ensures)))
 
 pub factors-loop-operator-preserved : goal.factors-loop-operator-preserved
 factors-loop-operator-preserved u c =
@@ -211,7 +211,7 @@ factors-loop-operator-preserved u c =
     let at = l.at in
     let w = c.in-Some.ensures in
     let n = c.token_no-token.result in
-    let m0 = opened ws d at g.Multiplied (Kept operators ∷ Of Once g.Factor ∷ []) refl (one_row g.Multiplied operators (Kept operators ∷ Of Once g.Factor ∷ []) (terminal_at ws at) true refl w.among) l.invariant.within in
+    let m0 = opened ws d at g.NextFactor (Kept operators ∷ Of Once g.Factor ∷ []) refl (one_row g.NextFactor operators (Kept operators ∷ Of Once g.Factor ∷ []) (terminal_at ws at) true refl w.among) l.invariant.within in
     let p = c.in_ok-factor.ensures.1 in
     let m2 = to (to m0 (kept n.0 c.token_no-token.ensures w)) (once p) in
     record {
@@ -225,15 +225,15 @@ factors-returns u c =
     let ws = c.args.tokens.now in
     let d = c.args.depth in
     let l = c.loop-operator in
-    row-end factor_shown l.rest.items l.invariant.goes (one_row g.Multiplied operators (Kept operators ∷ Of Once g.Factor ∷ []) (terminal_at ws l.at) false refl c.in_default.ensures) l.invariant.ahead l.invariant.within
+    row-end factor_shown l.rest.items l.invariant.goes (one_row g.NextFactor operators (Kept operators ∷ Of Once g.Factor ∷ []) (terminal_at ws l.at) false refl c.in_default.ensures) l.invariant.ahead l.invariant.within
 
 pub negation-returns-in_err-marks : goal.negation-returns-in_err-marks
 negation-returns-in_err-marks u c =
     let ws = c.args.tokens.now in
     let d = c.args.depth in
     let i = c.args.at in
-    let sy = Of Many g.NotMark ∷ Of Once g.Rel ∷ [] in
-    let w0 = opened ws d i g.Neg sy refl (only g.Neg sy (terminal_at ws i) refl) c.requires.within in
+    let sy = Of Many g.NotSign ∷ Of Once g.Relation ∷ [] in
+    let w0 = opened ws d i g.Negation sy refl (only g.Negation sy (terminal_at ws i) refl) c.requires.within in
     let e = c.in_err-marks.field-0.0 in
     let r = c.from_residual in
     exit (λ r. GivesLevel ws d 7 i r) r.result e r.ensures.1
@@ -244,49 +244,49 @@ negation-returns-in_err-operand u c =
     let ws = c.args.tokens.now in
     let d = c.args.depth in
     let i = c.args.at in
-    let sy = Of Many g.NotMark ∷ Of Once g.Rel ∷ [] in
-    let w0 = opened ws d i g.Neg sy refl (only g.Neg sy (terminal_at ws i) refl) c.requires.within in
+    let sy = Of Many g.NotSign ∷ Of Once g.Relation ∷ [] in
+    let w0 = opened ws d i g.Negation sy refl (only g.Negation sy (terminal_at ws i) refl) c.requires.within in
     let w1 = to w0 (c.in_ok-marks.ensures d) in
     let e = c.in_err-operand.field-0.0 in
     let r = c.from_residual-in_err-operand in
     exit (λ r. GivesLevel ws d 7 i r) r.result e r.ensures.1
-    (stops w1 e (once-stops ws d c.in_ok-marks.next g.Rel e c.in_err-operand.ensures))
+    (stops w1 e (once-stops ws d c.in_ok-marks.next g.Relation e c.in_err-operand.ensures))
 
 pub negation-returns-then-is_empty : goal.negation-returns-then-is_empty
 negation-returns-then-is_empty u c =
     let ws = c.args.tokens.now in
     let d = c.args.depth in
     let i = c.args.at in
-    let sy = Of Many g.NotMark ∷ Of Once g.Rel ∷ [] in
-    let w0 = opened ws d i g.Neg sy refl (only g.Neg sy (terminal_at ws i) refl) c.requires.within in
+    let sy = Of Many g.NotSign ∷ Of Once g.Relation ∷ [] in
+    let w0 = opened ws d i g.Negation sy refl (only g.Negation sy (terminal_at ws i) refl) c.requires.within in
     let w1 = to w0 (c.in_ok-marks.ensures d) in
     let w2 = to w1 (once c.in_ok-operand.ensures.1) in
     let v = c.in_ok-marks.marks in
     let x = c.in_ok-operand.operand in
     let none = no-items v.items (sym v.ok.0 ∙ eqb-true (vec_len v) 0 (sym c.if-is_empty.ensures)) in
-    level-up 6 x c.in_ok-operand.ensures.0 w2 (ap (λ l. row g.NotMark (map not_mark l) (node g.Rel (raise 6 (shown x)) done)) none)
+    level-up 6 x c.in_ok-operand.ensures.0 w2 (ap (λ l. row g.NotSign (map not_mark l) (node g.Relation (raise 6 (shown x)) done)) none)
 
 pub negation-returns : goal.negation-returns
 negation-returns u c =
     let ws = c.args.tokens.now in
     let d = c.args.depth in
     let i = c.args.at in
-    let sy = Of Many g.NotMark ∷ Of Once g.Rel ∷ [] in
-    let w0 = opened ws d i g.Neg sy refl (only g.Neg sy (terminal_at ws i) refl) c.requires.within in
+    let sy = Of Many g.NotSign ∷ Of Once g.Relation ∷ [] in
+    let w0 = opened ws d i g.Negation sy refl (only g.Negation sy (terminal_at ws i) refl) c.requires.within in
     let w1 = to w0 (c.in_ok-marks.ensures d) in
     let w2 = to w1 (once c.in_ok-operand.ensures.1) in
     let v = c.in_ok-marks.marks in
     let x = c.in_ok-operand.operand in
     let some = some-items v.items (vec_len v) v.ok.0 (sym c.if-is_empty.ensures) in
     let y = c.in_ok-operand-2.operand in
-    level-made 7 _ _ (shown-Not v y ∙ negated-some v.items (shown y.value) some) refl w2 (ap (λ z. row g.NotMark (map not_mark v.items) (node g.Rel (raise 6 (shown z)) done)) (sym c.in_ok-operand-2.ensures.ok))
+    level-made 7 _ _ (shown-Not v y ∙ negated-some v.items (shown y.value) some) refl w2 (ap (λ z. row g.NotSign (map not_mark v.items) (node g.Relation (raise 6 (shown z)) done)) (sym c.in_ok-operand-2.ensures.ok))
 
 pub product-returns-in_err-first : goal.product-returns-in_err-first
 product-returns-in_err-first u c =
     let ws = c.args.tokens.now in
     let d = c.args.depth in
     let i = c.args.at in
-    let sy = Of Once g.Factor ∷ Of Many g.Multiplied ∷ [] in
+    let sy = Of Once g.Factor ∷ Of Many g.NextFactor ∷ [] in
     let w0 = opened ws d i g.Term sy refl (only g.Term sy (terminal_at ws i) refl) c.requires.within in
     let e = c.in_err-first.field-0.0 in
     let r = c.from_residual in
@@ -298,7 +298,7 @@ product-returns-in_err-rest u c =
     let ws = c.args.tokens.now in
     let d = c.args.depth in
     let i = c.args.at in
-    let sy = Of Once g.Factor ∷ Of Many g.Multiplied ∷ [] in
+    let sy = Of Once g.Factor ∷ Of Many g.NextFactor ∷ [] in
     let w0 = opened ws d i g.Term sy refl (only g.Term sy (terminal_at ws i) refl) c.requires.within in
     let w1 = to w0 (once c.in_ok-first.ensures.1) in
     let e = c.in_err-rest.field-0.0 in
@@ -311,19 +311,19 @@ product-returns-then-is_empty u c =
     let ws = c.args.tokens.now in
     let d = c.args.depth in
     let i = c.args.at in
-    let sy = Of Once g.Factor ∷ Of Many g.Multiplied ∷ [] in
+    let sy = Of Once g.Factor ∷ Of Many g.NextFactor ∷ [] in
     let w0 = opened ws d i g.Term sy refl (only g.Term sy (terminal_at ws i) refl) c.requires.within in
     let w1 = to w0 (once c.in_ok-first.ensures.1) in
     let w2 = to w1 c.in_ok-rest.ensures in
     let none = no-items c.in_ok-rest.rest.items (sym c.in_ok-rest.rest.ok.0 ∙ eqb-true (vec_len c.in_ok-rest.rest) 0 (sym c.if-is_empty.ensures)) in
-    level-up 2 c.in_ok-first.first c.in_ok-first.ensures.0 w2 (ap (λ l. node g.Factor (raise 2 (shown c.in_ok-first.first)) (row g.Multiplied (map factor_shown l) done)) none)
+    level-up 2 c.in_ok-first.first c.in_ok-first.ensures.0 w2 (ap (λ l. node g.Factor (raise 2 (shown c.in_ok-first.first)) (row g.NextFactor (map factor_shown l) done)) none)
 
 pub product-returns : goal.product-returns
 product-returns u c =
     let ws = c.args.tokens.now in
     let d = c.args.depth in
     let i = c.args.at in
-    let sy = Of Once g.Factor ∷ Of Many g.Multiplied ∷ [] in
+    let sy = Of Once g.Factor ∷ Of Many g.NextFactor ∷ [] in
     let w0 = opened ws d i g.Term sy refl (only g.Term sy (terminal_at ws i) refl) c.requires.within in
     let w1 = to w0 (once c.in_ok-first.ensures.1) in
     let w2 = to w1 c.in_ok-rest.ensures in
@@ -331,14 +331,14 @@ product-returns u c =
     let y = c.in_ok-first-2.first in
     let v = c.in_ok-rest.rest in
     level-made 3 _ _ (shown-Product y v ∙ multiplied-some (shown y.value) (map factor_shown v.items) (some-mapped factor_shown v.items some)) refl w2
-    (ap (λ z. node g.Factor (raise 2 (shown z)) (row g.Multiplied (map factor_shown v.items) done)) (sym c.in_ok-first-2.ensures.ok))
+    (ap (λ z. node g.Factor (raise 2 (shown z)) (row g.NextFactor (map factor_shown v.items) done)) (sym c.in_ok-first-2.ensures.ok))
 
 pub postfix-returns-in_err-first : goal.postfix-returns-in_err-first
 postfix-returns-in_err-first u c =
     let ws = c.args.tokens.now in
     let d = c.args.depth in
     let i = c.args.at in
-    let sy = Of Once g.Primary ∷ Of Many g.Selected ∷ [] in
+    let sy = Of Once g.Primary ∷ Of Many g.Selection ∷ [] in
     let w0 = opened ws d i g.Postfix sy refl (only g.Postfix sy (terminal_at ws i) refl) c.requires.within in
     let e = c.in_err-first.field-0.0 in
     let r = c.from_residual in
@@ -350,7 +350,7 @@ postfix-returns-in_err-rest u c =
     let ws = c.args.tokens.now in
     let d = c.args.depth in
     let i = c.args.at in
-    let sy = Of Once g.Primary ∷ Of Many g.Selected ∷ [] in
+    let sy = Of Once g.Primary ∷ Of Many g.Selection ∷ [] in
     let w0 = opened ws d i g.Postfix sy refl (only g.Postfix sy (terminal_at ws i) refl) c.requires.within in
     let w1 = to w0 (once c.in_ok-first.ensures.1) in
     let e = c.in_err-rest.field-0.0 in
@@ -363,19 +363,19 @@ postfix-returns-then-is_empty u c =
     let ws = c.args.tokens.now in
     let d = c.args.depth in
     let i = c.args.at in
-    let sy = Of Once g.Primary ∷ Of Many g.Selected ∷ [] in
+    let sy = Of Once g.Primary ∷ Of Many g.Selection ∷ [] in
     let w0 = opened ws d i g.Postfix sy refl (only g.Postfix sy (terminal_at ws i) refl) c.requires.within in
     let w1 = to w0 (once c.in_ok-first.ensures.1) in
     let w2 = to w1 c.in_ok-rest.ensures in
     let none = no-items c.in_ok-rest.rest.items (sym c.in_ok-rest.rest.ok.0 ∙ eqb-true (vec_len c.in_ok-rest.rest) 0 (sym c.if-is_empty.ensures)) in
-    level-up 0 c.in_ok-first.first c.in_ok-first.ensures.0 w2 (ap (λ l. node g.Primary (raise 0 (shown c.in_ok-first.first)) (row g.Selected (map selector_shown l) done)) none)
+    level-up 0 c.in_ok-first.first c.in_ok-first.ensures.0 w2 (ap (λ l. node g.Primary (raise 0 (shown c.in_ok-first.first)) (row g.Selection (map selector_shown l) done)) none)
 
 pub postfix-returns : goal.postfix-returns
 postfix-returns u c =
     let ws = c.args.tokens.now in
     let d = c.args.depth in
     let i = c.args.at in
-    let sy = Of Once g.Primary ∷ Of Many g.Selected ∷ [] in
+    let sy = Of Once g.Primary ∷ Of Many g.Selection ∷ [] in
     let w0 = opened ws d i g.Postfix sy refl (only g.Postfix sy (terminal_at ws i) refl) c.requires.within in
     let w1 = to w0 (once c.in_ok-first.ensures.1) in
     let w2 = to w1 c.in_ok-rest.ensures in
@@ -383,14 +383,14 @@ postfix-returns u c =
     let y = c.in_ok-primary.primary in
     let v = c.in_ok-rest.rest in
     level-made 1 _ _ (shown-Postfix y v ∙ selected-some (shown y.value) (map selector_shown v.items) (some-mapped selector_shown v.items some)) refl w2
-    (ap (λ z. node g.Primary (raise 0 (shown z)) (row g.Selected (map selector_shown v.items) done)) (sym c.in_ok-primary.ensures.ok))
+    (ap (λ z. node g.Primary (raise 0 (shown z)) (row g.Selection (map selector_shown v.items) done)) (sym c.in_ok-primary.ensures.ok))
 
 pub sum-returns-in_err-first : goal.sum-returns-in_err-first
 sum-returns-in_err-first u c =
     let ws = c.args.tokens.now in
     let d = c.args.depth in
     let i = c.args.at in
-    let sy = Of Maybe g.Sign ∷ Of Once g.Term ∷ Of Many g.Added ∷ [] in
+    let sy = Of Maybe g.LeadingSign ∷ Of Once g.Term ∷ Of Many g.NextTerm ∷ [] in
     let sign = c.leading_sign-sign.result.0 in
     let start = c.leading_sign-sign.result.1 in
     let w0 = opened ws d i g.Sum sy refl (only g.Sum sy (terminal_at ws i) refl) c.requires.within in
@@ -405,7 +405,7 @@ sum-returns-in_err-rest u c =
     let ws = c.args.tokens.now in
     let d = c.args.depth in
     let i = c.args.at in
-    let sy = Of Maybe g.Sign ∷ Of Once g.Term ∷ Of Many g.Added ∷ [] in
+    let sy = Of Maybe g.LeadingSign ∷ Of Once g.Term ∷ Of Many g.NextTerm ∷ [] in
     let sign = c.leading_sign-sign.result.0 in
     let start = c.leading_sign-sign.result.1 in
     let w0 = opened ws d i g.Sum sy refl (only g.Sum sy (terminal_at ws i) refl) c.requires.within in
@@ -421,26 +421,26 @@ relation-returns-in_err-left u c =
     let ws = c.args.tokens.now in
     let d = c.args.depth in
     let i = c.args.at in
-    let sy = Of Once g.Cat ∷ Of Maybe g.Related ∷ [] in
-    let w0 = opened ws d i g.Rel sy refl (only g.Rel sy (terminal_at ws i) refl) c.requires.within in
+    let sy = Of Once g.Concatenation ∷ Of Maybe g.RelationTail ∷ [] in
+    let w0 = opened ws d i g.Relation sy refl (only g.Relation sy (terminal_at ws i) refl) c.requires.within in
     let e = c.in_err-left.field-0.0 in
     let r = c.from_residual in
     exit (λ r. GivesLevel ws d 6 i r) r.result e r.ensures.1
-    (stops w0 e (once-stops ws d i g.Cat e c.in_err-left.ensures))
+    (stops w0 e (once-stops ws d i g.Concatenation e c.in_err-left.ensures))
 
 pub relation-returns-in_err-class : goal.relation-returns-in_err-class
 relation-returns-in_err-class u c =
     let ws = c.args.tokens.now in
     let d = c.args.depth in
     let i = c.args.at in
-    let sy = Of Once g.Cat ∷ Of Maybe g.Related ∷ [] in
-    let w0 = opened ws d i g.Rel sy refl (only g.Rel sy (terminal_at ws i) refl) c.requires.within in
+    let sy = Of Once g.Concatenation ∷ Of Maybe g.RelationTail ∷ [] in
+    let w0 = opened ws d i g.Relation sy refl (only g.Relation sy (terminal_at ws i) refl) c.requires.within in
     let sign = c.in_ok-left.sign in
     let w1 = to w0 (once c.in_ok-left.ensures.1) in
     let here = c.in_ok-left.ensures.1.within in
     let n = c.token_no-token.result in
     let took = c.in-Some.ensures in
-    let m0 = opened ws d sign g.Related member_symbols refl (test_alone (terminal_at ws sign) took.among) here in
+    let m0 = opened ws d sign g.RelationTail member_symbols refl (test_alone (terminal_at ws sign) took.among) here in
     let m1 = to m0 (kept n.0 c.token_no-token.ensures took) in
     let e = c.in_err-class.field-0.0 in
     let r = c.from_residual-in_err-class in
@@ -452,14 +452,14 @@ relation-returns-in-Some u c =
     let ws = c.args.tokens.now in
     let d = c.args.depth in
     let i = c.args.at in
-    let sy = Of Once g.Cat ∷ Of Maybe g.Related ∷ [] in
-    let w0 = opened ws d i g.Rel sy refl (only g.Rel sy (terminal_at ws i) refl) c.requires.within in
+    let sy = Of Once g.Concatenation ∷ Of Maybe g.RelationTail ∷ [] in
+    let w0 = opened ws d i g.Relation sy refl (only g.Relation sy (terminal_at ws i) refl) c.requires.within in
     let sign = c.in_ok-left.sign in
     let w1 = to w0 (once c.in_ok-left.ensures.1) in
     let here = c.in_ok-left.ensures.1.within in
     let n = c.token_no-token.result in
     let took = c.in-Some.ensures in
-    let m0 = opened ws d sign g.Related member_symbols refl (test_alone (terminal_at ws sign) took.among) here in
+    let m0 = opened ws d sign g.RelationTail member_symbols refl (test_alone (terminal_at ws sign) took.among) here in
     let m1 = to m0 (kept n.0 c.token_no-token.ensures took) in
     let m = c.in-Some.membership in
     let class = c.in_ok-class.class in
@@ -467,15 +467,15 @@ relation-returns-in-Some u c =
     let inside = leaf n.0 (membership_kind m) (identifier class done) in
     let m2 = to m1 (c.in_ok-class.ensures d) in
     let w2 = to w1 (maybe (gone m2 inside refl)) in
-    level-made 6 _ _ (shown-Member object n m class) refl w2 (ap (λ y. node g.Cat (raise 5 (shown y)) (node g.Related inside done)) (sym c.in_ok-object.ensures.ok))
+    level-made 6 _ _ (shown-Member object n m class) refl w2 (ap (λ y. node g.Concatenation (raise 5 (shown y)) (node g.RelationTail inside done)) (sym c.in_ok-object.ensures.ok))
 
 pub relation-returns-in_default-relation_at : goal.relation-returns-in_default-relation_at
 relation-returns-in_default-relation_at u c =
     let ws = c.args.tokens.now in
     let d = c.args.depth in
     let i = c.args.at in
-    let sy = Of Once g.Cat ∷ Of Maybe g.Related ∷ [] in
-    let w0 = opened ws d i g.Rel sy refl (only g.Rel sy (terminal_at ws i) refl) c.requires.within in
+    let sy = Of Once g.Concatenation ∷ Of Maybe g.RelationTail ∷ [] in
+    let w0 = opened ws d i g.Relation sy refl (only g.Relation sy (terminal_at ws i) refl) c.requires.within in
     let sign = c.in_ok-left.sign in
     let w1 = to w0 (once c.in_ok-left.ensures.1) in
     let here = c.in_ok-left.ensures.1.within in
@@ -488,42 +488,42 @@ relation-returns-in_err-right u c =
     let ws = c.args.tokens.now in
     let d = c.args.depth in
     let i = c.args.at in
-    let sy = Of Once g.Cat ∷ Of Maybe g.Related ∷ [] in
-    let w0 = opened ws d i g.Rel sy refl (only g.Rel sy (terminal_at ws i) refl) c.requires.within in
+    let sy = Of Once g.Concatenation ∷ Of Maybe g.RelationTail ∷ [] in
+    let w0 = opened ws d i g.Relation sy refl (only g.Relation sy (terminal_at ws i) refl) c.requires.within in
     let sign = c.in_ok-left.sign in
     let w1 = to w0 (once c.in_ok-left.ensures.1) in
     let here = c.in_ok-left.ensures.1.within in
     let n = c.token_no-token.result in
     let took = c.in-Some-relation_at.ensures in
-    let m0 = opened ws d sign g.Related related_symbols refl (related (terminal_at ws sign) true _ took.among refl) here in
+    let m0 = opened ws d sign g.RelationTail related_symbols refl (related (terminal_at ws sign) true _ took.among refl) here in
     let m1 = to m0 (kept n.0 c.token_no-token.ensures took) in
     let e = c.in_err-right.field-0.0 in
     let r = c.from_residual-in_err-right in
     exit (λ r. GivesLevel ws d 6 i r) r.result e r.ensures.1
-    (stops w1 e (stops-in Maybe m1 e (once-stops ws d c.in-Some-relation_at.next g.Cat e c.in_err-right.ensures)))
+    (stops w1 e (stops-in Maybe m1 e (once-stops ws d c.in-Some-relation_at.next g.Concatenation e c.in_err-right.ensures)))
 
 pub relation-returns : goal.relation-returns
 relation-returns u c =
     let ws = c.args.tokens.now in
     let d = c.args.depth in
     let i = c.args.at in
-    let sy = Of Once g.Cat ∷ Of Maybe g.Related ∷ [] in
-    let w0 = opened ws d i g.Rel sy refl (only g.Rel sy (terminal_at ws i) refl) c.requires.within in
+    let sy = Of Once g.Concatenation ∷ Of Maybe g.RelationTail ∷ [] in
+    let w0 = opened ws d i g.Relation sy refl (only g.Relation sy (terminal_at ws i) refl) c.requires.within in
     let sign = c.in_ok-left.sign in
     let w1 = to w0 (once c.in_ok-left.ensures.1) in
     let here = c.in_ok-left.ensures.1.within in
     let n = c.token_no-token.result in
     let took = c.in-Some-relation_at.ensures in
-    let m0 = opened ws d sign g.Related related_symbols refl (related (terminal_at ws sign) true _ took.among refl) here in
+    let m0 = opened ws d sign g.RelationTail related_symbols refl (related (terminal_at ws sign) true _ took.among refl) here in
     let m1 = to m0 (kept n.0 c.token_no-token.ensures took) in
     let m = c.in-Some-relation_at.relation in
     let left = c.in_ok-left-2.left in
     let right = c.in_ok-right-2.right in
     let m2 = to m1 (once c.in_ok-right.ensures.1) in
-    let w2 = to w1 (maybe (gone m2 (leaf n.0 (relation_kind m) (node g.Cat (raise 5 (shown c.in_ok-right.right)) done)) refl)) in
+    let w2 = to w1 (maybe (gone m2 (leaf n.0 (relation_kind m) (node g.Concatenation (raise 5 (shown c.in_ok-right.right)) done)) refl)) in
     level-made 6 _ _ (shown-Related left n m right) refl w2
-    (ap (λ y. node g.Cat (raise 5 (shown y)) (node g.Related (leaf n.0 (relation_kind m) (node g.Cat (raise 5 (shown c.in_ok-right.right)) done)) done)) (sym c.in_ok-left-2.ensures.ok)
-    ∙ ap (λ y. node g.Cat (raise 5 (shown left.value)) (node g.Related (leaf n.0 (relation_kind m) (node g.Cat (raise 5 (shown y)) done)) done)) (sym c.in_ok-right-2.ensures.ok))
+    (ap (λ y. node g.Concatenation (raise 5 (shown y)) (node g.RelationTail (leaf n.0 (relation_kind m) (node g.Concatenation (raise 5 (shown c.in_ok-right.right)) done)) done)) (sym c.in_ok-left-2.ensures.ok)
+    ∙ ap (λ y. node g.Concatenation (raise 5 (shown left.value)) (node g.RelationTail (leaf n.0 (relation_kind m) (node g.Concatenation (raise 5 (shown y)) done)) done)) (sym c.in_ok-right-2.ensures.ok))
 
 pub selectors-loop-rest-init : goal.selectors-loop-rest-init
 selectors-loop-rest-init u c =
@@ -543,8 +543,8 @@ selectors-returns-in_err-taken u c =
     let i = c.args.start in
     let e = c.in_err-taken.field-0.0 in
     let r = c.from_residual in
-    exit (λ r. GivesRow ws d g.Selected i (λ v. map selector_shown v.items) r) r.result e r.ensures.1
-    (row-stops ws d i c.loop-rest.at g.Selected _ c.loop-rest.invariant.goes e c.in_err-taken.ensures)
+    exit (λ r. GivesRow ws d g.Selection i (λ v. map selector_shown v.items) r) r.result e r.ensures.1
+    (row-stops ws d i c.loop-rest.at g.Selection _ c.loop-rest.invariant.goes e c.in_err-taken.ensures)
 
 pub selectors-loop-rest-preserved : goal.selectors-loop-rest-preserved
 selectors-loop-rest-preserved u c =
@@ -552,7 +552,7 @@ selectors-loop-rest-preserved u c =
     let d = c.args.depth in
     let i = c.args.start in
     let l = c.loop-rest in
-    let p = (subst (λ r. GivesNext ws d g.Selected l.at selector_shown (Ok r)) c.in-Some.is c.in_ok-taken.ensures).1 in
+    let p = (subst (λ r. GivesNext ws d g.Selection l.at selector_shown (Ok r)) c.in-Some.is c.in_ok-taken.ensures).1 in
     record {
       goes = row-more selector_shown l.rest.items c.push.new.self.items c.in-Some.taken (selector_shown c.in-Some.taken) l.invariant.goes p c.in_ok-push.ensures.items refl;
       ahead = omega (arith, l.invariant.ahead, p.ahead);
@@ -565,7 +565,7 @@ selectors-returns u c =
     let d = c.args.depth in
     let i = c.args.start in
     let l = c.loop-rest in
-    row-end selector_shown l.rest.items l.invariant.goes (subst (λ r. GivesNext ws d g.Selected l.at selector_shown (Ok r)) c.in_default.is c.in_ok-taken.ensures) l.invariant.ahead l.invariant.within
+    row-end selector_shown l.rest.items l.invariant.goes (subst (λ r. GivesNext ws d g.Selection l.at selector_shown (Ok r)) c.in_default.is c.in_ok-taken.ensures) l.invariant.ahead l.invariant.within
 
 pub selector-returns-in_err-name : goal.selector-returns-in_err-name
 selector-returns-in_err-name u c =
@@ -574,11 +574,11 @@ selector-returns-in_err-name u c =
     let i = c.args.at in
     let w = c.in-Some.ensures in
     let n = c.token_no-token.result in
-    let m0 = opened ws d i g.Selected dot_symbols refl (by_test g.Selected (terminal_at ws i) t.Dot dot_symbols w.0 selected_dot) c.requires.within in
+    let m0 = opened ws d i g.Selection dot_symbols refl (by_test g.Selection (terminal_at ws i) t.Dot dot_symbols w.0 selected_dot) c.requires.within in
     let m1 = to m0 (kept n.0 c.token_no-token.ensures (took_one ws i c.in-Some.next k.Dot refl w)) in
     let e = c.in_err-name.field-0.0 in
     let r = c.from_residual in
-    exit (λ r. GivesNext ws d g.Selected i selector_shown r) r.result e r.ensures.1
+    exit (λ r. GivesNext ws d g.Selection i selector_shown r) r.result e r.ensures.1
     (stops-in Many m1 e (c.in_err-name.ensures d))
 
 pub selector-returns-in_err-arguments : goal.selector-returns-in_err-arguments
@@ -588,12 +588,12 @@ selector-returns-in_err-arguments u c =
     let i = c.args.at in
     let w = c.in-Some.ensures in
     let n = c.token_no-token.result in
-    let m0 = opened ws d i g.Selected dot_symbols refl (by_test g.Selected (terminal_at ws i) t.Dot dot_symbols w.0 selected_dot) c.requires.within in
+    let m0 = opened ws d i g.Selection dot_symbols refl (by_test g.Selection (terminal_at ws i) t.Dot dot_symbols w.0 selected_dot) c.requires.within in
     let m1 = to m0 (kept n.0 c.token_no-token.ensures (took_one ws i c.in-Some.next k.Dot refl w)) in
     let m2 = to m1 (c.in_ok-name.ensures d) in
     let e = c.in_err-arguments.field-0.0 in
     let r = c.from_residual-in_err-arguments in
-    exit (λ r. GivesNext ws d g.Selected i selector_shown r) r.result e r.ensures.1
+    exit (λ r. GivesNext ws d g.Selection i selector_shown r) r.result e r.ensures.1
     (stops-in Many m2 e c.in_err-arguments.ensures)
 
 pub selector-returns-in-Some : goal.selector-returns-in-Some
@@ -603,7 +603,7 @@ selector-returns-in-Some u c =
     let i = c.args.at in
     let w = c.in-Some.ensures in
     let n = c.token_no-token.result in
-    let m0 = opened ws d i g.Selected dot_symbols refl (by_test g.Selected (terminal_at ws i) t.Dot dot_symbols w.0 selected_dot) c.requires.within in
+    let m0 = opened ws d i g.Selection dot_symbols refl (by_test g.Selection (terminal_at ws i) t.Dot dot_symbols w.0 selected_dot) c.requires.within in
     let m1 = to m0 (kept n.0 c.token_no-token.ensures (took_one ws i c.in-Some.next k.Dot refl w)) in
     let m2 = to m1 (c.in_ok-name.ensures d) in
     let m3 = to m2 c.in_ok-arguments.ensures in
@@ -623,11 +623,11 @@ selector-returns-in_err-class u c =
     let i = c.args.at in
     let w = c.in-Some-eat.ensures in
     let n = c.token_no-token.result in
-    let m0 = opened ws d i g.Selected qua_symbols refl (by_test g.Selected (terminal_at ws i) t.Qua qua_symbols w.0 selected_qua) c.requires.within in
+    let m0 = opened ws d i g.Selection qua_symbols refl (by_test g.Selection (terminal_at ws i) t.Qua qua_symbols w.0 selected_qua) c.requires.within in
     let m1 = to m0 (kept n.0 c.token_no-token.ensures (took_one ws i c.in-Some-eat.next k.Qua refl w)) in
     let e = c.in_err-class.field-0.0 in
     let r = c.from_residual-in_err-class in
-    exit (λ r. GivesNext ws d g.Selected i selector_shown r) r.result e r.ensures.1
+    exit (λ r. GivesNext ws d g.Selection i selector_shown r) r.result e r.ensures.1
     (stops-in Many m1 e (c.in_err-class.ensures d))
 
 pub selector-returns : goal.selector-returns
@@ -637,7 +637,7 @@ selector-returns u c =
     let i = c.args.at in
     let w = c.in-Some-eat.ensures in
     let n = c.token_no-token.result in
-    let m0 = opened ws d i g.Selected qua_symbols refl (by_test g.Selected (terminal_at ws i) t.Qua qua_symbols w.0 selected_qua) c.requires.within in
+    let m0 = opened ws d i g.Selection qua_symbols refl (by_test g.Selection (terminal_at ws i) t.Qua qua_symbols w.0 selected_qua) c.requires.within in
     let m1 = to m0 (kept n.0 c.token_no-token.ensures (took_one ws i c.in-Some-eat.next k.Qua refl w)) in
     let m2 = to m1 (c.in_ok-class.ensures d) in
     (omega (arith, w.1, (c.in_ok-class.ensures d).ahead), gone m2 _ (sym (shown-Qua n c.in_ok-class.class)))
@@ -648,7 +648,7 @@ arguments-returns-in_default u c =
     let d = c.args.depth in
     let i = c.args.at in
     to-as (λ f. f) (arguments (map shown c.new.result.items)) (λ f. ap (λ l. arguments (map shown l) f) (sym c.new.ensures.items))
-    (skipped (one_row g.Args (just t.Open) args_symbols (terminal_at ws i) false refl (just_is _ _ _ c.in_default.ensures)) c.requires.within)
+    (skipped (one_row g.Arguments (just t.Open) args_symbols (terminal_at ws i) false refl (just_is _ _ _ c.in_default.ensures)) c.requires.within)
 
 pub arguments-returns-in_err-list : goal.arguments-returns-in_err-list
 arguments-returns-in_err-list u c =
@@ -656,11 +656,11 @@ arguments-returns-in_err-list u c =
     let d = c.args.depth in
     let i = c.args.at in
     let w = c.in-Some.ensures in
-    let m0 = opened ws d i g.Args args_symbols refl (one_row g.Args (just t.Open) args_symbols (terminal_at ws i) true refl (just_is _ _ _ w.0)) c.requires.within in
+    let m0 = opened ws d i g.Arguments args_symbols refl (one_row g.Arguments (just t.Open) args_symbols (terminal_at ws i) true refl (just_is _ _ _ w.0)) c.requires.within in
     let m1 = to m0 (marked w) in
     let e = c.in_err-list.field-0.0 in
     let r = c.from_residual in
-    exit (λ r. GivesTo ws d (Of Maybe g.Args) i (λ v. arguments (map shown v.items)) r) r.result e r.ensures.1
+    exit (λ r. GivesTo ws d (Of Maybe g.Arguments) i (λ v. arguments (map shown v.items)) r) r.result e r.ensures.1
     (stops-at Maybe m1 e (c.in_err-list.ensures (Mark t.Close ∷ [])))
 
 pub arguments-returns-in_err-end : goal.arguments-returns-in_err-end
@@ -669,12 +669,12 @@ arguments-returns-in_err-end u c =
     let d = c.args.depth in
     let i = c.args.at in
     let w = c.in-Some.ensures in
-    let m0 = opened ws d i g.Args args_symbols refl (one_row g.Args (just t.Open) args_symbols (terminal_at ws i) true refl (just_is _ _ _ w.0)) c.requires.within in
+    let m0 = opened ws d i g.Arguments args_symbols refl (one_row g.Arguments (just t.Open) args_symbols (terminal_at ws i) true refl (just_is _ _ _ w.0)) c.requires.within in
     let m1 = to m0 (marked w) in
     let m2 = to-list m1 c.in_ok-list.ensures.1 in
     let e = c.in_err-end.field-0.0 in
     let r = c.from_residual-in_err-end in
-    exit (λ r. GivesTo ws d (Of Maybe g.Args) i (λ v. arguments (map shown v.items)) r) r.result e r.ensures.1
+    exit (λ r. GivesTo ws d (Of Maybe g.Arguments) i (λ v. arguments (map shown v.items)) r) r.result e r.ensures.1
     (stops-in Maybe m2 e (mark-stops ws d c.in_ok-list.next t.Close e c.in_err-end.ensures))
 
 pub arguments-returns : goal.arguments-returns
@@ -683,12 +683,12 @@ arguments-returns u c =
     let d = c.args.depth in
     let i = c.args.at in
     let w = c.in-Some.ensures in
-    let m0 = opened ws d i g.Args args_symbols refl (one_row g.Args (just t.Open) args_symbols (terminal_at ws i) true refl (just_is _ _ _ w.0)) c.requires.within in
+    let m0 = opened ws d i g.Arguments args_symbols refl (one_row g.Arguments (just t.Open) args_symbols (terminal_at ws i) true refl (just_is _ _ _ w.0)) c.requires.within in
     let m1 = to m0 (marked w) in
     let m2 = to-list m1 c.in_ok-list.ensures.1 in
     let m3 = to m2 (marked c.in_ok-end.ensures) in
     let l = map shown c.in_ok-list.list.items in
-    to-as (node g.Args (listed l done)) (arguments l) (λ f. sym (arguments-some l f (some-mapped shown c.in_ok-list.list.items c.in_ok-list.ensures.0)))
+    to-as (node g.Arguments (listed l done)) (arguments l) (λ f. sym (arguments-some l f (some-mapped shown c.in_ok-list.list.items c.in_ok-list.ensures.0)))
     (maybe (gone m3 (listed l done) refl))
 
 pub argument_list-returns-in_err-first : goal.argument_list-returns-in_err-first
@@ -699,7 +699,7 @@ argument_list-returns-in_err-first u c =
     let e = c.in_err-first.field-0.0 in
     let r = c.from_residual in
     exit (λ r. GivesList ws d i r) r.result e r.ensures.1
-    (λ s. once-stops ws d i g.Expr e c.in_err-first.ensures (Of Many g.NextArg ∷ s))
+    (λ s. once-stops ws d i g.Expression e c.in_err-first.ensures (Of Many g.NextArgument ∷ s))
 
 pub argument_list-loop-next-init : goal.argument_list-loop-next-init
 argument_list-loop-next-init u c =
@@ -710,8 +710,8 @@ argument_list-loop-next-init u c =
     let p = c.in_ok-first.ensures.1 in
     let items : c.push.new.self.items ≡ x ∷ [] = c.in_ok-push.ensures.items ∙ ap (λ l. l ++ x ∷ []) c.new-list.ensures.items in
     record {
-      goes = λ s. leads-as (λ f. node g.Expr (whole (shown x)) f) (listed (map shown c.push.new.self.items)) (λ f. ap (λ l. listed (map shown l) f) (sym items))
-          (past-one (start d (Of Once g.Expr ∷ Of Many g.NextArg ∷ s) i) p);
+      goes = λ s. leads-as (λ f. node g.Expression (whole (shown x)) f) (listed (map shown c.push.new.self.items)) (λ f. ap (λ l. listed (map shown l) f) (sym items))
+          (past-one (start d (Of Once g.Expression ∷ Of Many g.NextArgument ∷ s) i) p);
       some = omega (arith, ap length items);
       ahead = p.ahead;
       within = p.within;
@@ -725,12 +725,12 @@ argument_list-returns-in_err-argument u c =
     let l = c.loop-next in
     let at = l.at in
     let w = c.in-Some.ensures in
-    let m0 = opened ws d at g.NextArg more_symbols refl (one_row g.NextArg (just t.Comma) more_symbols (terminal_at ws at) true refl (just_is _ _ _ w.0)) l.invariant.within in
+    let m0 = opened ws d at g.NextArgument more_symbols refl (one_row g.NextArgument (just t.Comma) more_symbols (terminal_at ws at) true refl (just_is _ _ _ w.0)) l.invariant.within in
     let m1 = to m0 (marked w) in
     let e = c.in_err-argument.field-0.0 in
     let r = c.from_residual-in_err-argument in
     exit (λ r. GivesList ws d i r) r.result e r.ensures.1
-    (λ s. leads-stops (l.invariant.goes s) e (stops-in Many m1 e (once-stops ws d c.in-Some.next g.Expr e c.in_err-argument.ensures) s))
+    (λ s. leads-stops (l.invariant.goes s) e (stops-in Many m1 e (once-stops ws d c.in-Some.next g.Expression e c.in_err-argument.ensures) s))
 
 pub argument_list-loop-next-preserved : goal.argument_list-loop-next-preserved
 argument_list-loop-next-preserved u c =
@@ -740,14 +740,14 @@ argument_list-loop-next-preserved u c =
     let l = c.loop-next in
     let at = l.at in
     let w = c.in-Some.ensures in
-    let m0 = opened ws d at g.NextArg more_symbols refl (one_row g.NextArg (just t.Comma) more_symbols (terminal_at ws at) true refl (just_is _ _ _ w.0)) l.invariant.within in
+    let m0 = opened ws d at g.NextArgument more_symbols refl (one_row g.NextArgument (just t.Comma) more_symbols (terminal_at ws at) true refl (just_is _ _ _ w.0)) l.invariant.within in
     let m1 = to m0 (marked w) in
     let x = c.in_ok-argument.argument in
     let p = c.in_ok-argument.ensures.1 in
     let items = c.in_ok-push-2.ensures.items in
-    let part = gone (to m1 (once p)) (node g.Expr (whole (shown x)) done) refl in
+    let part = gone (to m1 (once p)) (node g.Expression (whole (shown x)) done) refl in
     record {
-      goes = λ s. leads-as (λ h. listed (map shown l.list.items) (node g.NextArg (argument (shown x)) h)) (listed (map shown c.push-in-Some.new.self.items)) (λ h. listed-more l.list.items c.push-in-Some.new.self.items x h l.invariant.some items)
+      goes = λ s. leads-as (λ h. listed (map shown l.list.items) (node g.NextArgument (argument (shown x)) h)) (listed (map shown c.push-in-Some.new.self.items)) (λ h. listed-more l.list.items c.push-in-Some.new.self.items x h l.invariant.some items)
           (past-one (l.invariant.goes s) part);
       some = omega (arith, ap length items, length-append l.list.items (x ∷ []));
       ahead = omega (arith, l.invariant.ahead, w.1, p.ahead);
@@ -760,7 +760,7 @@ argument_list-returns u c =
     let d = c.args.depth in
     let i = c.args.start in
     let l = c.loop-next in
-    let none = one_row g.NextArg (just t.Comma) more_symbols (terminal_at ws l.at) false refl (just_is _ _ _ c.in_default.ensures) in (
+    let none = one_row g.NextArgument (just t.Comma) more_symbols (terminal_at ws l.at) false refl (just_is _ _ _ c.in_default.ensures) in (
       l.invariant.some,
       record {
         reads = λ s f m q. (l.invariant.goes s).reads f m (reads-skip none refl q);
@@ -867,7 +867,7 @@ primary-returns-in_err-inner u c =
     let e = c.in_err-inner.field-0.0 in
     let r = c.from_residual-in_err-inner in
     exit (λ r. GivesLevel ws d 0 i r) r.result e r.ensures.1
-    (stops m1 e (once-stops ws d c.in-Some-eat-3.next g.Expr e c.in_err-inner.ensures))
+    (stops m1 e (once-stops ws d c.in-Some-eat-3.next g.Expression e c.in_err-inner.ensures))
 
 pub primary-returns-in_err-end : goal.primary-returns-in_err-end
 primary-returns-in_err-end u c =
@@ -895,7 +895,7 @@ primary-returns-in-Some-eat-3 u c =
     let m1 = to m0 (kept n.0 c.token_no-token.ensures (took_one ws i c.in-Some-eat-3.next k.Open refl w)) in
     let m2 = to m1 (once c.in_ok-inner.ensures.1) in
     let x = c.in_ok-inner-2.inner in
-    level-made 0 _ _ (shown-Parentheses n x) refl (to m2 (marked c.in_ok-end.ensures)) (ap (λ y. leaf n.0 k.Open (node g.Expr (whole (shown y)) done)) (sym c.in_ok-inner-2.ensures.ok))
+    level-made 0 _ _ (shown-Parentheses n x) refl (to m2 (marked c.in_ok-end.ensures)) (ap (λ y. leaf n.0 k.Open (node g.Expression (whole (shown y)) done)) (sym c.in_ok-inner-2.ensures.ok))
 
 pub primary-returns-in_err-expect : goal.primary-returns-in_err-expect
 primary-returns-in_err-expect u c =
@@ -950,7 +950,7 @@ expression-returns-in_err-condition u c =
     let e = c.in_err-condition.field-0.0 in
     let r = c.from_residual in
     exit (λ r. GivesLevel ws d 14 i r) r.result e r.ensures.1
-    (stops w1 e (once-stops ws (d + 1) c.in-Some.next g.Expr e c.in_err-condition.ensures))
+    (stops w1 e (once-stops ws (d + 1) c.in-Some.next g.Expression e c.in_err-condition.ensures))
 
 pub expression-returns-in_err-next : goal.expression-returns-in_err-next
 expression-returns-in_err-next u c =
@@ -979,7 +979,7 @@ expression-returns-in_err-first u c =
     let e = c.in_err-first.field-0.0 in
     let r = c.from_residual-in_err-first in
     exit (λ r. GivesLevel ws d 14 i r) r.result e r.ensures.1
-    (stops w3 e (once-stops ws (d + 1) c.in_ok-next.next g.Simple e c.in_err-first.ensures))
+    (stops w3 e (once-stops ws (d + 1) c.in_ok-next.next g.SimpleExpression e c.in_err-first.ensures))
 
 pub expression-returns-in_err-next-2 : goal.expression-returns-in_err-next-2
 expression-returns-in_err-next-2 u c =
@@ -1012,7 +1012,7 @@ expression-returns-in_err-second u c =
     let e = c.in_err-second.field-0.0 in
     let r = c.from_residual-in_err-second in
     exit (λ r. GivesLevel ws d 14 i r) r.result e r.ensures.1
-    (stops w5 e (once-stops ws (d + 1) c.in_ok-next-2.next g.Expr e c.in_err-second.ensures))
+    (stops w5 e (once-stops ws (d + 1) c.in_ok-next-2.next g.Expression e c.in_err-second.ensures))
 
 pub expression-returns : goal.expression-returns
 expression-returns u c =
@@ -1047,7 +1047,7 @@ expression-returns-in_default u c =
     let w0 = open-simple ws d i c.requires.within c.in_default.ensures (simple-begins ws i begins c.in_default.ensures) (under-limit d c.requires.shallow c.if-depth-eq-LIMIT.false) in
     passed (GivesLevel ws (d + 1) 13 i) (GivesLevel ws d 14 i)
     (λ x h. level-up 13 x.0 h.0 (to w0 (once h.1)) refl)
-    (λ e h. stops w0 e (once-stops ws (d + 1) i g.Simple e h))
+    (λ e h. stops w0 e (once-stops ws (d + 1) i g.SimpleExpression e h))
     c.operated.result c.operated.ensures
 
 pub sum-returns-then-is_empty : goal.sum-returns-then-is_empty
@@ -1055,7 +1055,7 @@ sum-returns-then-is_empty u c =
     let ws = c.args.tokens.now in
     let d = c.args.depth in
     let i = c.args.at in
-    let sy = Of Maybe g.Sign ∷ Of Once g.Term ∷ Of Many g.Added ∷ [] in
+    let sy = Of Maybe g.LeadingSign ∷ Of Once g.Term ∷ Of Many g.NextTerm ∷ [] in
     let sign = c.leading_sign-sign.result.0 in
     let start = c.leading_sign-sign.result.1 in
     let w0 = opened ws d i g.Sum sy refl (only g.Sum sy (terminal_at ws i) refl) c.requires.within in
@@ -1066,14 +1066,14 @@ sum-returns-then-is_empty u c =
     let x = c.in_ok-first.first in
     let none = no-items v.items (sym v.ok.0 ∙ eqb-true (vec_len v) 0 (sym c.if-is_empty.ensures)) in
     level-up 3 x c.in_ok-first.ensures.0 w3
-    (front-none sign _ c.if-is_none.ensures ∙ ap (λ l. node g.Term (raise 3 (shown x)) (row g.Added (map term_shown l) done)) none)
+    (front-none sign _ c.if-is_none.ensures ∙ ap (λ l. node g.Term (raise 3 (shown x)) (row g.NextTerm (map term_shown l) done)) none)
 
 pub sum-returns : goal.sum-returns
 sum-returns u c =
     let ws = c.args.tokens.now in
     let d = c.args.depth in
     let i = c.args.at in
-    let sy = Of Maybe g.Sign ∷ Of Once g.Term ∷ Of Many g.Added ∷ [] in
+    let sy = Of Maybe g.LeadingSign ∷ Of Once g.Term ∷ Of Many g.NextTerm ∷ [] in
     let sign = c.leading_sign-sign.result.0 in
     let start = c.leading_sign-sign.result.1 in
     let w0 = opened ws d i g.Sum sy refl (only g.Sum sy (terminal_at ws i) refl) c.requires.within in
@@ -1084,12 +1084,12 @@ sum-returns u c =
     let x = c.in_ok-first.first in
     let y = c.in_ok-first-2.first in
     let fs = map term_shown v.items in
-    let shape : summed sign (shown y.value) fs ≡ record { level = 4; inside = front sign (node g.Term (raise 3 (shown y.value)) (row g.Added fs done)) } = elim c.else-is_none.branch [
+    let shape : summed sign (shown y.value) fs ≡ record { level = 4; inside = front sign (node g.Term (raise 3 (shown y.value)) (row g.NextTerm fs done)) } = elim c.else-is_none.branch [
       | sum-else-is_none-via-then-is_none+else-is_empty w ↦ summed-some sign (shown y.value) fs (some-mapped term_shown v.items (some-items v.items (vec_len v) v.ok.0 (sym w.if-is_empty.ensures)))
       | sum-else-is_none-via-else-is_none w ↦ summed-is sign (shown y.value) fs w.if-is_none.ensures
     ] in
     level-made 4 _ _ (shown-Sum sign y v ∙ shape) refl w3
-    (ap (λ z. front sign (node g.Term (raise 3 (shown z)) (row g.Added fs done))) (sym c.in_ok-first-2.ensures.ok))
+    (ap (λ z. front sign (node g.Term (raise 3 (shown z)) (row g.NextTerm fs done))) (sym c.in_ok-first-2.ensures.ok))
 
 pub expression-returns-then-not-begins_simple : goal.expression-returns-then-not-begins_simple
 expression-returns-then-not-begins_simple u c =
@@ -1132,5 +1132,5 @@ selector-arguments-requires u c =
 
 pub selectors-loop-rest-smaller : goal.selectors-loop-rest-smaller
 selectors-loop-rest-smaller u c =
-    let p = subst (λ r. GivesNext c.args.tokens.now c.args.depth g.Selected c.loop-rest.at selector_shown (Ok r)) c.in-Some.is c.in_ok-taken.ensures in
+    let p = subst (λ r. GivesNext c.args.tokens.now c.args.depth g.Selection c.loop-rest.at selector_shown (Ok r)) c.in-Some.is c.in_ok-taken.ensures in
     omega (arith, p.0, p.1.within)

@@ -69,7 +69,7 @@ decreases-operands-loop-next l = length l.tokens - l.at
 
 abbrev pub invariant-terms-loop-sign : goal.invariant-terms-loop-sign
 invariant-terms-loop-sign l = record {
-  goes : Row l.tokens l.depth g.Added l.start (map term_shown l.rest.items) l.at;
+  goes : Row l.tokens l.depth g.NextTerm l.start (map term_shown l.rest.items) l.at;
   ahead : l.start ≤ l.at;
   within : l.at < length l.tokens;
 }
@@ -79,7 +79,7 @@ decreases-terms-loop-sign l = length l.tokens - l.at
 
 abbrev pub invariant-factors-loop-operator : goal.invariant-factors-loop-operator
 invariant-factors-loop-operator l = record {
-  goes : Row l.tokens l.depth g.Multiplied l.start (map factor_shown l.rest.items) l.at;
+  goes : Row l.tokens l.depth g.NextFactor l.start (map factor_shown l.rest.items) l.at;
   ahead : l.start ≤ l.at;
   within : l.at < length l.tokens;
 }
@@ -89,7 +89,7 @@ decreases-factors-loop-operator l = length l.tokens - l.at
 
 abbrev pub invariant-selectors-loop-rest : goal.invariant-selectors-loop-rest
 invariant-selectors-loop-rest l = record {
-  goes : Row l.tokens l.depth g.Selected l.start (map selector_shown l.rest.items) l.at;
+  goes : Row l.tokens l.depth g.Selection l.start (map selector_shown l.rest.items) l.at;
   ahead : l.start ≤ l.at;
   within : l.at < length l.tokens;
 }
@@ -99,7 +99,7 @@ decreases-selectors-loop-rest l = length l.tokens - l.at
 
 abbrev pub invariant-argument_list-loop-next : goal.invariant-argument_list-loop-next
 invariant-argument_list-loop-next l = record {
-  goes : (s : List Symbol) → Leads l.tokens l.depth (Of Once g.Expr ∷ Of Many g.NextArg ∷ s) l.start (listed (map shown l.list.items)) l.depth (Of Many g.NextArg ∷ s) l.at;
+  goes : (s : List Symbol) → Leads l.tokens l.depth (Of Once g.Expression ∷ Of Many g.NextArgument ∷ s) l.start (listed (map shown l.list.items)) l.depth (Of Many g.NextArgument ∷ s) l.at;
   some : 0 < length l.list.items;
   ahead : l.start ≤ l.at;
   within : l.at < length l.tokens;

@@ -18,7 +18,7 @@ loop-next-preserved c =
     let n = c.token_no.result in
     record {
       goes = λ d s. row-more not_mark c.loop-next.marks.items c.push.new.self.items n (leaf n.0 k.Not done) (c.loop-next.invariant.goes d)
-          (gone (to (opened ws d at g.NotMark (Kept (just t.Not) ∷ []) refl (one_row g.NotMark (just t.Not) (Kept (just t.Not) ∷ []) (terminal_at ws at) true refl (just_is _ _ _ w.0)) c.loop-next.invariant.within)
+          (gone (to (opened ws d at g.NotSign (Kept (just t.Not) ∷ []) refl (one_row g.NotSign (just t.Not) (Kept (just t.Not) ∷ []) (terminal_at ws at) true refl (just_is _ _ _ w.0)) c.loop-next.invariant.within)
           (kept n.0 c.token_no.ensures (took_one ws at c.in-Some.next k.Not refl w))) (leaf n.0 k.Not done) refl) c.in_ok-push.ensures.items refl s;
       ahead = omega (arith, c.loop-next.invariant.ahead, w.1);
       within = w.2;
@@ -26,5 +26,5 @@ loop-next-preserved c =
 
 pub returns : goal.returns
 returns c = λ d.
-    row-end not_mark c.loop-next.marks.items (c.loop-next.invariant.goes d) (one_row g.NotMark (just t.Not) (Kept (just t.Not) ∷ []) (terminal_at c.args.tokens.now c.loop-next.at) false refl (just_is _ _ _ c.in_default.ensures))
+    row-end not_mark c.loop-next.marks.items (c.loop-next.invariant.goes d) (one_row g.NotSign (just t.Not) (Kept (just t.Not) ∷ []) (terminal_at c.args.tokens.now c.loop-next.at) false refl (just_is _ _ _ c.in_default.ensures))
     c.loop-next.invariant.ahead c.loop-next.invariant.within

@@ -6,7 +6,7 @@ use Rattle.sim_expr_parser.proofs.parser.not_marks.Given as goal
 
 abbrev pub invariant-loop-next : goal.invariant-loop-next
 invariant-loop-next l = record {
-  goes : (d : ℕ) → Row l.tokens d g.NotMark l.start (map not_mark l.marks.items) l.at;
+  goes : (d : ℕ) → Row l.tokens d g.NotSign l.start (map not_mark l.marks.items) l.at;
   ahead : l.start ≤ l.at;
   within : l.at < length l.tokens;
 }

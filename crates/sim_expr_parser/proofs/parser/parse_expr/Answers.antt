@@ -9,19 +9,19 @@ use Rattle.sim_expr_parser.proofs.Ranges.{fails_within}
 use Rattle.sim_expr_parser.proofs.parser.parse_expr.Goals as goal
 
 pub token_no-requires-clause-within : goal.token_no-requires-clause-within
-token_no-requires-clause-within c = fails_within c.requires.source.ended (subst (λ z. Stops c.args.tokens.now c.args.depth (one g.Expr) c.args.at z) c.in-Err-Unexpected.field-0-is c.in-Err-Unexpected.ensures) refl c.requires.within
+token_no-requires-clause-within c = fails_within c.requires.source.ended (subst (λ z. Stops c.args.tokens.now c.args.depth (one g.Expression) c.args.at z) c.in-Err-Unexpected.field-0-is c.in-Err-Unexpected.ensures) refl c.requires.within
 
 pub token_no-requires-in-Err-TooDeep-clause-within : goal.token_no-requires-in-Err-TooDeep-clause-within
-token_no-requires-in-Err-TooDeep-clause-within c = fails_within c.requires.source.ended (subst (λ z. Stops c.args.tokens.now c.args.depth (one g.Expr) c.args.at z) c.in-Err-TooDeep.field-0-is c.in-Err-TooDeep.ensures) refl c.requires.within
+token_no-requires-in-Err-TooDeep-clause-within c = fails_within c.requires.source.ended (subst (λ z. Stops c.args.tokens.now c.args.depth (one g.Expression) c.args.at z) c.in-Err-TooDeep.field-0-is c.in-Err-TooDeep.ensures) refl c.requires.within
 
 pub returns-in-Err-Unexpected : goal.returns-in-Err-Unexpected
 returns-in-Err-Unexpected c =
-    subst (λ z. IsFirstBad c.args.tokens.now (one g.Expr) c.args.at z) (sym c.token_no.ensures)
-    (first_bad limit c.args.depth c.args.tokens.now g.Expr c.args.at c.in-Err-Unexpected.bad (subst (λ z. Stops c.args.tokens.now c.args.depth (one g.Expr) c.args.at z) c.in-Err-Unexpected.field-0-is c.in-Err-Unexpected.ensures))
+    subst (λ z. IsFirstBad c.args.tokens.now (one g.Expression) c.args.at z) (sym c.token_no.ensures)
+    (first_bad limit c.args.depth c.args.tokens.now g.Expression c.args.at c.in-Err-Unexpected.bad (subst (λ z. Stops c.args.tokens.now c.args.depth (one g.Expression) c.args.at z) c.in-Err-Unexpected.field-0-is c.in-Err-Unexpected.ensures))
 
 pub returns-in-Err-TooDeep : goal.returns-in-Err-TooDeep
 returns-in-Err-TooDeep c =
     let ws = c.args.tokens.now in
     let i = c.args.at in
-    subst (λ z. Fails limit ws c.args.depth (one g.Expr) i (TooDeep z) × Begins ws (one g.Expr) i z) (sym c.token_no-in-Err-TooDeep.ensures)
-    ((subst (λ z. Stops c.args.tokens.now c.args.depth (one g.Expr) c.args.at z) c.in-Err-TooDeep.field-0-is c.in-Err-TooDeep.ensures), begun limit c.args.depth ws g.Expr i (TooDeep c.in-Err-TooDeep.deep) (subst (λ z. Stops c.args.tokens.now c.args.depth (one g.Expr) c.args.at z) c.in-Err-TooDeep.field-0-is c.in-Err-TooDeep.ensures))
+    subst (λ z. Fails limit ws c.args.depth (one g.Expression) i (TooDeep z) × Begins ws (one g.Expression) i z) (sym c.token_no-in-Err-TooDeep.ensures)
+    ((subst (λ z. Stops c.args.tokens.now c.args.depth (one g.Expression) c.args.at z) c.in-Err-TooDeep.field-0-is c.in-Err-TooDeep.ensures), begun limit c.args.depth ws g.Expression i (TooDeep c.in-Err-TooDeep.deep) (subst (λ z. Stops c.args.tokens.now c.args.depth (one g.Expression) c.args.at z) c.in-Err-TooDeep.field-0-is c.in-Err-TooDeep.ensures))

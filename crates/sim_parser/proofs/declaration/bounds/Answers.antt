@@ -19,7 +19,7 @@ returns-in_err-lower c =
     let e = c.in_err-lower.field-0.0 in
     let r = c.from_residual in
     exit (λ r. GivesPart ws d g.Bounds i bounds_shown r) r.result e r.ensures.1
-    (stops w0 e (once-stops ws d i g.Expr e c.in_err-lower.ensures))
+    (stops w0 e (once-stops ws d i g.Expression e c.in_err-lower.ensures))
 
 pub returns-in_err-next : goal.returns-in_err-next
 returns-in_err-next c =
@@ -44,7 +44,7 @@ returns-in_err-upper c =
     let e = c.in_err-upper.field-0.0 in
     let r = c.from_residual-in_err-upper in
     exit (λ r. GivesPart ws d g.Bounds i bounds_shown r) r.result e r.ensures.1
-    (stops w2 e (once-stops ws d c.in_ok-next.next g.Expr e c.in_err-upper.ensures))
+    (stops w2 e (once-stops ws d c.in_ok-next.next g.Expression e c.in_err-upper.ensures))
 
 pub returns : goal.returns
 returns c =

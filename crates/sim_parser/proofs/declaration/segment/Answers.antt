@@ -22,11 +22,11 @@ returns-in_err-names c =
     let ws = c.args.tokens.now in
     let d = c.args.depth in
     let i = c.args.at in
-    let w0 = opened ws d i g.Seg segment_symbols refl (only g.Seg segment_symbols (terminal_at ws i) refl) c.requires.within in
+    let w0 = opened ws d i g.ArraySegment segment_symbols refl (only g.ArraySegment segment_symbols (terminal_at ws i) refl) c.requires.within in
     let e = c.in_err-names.field-0.0 in
     let r = c.from_residual in
-    exit (λ r. GivesPart ws d g.Seg i segment_shown r) r.result e r.ensures.1
-    (stops w0 e (once-stops ws d i g.Ids e (c.in_err-names.ensures d)))
+    exit (λ r. GivesPart ws d g.ArraySegment i segment_shown r) r.result e r.ensures.1
+    (stops w0 e (once-stops ws d i g.Identifiers e (c.in_err-names.ensures d)))
 
 pub expect-requires-clause-within : goal.expect-requires-clause-within
 expect-requires-clause-within c =
@@ -37,11 +37,11 @@ returns-in_err-next c =
     let ws = c.args.tokens.now in
     let d = c.args.depth in
     let i = c.args.at in
-    let w0 = opened ws d i g.Seg segment_symbols refl (only g.Seg segment_symbols (terminal_at ws i) refl) c.requires.within in
+    let w0 = opened ws d i g.ArraySegment segment_symbols refl (only g.ArraySegment segment_symbols (terminal_at ws i) refl) c.requires.within in
     let w1 = to w0 (once (c.in_ok-names.ensures d)) in
     let e = c.in_err-next.field-0.0 in
     let r = c.from_residual-in_err-next in
-    exit (λ r. GivesPart ws d g.Seg i segment_shown r) r.result e r.ensures.1
+    exit (λ r. GivesPart ws d g.ArraySegment i segment_shown r) r.result e r.ensures.1
     (stops w1 e (mark-stops ws d c.in_ok-names.next t.Open e c.in_err-next.ensures))
 
 pub returns-in_err-bounds : goal.returns-in_err-bounds
@@ -49,12 +49,12 @@ returns-in_err-bounds c =
     let ws = c.args.tokens.now in
     let d = c.args.depth in
     let i = c.args.at in
-    let w0 = opened ws d i g.Seg segment_symbols refl (only g.Seg segment_symbols (terminal_at ws i) refl) c.requires.within in
+    let w0 = opened ws d i g.ArraySegment segment_symbols refl (only g.ArraySegment segment_symbols (terminal_at ws i) refl) c.requires.within in
     let w1 = to w0 (once (c.in_ok-names.ensures d)) in
     let w2 = to w1 (marked c.in_ok-next.ensures) in
     let e = c.in_err-bounds.field-0.0 in
     let r = c.from_residual-in_err-bounds in
-    exit (λ r. GivesPart ws d g.Seg i segment_shown r) r.result e r.ensures.1
+    exit (λ r. GivesPart ws d g.ArraySegment i segment_shown r) r.result e r.ensures.1
     (stops-at Once w2 e (c.in_err-bounds.ensures (Mark t.Close ∷ [])) [])
 
 pub returns-in_err-end : goal.returns-in_err-end
@@ -62,13 +62,13 @@ returns-in_err-end c =
     let ws = c.args.tokens.now in
     let d = c.args.depth in
     let i = c.args.at in
-    let w0 = opened ws d i g.Seg segment_symbols refl (only g.Seg segment_symbols (terminal_at ws i) refl) c.requires.within in
+    let w0 = opened ws d i g.ArraySegment segment_symbols refl (only g.ArraySegment segment_symbols (terminal_at ws i) refl) c.requires.within in
     let w1 = to w0 (once (c.in_ok-names.ensures d)) in
     let w2 = to w1 (marked c.in_ok-next.ensures) in
     let w3 = to-dimensions w2 c.in_ok-bounds.ensures in
     let e = c.in_err-end.field-0.0 in
     let r = c.from_residual-in_err-end in
-    exit (λ r. GivesPart ws d g.Seg i segment_shown r) r.result e r.ensures.1
+    exit (λ r. GivesPart ws d g.ArraySegment i segment_shown r) r.result e r.ensures.1
     (stops w3 e (mark-stops ws d c.in_ok-bounds.next t.Close e c.in_err-end.ensures))
 
 pub returns : goal.returns
@@ -76,9 +76,9 @@ returns c =
     let ws = c.args.tokens.now in
     let d = c.args.depth in
     let i = c.args.at in
-    let w0 = opened ws d i g.Seg segment_symbols refl (only g.Seg segment_symbols (terminal_at ws i) refl) c.requires.within in
+    let w0 = opened ws d i g.ArraySegment segment_symbols refl (only g.ArraySegment segment_symbols (terminal_at ws i) refl) c.requires.within in
     let w1 = to w0 (once (c.in_ok-names.ensures d)) in
     let w2 = to w1 (marked c.in_ok-next.ensures) in
     let w3 = to-dimensions w2 c.in_ok-bounds.ensures in
-    gone (to w3 (marked c.in_ok-end.ensures)) (node g.Ids (ids c.in_ok-names.names.items) (dimensions c.in_ok-bounds.bounds.items))
-    (ap (node g.Ids (ids c.in_ok-names.names.items)) (then-done c.in_ok-bounds.bounds.items))
+    gone (to w3 (marked c.in_ok-end.ensures)) (node g.Identifiers (ids c.in_ok-names.names.items) (dimensions c.in_ok-bounds.bounds.items))
+    (ap (node g.Identifiers (ids c.in_ok-names.names.items)) (then-done c.in_ok-bounds.bounds.items))

@@ -6,7 +6,7 @@ use Rattle.sim_parser.proofs.declaration.variables.Given as goal
 
 abbrev pub invariant-loop-next : goal.invariant-loop-next
 invariant-loop-next l = record {
-  goes : (d : ℕ) → Listed variable_shown l.tokens d g.Var g.NextVar l.start l.list.items l.at;
+  goes : (d : ℕ) → Listed variable_shown l.tokens d g.Variable g.NextVariable l.start l.list.items l.at;
   within : l.at < length l.tokens;
 }
 

@@ -17,47 +17,47 @@ returns-in_err-value c =
     let ws = c.args.tokens.now in
     let d = c.args.depth in
     let i = c.args.at in
-    let w0 = opened ws d i g.Felem element_symbols refl (only g.Felem element_symbols (terminal_at ws i) refl) c.requires.within in
+    let w0 = opened ws d i g.ForElement element_symbols refl (only g.ForElement element_symbols (terminal_at ws i) refl) c.requires.within in
     let e = c.in_err-value.field-0.0 in
     let r = c.from_residual in
-    exit (λ r. GivesPart ws d g.Felem i for_element_shown r) r.result e r.ensures.1
-    (stops w0 e (once-stops ws d i g.Expr e c.in_err-value.ensures))
+    exit (λ r. GivesPart ws d g.ForElement i for_element_shown r) r.result e r.ensures.1
+    (stops w0 e (once-stops ws d i g.Expression e c.in_err-value.ensures))
 
 pub returns-in_err-step : goal.returns-in_err-step
 returns-in_err-step c =
     let ws = c.args.tokens.now in
     let d = c.args.depth in
     let i = c.args.at in
-    let w0 = opened ws d i g.Felem element_symbols refl (only g.Felem element_symbols (terminal_at ws i) refl) c.requires.within in
+    let w0 = opened ws d i g.ForElement element_symbols refl (only g.ForElement element_symbols (terminal_at ws i) refl) c.requires.within in
     let p = c.in_ok-value.ensures.1 in
     let at = c.in_ok-value.next in
     let w1 = to w0 (once p) in
     let w = c.in-Some.ensures in
     let n = c.token_no-token.result in
-    let m0 = opened ws d at g.FelemTail step_symbols refl (by_test g.FelemTail (terminal_at ws at) t.Step step_symbols w.0 step_row) p.within in
+    let m0 = opened ws d at g.ForElementTail step_symbols refl (by_test g.ForElementTail (terminal_at ws at) t.Step step_symbols w.0 step_row) p.within in
     let m1 = to m0 (kept n.0 c.token_no-token.ensures (took_one ws at c.in-Some.next k.Step refl w)) in
     let e = c.in_err-step.field-0.0 in
     let r = c.from_residual-in_err-step in
-    exit (λ r. GivesPart ws d g.Felem i for_element_shown r) r.result e r.ensures.1
-    (stops w1 e (stops-in Maybe m1 e (once-stops ws d c.in-Some.next g.Expr e c.in_err-step.ensures)))
+    exit (λ r. GivesPart ws d g.ForElement i for_element_shown r) r.result e r.ensures.1
+    (stops w1 e (stops-in Maybe m1 e (once-stops ws d c.in-Some.next g.Expression e c.in_err-step.ensures)))
 
 pub returns-in_err-next : goal.returns-in_err-next
 returns-in_err-next c =
     let ws = c.args.tokens.now in
     let d = c.args.depth in
     let i = c.args.at in
-    let w0 = opened ws d i g.Felem element_symbols refl (only g.Felem element_symbols (terminal_at ws i) refl) c.requires.within in
+    let w0 = opened ws d i g.ForElement element_symbols refl (only g.ForElement element_symbols (terminal_at ws i) refl) c.requires.within in
     let p = c.in_ok-value.ensures.1 in
     let at = c.in_ok-value.next in
     let w1 = to w0 (once p) in
     let w = c.in-Some.ensures in
     let n = c.token_no-token.result in
-    let m0 = opened ws d at g.FelemTail step_symbols refl (by_test g.FelemTail (terminal_at ws at) t.Step step_symbols w.0 step_row) p.within in
+    let m0 = opened ws d at g.ForElementTail step_symbols refl (by_test g.ForElementTail (terminal_at ws at) t.Step step_symbols w.0 step_row) p.within in
     let m1 = to m0 (kept n.0 c.token_no-token.ensures (took_one ws at c.in-Some.next k.Step refl w)) in
     let m2 = to m1 (once c.in_ok-step.ensures.1) in
     let e = c.in_err-next.field-0.0 in
     let r = c.from_residual-in_err-next in
-    exit (λ r. GivesPart ws d g.Felem i for_element_shown r) r.result e r.ensures.1
+    exit (λ r. GivesPart ws d g.ForElement i for_element_shown r) r.result e r.ensures.1
     (stops w1 e (stops-in Maybe m2 e (mark-stops ws d c.in_ok-step.next t.Until e c.in_err-next.ensures)))
 
 pub returns-in_err-limit : goal.returns-in_err-limit
@@ -65,33 +65,33 @@ returns-in_err-limit c =
     let ws = c.args.tokens.now in
     let d = c.args.depth in
     let i = c.args.at in
-    let w0 = opened ws d i g.Felem element_symbols refl (only g.Felem element_symbols (terminal_at ws i) refl) c.requires.within in
+    let w0 = opened ws d i g.ForElement element_symbols refl (only g.ForElement element_symbols (terminal_at ws i) refl) c.requires.within in
     let p = c.in_ok-value.ensures.1 in
     let at = c.in_ok-value.next in
     let w1 = to w0 (once p) in
     let w = c.in-Some.ensures in
     let n = c.token_no-token.result in
-    let m0 = opened ws d at g.FelemTail step_symbols refl (by_test g.FelemTail (terminal_at ws at) t.Step step_symbols w.0 step_row) p.within in
+    let m0 = opened ws d at g.ForElementTail step_symbols refl (by_test g.ForElementTail (terminal_at ws at) t.Step step_symbols w.0 step_row) p.within in
     let m1 = to m0 (kept n.0 c.token_no-token.ensures (took_one ws at c.in-Some.next k.Step refl w)) in
     let m2 = to m1 (once c.in_ok-step.ensures.1) in
     let m3 = to m2 (marked c.in_ok-next.ensures) in
     let e = c.in_err-limit.field-0.0 in
     let r = c.from_residual-in_err-limit in
-    exit (λ r. GivesPart ws d g.Felem i for_element_shown r) r.result e r.ensures.1
-    (stops w1 e (stops-in Maybe m3 e (once-stops ws d c.in_ok-next.next g.Expr e c.in_err-limit.ensures)))
+    exit (λ r. GivesPart ws d g.ForElement i for_element_shown r) r.result e r.ensures.1
+    (stops w1 e (stops-in Maybe m3 e (once-stops ws d c.in_ok-next.next g.Expression e c.in_err-limit.ensures)))
 
 pub returns-in-Some : goal.returns-in-Some
 returns-in-Some c =
     let ws = c.args.tokens.now in
     let d = c.args.depth in
     let i = c.args.at in
-    let w0 = opened ws d i g.Felem element_symbols refl (only g.Felem element_symbols (terminal_at ws i) refl) c.requires.within in
+    let w0 = opened ws d i g.ForElement element_symbols refl (only g.ForElement element_symbols (terminal_at ws i) refl) c.requires.within in
     let p = c.in_ok-value.ensures.1 in
     let at = c.in_ok-value.next in
     let w1 = to w0 (once p) in
     let w = c.in-Some.ensures in
     let n = c.token_no-token.result in
-    let m0 = opened ws d at g.FelemTail step_symbols refl (by_test g.FelemTail (terminal_at ws at) t.Step step_symbols w.0 step_row) p.within in
+    let m0 = opened ws d at g.ForElementTail step_symbols refl (by_test g.ForElementTail (terminal_at ws at) t.Step step_symbols w.0 step_row) p.within in
     let m1 = to m0 (kept n.0 c.token_no-token.ensures (took_one ws at c.in-Some.next k.Step refl w)) in
     let m2 = to m1 (once c.in_ok-step.ensures.1) in
     let m3 = to m2 (marked c.in_ok-next.ensures) in
@@ -102,7 +102,7 @@ returns-in_default-eat c =
     let ws = c.args.tokens.now in
     let d = c.args.depth in
     let i = c.args.at in
-    let w0 = opened ws d i g.Felem element_symbols refl (only g.Felem element_symbols (terminal_at ws i) refl) c.requires.within in
+    let w0 = opened ws d i g.ForElement element_symbols refl (only g.ForElement element_symbols (terminal_at ws i) refl) c.requires.within in
     let p = c.in_ok-value.ensures.1 in
     let at = c.in_ok-value.next in
     let w1 = to w0 (once p) in
@@ -113,30 +113,30 @@ returns-in_err-condition c =
     let ws = c.args.tokens.now in
     let d = c.args.depth in
     let i = c.args.at in
-    let w0 = opened ws d i g.Felem element_symbols refl (only g.Felem element_symbols (terminal_at ws i) refl) c.requires.within in
+    let w0 = opened ws d i g.ForElement element_symbols refl (only g.ForElement element_symbols (terminal_at ws i) refl) c.requires.within in
     let p = c.in_ok-value.ensures.1 in
     let at = c.in_ok-value.next in
     let w1 = to w0 (once p) in
     let w = c.in-Some-eat.ensures in
     let n = c.token_no-token.result in
-    let m0 = opened ws d at g.FelemTail while_symbols refl (by_test g.FelemTail (terminal_at ws at) t.While while_symbols w.0 while_row) p.within in
+    let m0 = opened ws d at g.ForElementTail while_symbols refl (by_test g.ForElementTail (terminal_at ws at) t.While while_symbols w.0 while_row) p.within in
     let m1 = to m0 (kept n.0 c.token_no-token.ensures (took_one ws at c.in-Some-eat.next k.While refl w)) in
     let e = c.in_err-condition.field-0.0 in
     let r = c.from_residual-in_err-condition in
-    exit (λ r. GivesPart ws d g.Felem i for_element_shown r) r.result e r.ensures.1
-    (stops w1 e (stops-in Maybe m1 e (once-stops ws d c.in-Some-eat.next g.Expr e c.in_err-condition.ensures)))
+    exit (λ r. GivesPart ws d g.ForElement i for_element_shown r) r.result e r.ensures.1
+    (stops w1 e (stops-in Maybe m1 e (once-stops ws d c.in-Some-eat.next g.Expression e c.in_err-condition.ensures)))
 
 pub returns : goal.returns
 returns c =
     let ws = c.args.tokens.now in
     let d = c.args.depth in
     let i = c.args.at in
-    let w0 = opened ws d i g.Felem element_symbols refl (only g.Felem element_symbols (terminal_at ws i) refl) c.requires.within in
+    let w0 = opened ws d i g.ForElement element_symbols refl (only g.ForElement element_symbols (terminal_at ws i) refl) c.requires.within in
     let p = c.in_ok-value.ensures.1 in
     let at = c.in_ok-value.next in
     let w1 = to w0 (once p) in
     let w = c.in-Some-eat.ensures in
     let n = c.token_no-token.result in
-    let m0 = opened ws d at g.FelemTail while_symbols refl (by_test g.FelemTail (terminal_at ws at) t.While while_symbols w.0 while_row) p.within in
+    let m0 = opened ws d at g.ForElementTail while_symbols refl (by_test g.ForElementTail (terminal_at ws at) t.While while_symbols w.0 while_row) p.within in
     let m1 = to m0 (kept n.0 c.token_no-token.ensures (took_one ws at c.in-Some-eat.next k.While refl w)) in
     gone (to w1 (maybe (gone (to m1 (once c.in_ok-condition.ensures.1)) (leaf n.0 k.While (expr c.in_ok-condition.condition done)) refl))) _ refl

@@ -39,7 +39,7 @@ returns-in_err-parameters c = λ d.
     let e = c.in_err-parameters.field-0.0 in
     let r = c.from_residual-in_err-parameters in
     exit (λ r. GivesPart ws d g.Heading i (λ h. heading_shown h.parameters.items h.modes.items h.specifications.items) r) r.result e r.ensures.1
-    (stops w1 e (once-stops ws d c.in_ok-next.next g.Ids e (c.in_err-parameters.ensures d)))
+    (stops w1 e (once-stops ws d c.in_ok-next.next g.Identifiers e (c.in_err-parameters.ensures d)))
 
 pub expect-requires-2-clause-within : goal.expect-requires-2-clause-within
 expect-requires-2-clause-within c = (c.in_ok-parameters.ensures 0).within

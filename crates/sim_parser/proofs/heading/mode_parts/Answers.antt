@@ -20,7 +20,7 @@ returns-in_err-names c = λ d.
     let r = c.from_residual in
     let m1 = to (opened ws d l.at g.Mode mode_row refl (one_row g.Mode modes mode_row (terminal_at ws l.at) true refl w.among) l.invariant.within) (kept l.at refl w) in
     exit (λ r. GivesRow ws d g.Mode c.args.start (λ v. map mode_shown v.items) r) r.result e r.ensures.1
-    (row-stops ws d c.args.start l.at g.Mode _ (l.invariant.goes d) e (stops-in Many m1 e (once-stops ws d c.in-Some.next g.Ids e (c.in_err-names.ensures d))))
+    (row-stops ws d c.args.start l.at g.Mode _ (l.invariant.goes d) e (stops-in Many m1 e (once-stops ws d c.in-Some.next g.Identifiers e (c.in_err-names.ensures d))))
 
 pub expect-requires-clause-within : goal.expect-requires-clause-within
 expect-requires-clause-within c = (c.in_ok-names.ensures 0).within
@@ -45,7 +45,7 @@ loop-mode-preserved c =
     let l = c.loop-mode in
     let w = c.in-Some.ensures in
     let n = c.token_no-token.result in
-    let f = leaf n.0 (mode_kind c.in-Some.mode) (node g.Ids (ids c.in_ok-names.names.items) done) in
+    let f = leaf n.0 (mode_kind c.in-Some.mode) (node g.Identifiers (ids c.in_ok-names.names.items) done) in
     record {
       goes = λ d.
           let m1 = to (opened ws d l.at g.Mode mode_row refl (one_row g.Mode modes mode_row (terminal_at ws l.at) true refl w.among) l.invariant.within) (kept n.0 c.token_no-token.ensures w) in

@@ -15,7 +15,7 @@ returns-then-is_some c = λ d.
 pub returns-in_err-protected : goal.returns-in_err-protected
 returns-in_err-protected c =
     let ws = c.args.tokens.now in
-    subst (λ r. MatchOption r (right_side g.Prot (terminal_at ws c.args.at) ≡ None) (λ r. (d : ℕ) → ReadsFront ws d g.Prot c.args.at (protecting r.0.hidden r.0.protected) names_row r.1)) (sym c.from_residual.ensures)
+    subst (λ r. MatchOption r (right_side g.Protection (terminal_at ws c.args.at) ≡ None) (λ r. (d : ℕ) → ReadsFront ws d g.Protection c.args.at (protecting r.0.hidden r.0.protected) names_row r.1)) (sym c.from_residual.ensures)
     (no-words ws c.args.at c.word-hidden.result.1 c.word-protected.result.1 c.word-hidden.result.0 c.word-protected.result.0 c.word-hidden.ensures (sym c.if-is_some.ensures) c.word-protected.ensures (ap is_some c.in_err-protected.was))
 
 pub returns : goal.returns

@@ -17,8 +17,8 @@ returns-in_err-names c = λ d.
     let l = c.loop-words in
     let e = c.in_err-names.field-0.0 in
     let r = c.from_residual in
-    exit (λ r. GivesRow ws d g.Prot c.args.start (λ v. map protection_shown v.items) r) r.result e r.ensures.1
-    (row-stops ws d c.args.start l.at g.Prot _ (l.invariant.goes d) e (λ s. (c.in-Some.ensures d).fails e (names-first-stop ws d c.in-Some.next e (c.in_err-names.ensures d)) s Many))
+    exit (λ r. GivesRow ws d g.Protection c.args.start (λ v. map protection_shown v.items) r) r.result e r.ensures.1
+    (row-stops ws d c.args.start l.at g.Protection _ (l.invariant.goes d) e (λ s. (c.in-Some.ensures d).fails e (names-first-stop ws d c.in-Some.next e (c.in_err-names.ensures d)) s Many))
 
 pub expect-requires-clause-within : goal.expect-requires-clause-within
 expect-requires-clause-within c = (c.in_ok-names.ensures 0).within
@@ -30,8 +30,8 @@ returns-in_err-end c = λ d.
     let e = c.in_err-end.field-0.0 in
     let r = c.from_residual-in_err-end in
     let q = c.in-Some.ensures d in
-    exit (λ r. GivesRow ws d g.Prot c.args.start (λ v. map protection_shown v.items) r) r.result e r.ensures.1
-    (row-stops ws d c.args.start l.at g.Prot _ (l.invariant.goes d) e (λ s. q.fails e (names-last-stop e q.within (c.in_ok-names.ensures d) c.in_err-end.ensures) s Many))
+    exit (λ r. GivesRow ws d g.Protection c.args.start (λ v. map protection_shown v.items) r) r.result e r.ensures.1
+    (row-stops ws d c.args.start l.at g.Protection _ (l.invariant.goes d) e (λ s. q.fails e (names-last-stop e q.within (c.in_ok-names.ensures d) c.in_err-end.ensures) s Many))
 
 pub loop-words-smaller : goal.loop-words-smaller
 loop-words-smaller c = omega (arith, (c.in-Some.ensures 0).ahead, (c.in_ok-names.ensures 0).ahead, c.in_ok-end.ensures.1, c.in_ok-end.ensures.2)
@@ -40,7 +40,7 @@ pub loop-words-preserved : goal.loop-words-preserved
 loop-words-preserved c =
     let l = c.loop-words in
     let x = c.in-Some.words in
-    let f = protecting x.hidden x.protected (node g.Ids (ids c.in_ok-names.names.items) done) in
+    let f = protecting x.hidden x.protected (node g.Identifiers (ids c.in_ok-names.names.items) done) in
     record {
       goes = λ d.
           let q = c.in-Some.ensures d in

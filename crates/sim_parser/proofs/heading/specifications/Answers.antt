@@ -14,8 +14,8 @@ returns-in_err-first c = λ d.
     let i = c.args.start in
     let e = c.in_err-first.field-0.0 in
     let r = c.from_residual in
-    exit (λ r. GivesSome ws d g.Spec i specification_shown r) r.result e r.ensures.1
-    (once-stops ws d i g.Spec e (c.in_err-first.ensures.gives d) (Of Many g.Spec ∷ []))
+    exit (λ r. GivesSome ws d g.Specification i specification_shown r) r.result e r.ensures.1
+    (once-stops ws d i g.Specification e (c.in_err-first.ensures.gives d) (Of Many g.Specification ∷ []))
 
 pub loop-alloc-init : goal.loop-alloc-init
 loop-alloc-init c =
@@ -36,8 +36,8 @@ returns-in_err-next c = λ d.
     let e = c.in_err-next.field-0.0 in
     let r = c.from_residual-in_err-next in
     let b = begins-spec (terminal_at ws l.at) (ap (one_of begins_specification) (sym c.terminal_at_token.ensures) ∙ sym c.loop-alloc-test.ensures) in
-    exit (λ r. GivesSome ws d g.Spec i specification_shown r) r.result e r.ensures.1
-    (leads-stops (l.invariant.goes d) e (many-stops ws d l.at g.Spec b.0 b.1 e (c.in_err-next.ensures.gives d) []))
+    exit (λ r. GivesSome ws d g.Specification i specification_shown r) r.result e r.ensures.1
+    (leads-stops (l.invariant.goes d) e (many-stops ws d l.at g.Specification b.0 b.1 e (c.in_err-next.ensures.gives d) []))
 
 pub loop-alloc-preserved : goal.loop-alloc-preserved
 loop-alloc-preserved c =

@@ -6,7 +6,7 @@ use Rattle.sim_parser.proofs.heading.specifications.Given as goal
 
 abbrev pub invariant-loop-alloc : goal.invariant-loop-alloc
 invariant-loop-alloc l = record {
-  goes : (d : ℕ) → Rows l.tokens d g.Spec l.start (map specification_shown l.list.items) l.at;
+  goes : (d : ℕ) → Rows l.tokens d g.Specification l.start (map specification_shown l.list.items) l.at;
   some : 0 < length l.list.items;
   ahead : l.start ≤ l.at;
   within : l.at < length l.tokens;

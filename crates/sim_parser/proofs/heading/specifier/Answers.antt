@@ -18,7 +18,7 @@ returns-in-Some c = λ d.
     let i = c.args.at in
     let w = c.in-Some.ensures in
     let n = c.token_no-token.result in
-    front (to (opened ws d i g.Spec procedure_row refl (by_test g.Spec (terminal_at ws i) t.Procedure procedure_row w.0 spec_procedure) c.requires.within) (kept n.0 c.token_no-token.ensures (took_one ws i c.in-Some.next k.Procedure refl w)))
+    front (to (opened ws d i g.Specification procedure_row refl (by_test g.Specification (terminal_at ws i) t.Procedure procedure_row w.0 spec_procedure) c.requires.within) (kept n.0 c.token_no-token.ensures (took_one ws i c.in-Some.next k.Procedure refl w)))
 
 pub returns-in_err-element : goal.returns-in_err-element
 returns-in_err-element c = λ d.
@@ -26,7 +26,7 @@ returns-in_err-element c = λ d.
     let i = c.args.at in
     let e = c.in_err-element.field-0.0 in
     let r = c.from_residual in
-    exit (λ r. GivesFront ws d g.Spec i specifier_shown names_row r) r.result e r.ensures.1
+    exit (λ r. GivesFront ws d g.Specification i specifier_shown names_row r) r.result e r.ensures.1
     (type-stops ws d i c.requires.within c.in_default.ensures e (c.in_err-element.ensures d)).0
 
 pub token_no-token-requires-2-clause-within : goal.token_no-token-requires-2-clause-within
@@ -42,7 +42,7 @@ returns-in-Some-eat c = λ d.
     let i = c.args.at in
     let p = c.in_ok-element.ensures d in
     let n = c.token_no-token-2.result in
-    front (to (to (opened ws d i g.Spec typed_spec_row refl (spec-row (terminal_at ws i) true (is (terminal_at ws i) t.Procedure) (type-began p) refl) c.requires.within) (once p))
+    front (to (to (opened ws d i g.Specification typed_spec_row refl (spec-row (terminal_at ws i) true (is (terminal_at ws i) t.Procedure) (type-began p) refl) c.requires.within) (once p))
     (spec-kind ws d c.in_ok-element.next c.in-Some-eat.end k.Array n refl refl c.in-Some-eat.ensures c.token_no-token-2.ensures p.within))
 
 pub eat-requires-3-clause-within : goal.eat-requires-3-clause-within
@@ -55,7 +55,7 @@ returns-in-Some-eat-2 c = λ d.
     let i = c.args.at in
     let p = c.in_ok-element.ensures d in
     let n = c.token_no-token-2.result in
-    front (to (to (opened ws d i g.Spec typed_spec_row refl (spec-row (terminal_at ws i) true (is (terminal_at ws i) t.Procedure) (type-began p) refl) c.requires.within) (once p))
+    front (to (to (opened ws d i g.Specification typed_spec_row refl (spec-row (terminal_at ws i) true (is (terminal_at ws i) t.Procedure) (type-began p) refl) c.requires.within) (once p))
     (spec-kind ws d c.in_ok-element.next c.in-Some-eat-2.end k.Procedure n refl refl c.in-Some-eat-2.ensures c.token_no-token-2.ensures p.within))
 
 pub returns : goal.returns
@@ -63,5 +63,5 @@ returns c = λ d.
     let ws = c.args.tokens.now in
     let i = c.args.at in
     let p = c.in_ok-element.ensures d in
-    front (to (to (opened ws d i g.Spec typed_spec_row refl (spec-row (terminal_at ws i) true (is (terminal_at ws i) t.Procedure) (type-began p) refl) c.requires.within) (once p))
+    front (to (to (opened ws d i g.Specification typed_spec_row refl (spec-row (terminal_at ws i) true (is (terminal_at ws i) t.Procedure) (type-began p) refl) c.requires.within) (once p))
     (no-spec-kind ws d c.in_ok-element.next c.in_default-eat.ensures c.in_default-eat-2.ensures p.within))

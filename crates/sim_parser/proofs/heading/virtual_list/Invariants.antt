@@ -6,7 +6,7 @@ use Rattle.sim_parser.proofs.heading.virtual_list.Given as goal
 
 abbrev pub invariant-loop-alloc : goal.invariant-loop-alloc
 invariant-loop-alloc l = record {
-  goes : (d : ℕ) → Rows l.tokens d g.Vspec l.start (map virtual_shown l.list.items) l.at;
+  goes : (d : ℕ) → Rows l.tokens d g.VirtualSpecification l.start (map virtual_shown l.list.items) l.at;
   some : 0 < length l.list.items;
   ahead : l.start ≤ l.at;
   within : l.at < length l.tokens;

@@ -23,7 +23,7 @@ returns-in_err-next c = λ d.
     let i = c.args.at in
     let e = c.in_err-next.field-0.0 in
     let r = c.from_residual in
-    exit (λ r. GivesTo ws d (Of Maybe g.Virt) i (λ v. virtuals_shown v.items) r) r.result e r.ensures.1
+    exit (λ r. GivesTo ws d (Of Maybe g.Virtuals) i (λ v. virtuals_shown v.items) r) r.result e r.ensures.1
     (stops-in Maybe (open-virtual ws d i c.in-Some.next c.requires.within c.in-Some.ensures) e (mark-stops ws d c.in-Some.next t.Colon e c.in_err-next.ensures))
 
 pub returns : goal.returns
@@ -31,7 +31,7 @@ returns c = λ d.
     let ws = c.args.tokens.now in
     let i = c.args.at in
     let w = to (open-virtual ws d i c.in-Some.next c.requires.within c.in-Some.ensures) (marked c.in_ok-next.ensures) in
-    passed (GivesSome ws d g.Vspec c.in_ok-next.next virtual_shown) (GivesTo ws d (Of Maybe g.Virt) i (λ v. virtuals_shown v.items))
-    (λ x h. to-as (node g.Virt (row g.Vspec (map virtual_shown x.0.items) done)) (virtuals_shown x.0.items) (λ f. virtuals-some x.0.items f h.0) (maybe (closed-by w _ h.1 _ refl)))
+    passed (GivesSome ws d g.VirtualSpecification c.in_ok-next.next virtual_shown) (GivesTo ws d (Of Maybe g.Virtuals) i (λ v. virtuals_shown v.items))
+    (λ x h. to-as (node g.Virtuals (row g.VirtualSpecification (map virtual_shown x.0.items) done)) (virtuals_shown x.0.items) (λ f. virtuals-some x.0.items f h.0) (maybe (closed-by w _ h.1 _ refl)))
     (λ e h. stops-at Maybe w e h)
     c.virtual_list.result (c.virtual_list.ensures d)

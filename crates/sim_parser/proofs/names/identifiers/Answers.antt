@@ -16,8 +16,8 @@ returns-in_err-first c = λ d.
     let i = c.args.start in
     let e = c.in_err-first.field-0.0 in
     let r = c.from_residual in
-    exit (λ r. GivesPart ws d g.Ids i (λ v. ids v.items) r) r.result e r.ensures.1
-    (kept-first-stops ws d i g.Ids (just t.Identifier) (Of Many g.NextId ∷ []) refl refl c.requires.within e (c.in_err-first.ensures d))
+    exit (λ r. GivesPart ws d g.Identifiers i (λ v. ids v.items) r) r.result e r.ensures.1
+    (kept-first-stops ws d i g.Identifiers (just t.Identifier) (Of Many g.NextIdentifier ∷ []) refl refl c.requires.within e (c.in_err-first.ensures d))
 
 pub loop-next-init : goal.loop-next-init
 loop-next-init c =
@@ -39,7 +39,7 @@ returns-in_err-identifier c = λ d.
     let l = c.loop-next in
     let e = c.in_err-identifier.field-0.0 in
     let r = c.from_residual-in_err-identifier in
-    exit (λ r. GivesPart ws d g.Ids i (λ v. ids v.items) r) r.result e r.ensures.1
+    exit (λ r. GivesPart ws d g.Identifiers i (λ v. ids v.items) r) r.result e r.ensures.1
     (stops (l.invariant.goes d) e (stops-in Many (opened-next-id ws d l.at c.in-Some.next l.invariant.within c.in-Some.ensures) e (c.in_err-identifier.ensures d)))
 
 pub loop-next-smaller : goal.loop-next-smaller
@@ -58,7 +58,7 @@ loop-next-preserved c =
     let ys = c.push-in-Some.new.self.items in
     let p = c.in_ok-identifier.ensures 0 in
     record {
-      goes = λ d. within-as (λ f. ids_then l.list.items (node g.NextId (identifier y done) f)) (ids_then ys) (λ f. ids-more l.list.items ys y f l.invariant.some c.in_ok-push-2.ensures.items)
+      goes = λ d. within-as (λ f. ids_then l.list.items (node g.NextIdentifier (identifier y done) f)) (ids_then ys) (λ f. ids-more l.list.items ys y f l.invariant.some c.in_ok-push-2.ensures.items)
           (again (l.invariant.goes d) (gone (to (opened-next-id ws d l.at c.in-Some.next l.invariant.within w) (c.in_ok-identifier.ensures d)) (identifier y done) refl));
       some = omega (arith, ap length c.in_ok-push-2.ensures.items, length-append l.list.items (y ∷ []));
       ahead = omega (arith, l.invariant.ahead, w.1, p.ahead);

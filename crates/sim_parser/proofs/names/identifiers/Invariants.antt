@@ -7,7 +7,7 @@ use Rattle.sim_parser.proofs.names.identifiers.Given as goal
 
 abbrev pub invariant-loop-next : goal.invariant-loop-next
 invariant-loop-next l = record {
-  goes : (d : ℕ) → Within l.tokens d g.Ids l.start (ids_then l.list.items) d (Of Many g.NextId ∷ []) l.at;
+  goes : (d : ℕ) → Within l.tokens d g.Identifiers l.start (ids_then l.list.items) d (Of Many g.NextIdentifier ∷ []) l.at;
   some : 0 < length l.list.items;
   ahead : l.start ≤ l.at;
   within : l.at < length l.tokens;

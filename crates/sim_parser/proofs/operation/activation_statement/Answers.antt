@@ -30,7 +30,7 @@ returns-in_err-process c =
     let e = c.in_err-process.field-0.0 in
     let r = c.from_residual-in_err-process in
     exit (λ r. GivesAll ws d activation_row at stmt_shown r) r.result e r.ensures.1
-    (along-stops w1 e (once-stops ws d c.in_ok-activation.next g.Expr e c.in_err-process.ensures))
+    (along-stops w1 e (once-stops ws d c.in_ok-activation.next g.Expression e c.in_err-process.ensures))
 
 pub returns-in_err-timing : goal.returns-in_err-timing
 returns-in_err-timing c =

@@ -22,10 +22,10 @@ returns-in_err-value c =
     let l = c.loop-sign in
     let w = c.in-Some.ensures in
     let e = c.in_err-value.field-0.0 in
-    let sy = Kept assignments ∷ Of Once g.Expr ∷ [] in
+    let sy = Kept assignments ∷ Of Once g.Expression ∷ [] in
     let m1 = to (opened ws d l.at g.Assigned sy refl (one_row g.Assigned assignments sy (terminal_at ws l.at) true refl w.among) l.invariant.within) (kept l.at refl w) in
     exit (λ r. GivesRow ws d g.Assigned c.args.start (λ v. map assigned_shown v.items) r) c.from_residual.result e c.from_residual.ensures.1
-    (row-stops ws d c.args.start l.at g.Assigned _ l.invariant.goes e (stops-in Many m1 e (once-stops ws d c.in-Some.next g.Expr e c.in_err-value.ensures)))
+    (row-stops ws d c.args.start l.at g.Assigned _ l.invariant.goes e (stops-in Many m1 e (once-stops ws d c.in-Some.next g.Expression e c.in_err-value.ensures)))
 
 pub loop-sign-preserved : goal.loop-sign-preserved
 loop-sign-preserved c =
@@ -34,7 +34,7 @@ loop-sign-preserved c =
     let l = c.loop-sign in
     let w = c.in-Some.ensures in
     let n = c.token_no-token.result in
-    let sy = Kept assignments ∷ Of Once g.Expr ∷ [] in
+    let sy = Kept assignments ∷ Of Once g.Expression ∷ [] in
     let p = c.in_ok-value.ensures.1 in
     let m2 = to (to (opened ws d l.at g.Assigned sy refl (one_row g.Assigned assignments sy (terminal_at ws l.at) true refl w.among) l.invariant.within) (kept n.0 c.token_no-token.ensures w)) (once p) in
     let made = leaf n.0 (assignment_kind c.in-Some.sign) (expr c.in_ok-value.value done) in
@@ -48,4 +48,4 @@ pub returns : goal.returns
 returns c =
     let ws = c.args.tokens.now in
     let l = c.loop-sign in
-    row-end assigned_shown l.rest.items l.invariant.goes (one_row g.Assigned assignments (Kept assignments ∷ Of Once g.Expr ∷ []) (terminal_at ws l.at) false refl c.in_default.ensures) l.invariant.ahead l.invariant.within
+    row-end assigned_shown l.rest.items l.invariant.goes (one_row g.Assigned assignments (Kept assignments ∷ Of Once g.Expression ∷ []) (terminal_at ws l.at) false refl c.in_default.ensures) l.invariant.ahead l.invariant.within

@@ -14,7 +14,7 @@ returns-then-is_empty c = λ h.
     let s = shown c.args.primary in
     let v = c.args.selectors in
     let none = no-items v.items (sym v.ok.0 ∙ eqb-true (vec_len v) 0 (sym c.if-is_empty.ensures)) in
-    raise-up 0 s (omega (arith, h)) ∙ ap (λ l. node g.Primary (raise 0 s) (row g.Selected (map selector_shown l) done)) (sym none)
+    raise-up 0 s (omega (arith, h)) ∙ ap (λ l. node g.Primary (raise 0 s) (row g.Selection (map selector_shown l) done)) (sym none)
 
 pub returns : goal.returns
 returns c = λ h.
@@ -22,5 +22,5 @@ returns c = λ h.
     let some = some-items v.items (vec_len v) v.ok.0 (sym c.if-is_empty.ensures) in
     let fs = map selector_shown v.items in
     ap (raise 1) (shown-Postfix c.in_ok-primary.primary v ∙ selected-some (shown c.in_ok-primary.primary.value) fs (some-mapped selector_shown v.items some))
-    ∙ raise-same 1 (record { level = 1; inside = node g.Primary (raise 0 (shown c.in_ok-primary.primary.value)) (row g.Selected fs done) }) refl
-    ∙ ap (λ e. node g.Primary (raise 0 (shown e)) (row g.Selected fs done)) c.in_ok-primary.ensures.ok
+    ∙ raise-same 1 (record { level = 1; inside = node g.Primary (raise 0 (shown c.in_ok-primary.primary.value)) (row g.Selection fs done) }) refl
+    ∙ ap (λ e. node g.Primary (raise 0 (shown e)) (row g.Selection fs done)) c.in_ok-primary.ensures.ok

@@ -24,7 +24,7 @@ returns-in_err-time c =
     let m1 = to m0 (kept at refl (took ws at c.in-Some.next times k.At refl refl w)) in
     let e = c.in_err-time.field-0.0 in
     exit (λ r. GivesAll ws d (Of Maybe g.Timing ∷ []) at timing_shown r) c.from_residual.result e c.from_residual.ensures.1
-    (stops-in Maybe m1 e (once-stops ws d c.in-Some.next g.Expr e c.in_err-time.ensures) [])
+    (stops-in Maybe m1 e (once-stops ws d c.in-Some.next g.Expression e c.in_err-time.ensures) [])
 
 pub returns-in-Some : goal.returns-in-Some
 unfolding is
@@ -49,7 +49,7 @@ returns-in_err-time-2 c =
     let m1 = to m0 (kept at refl (took ws at c.in-Some-eat.next times k.Delay refl refl w)) in
     let e = c.in_err-time-2.field-0.0 in
     exit (λ r. GivesAll ws d (Of Maybe g.Timing ∷ []) at timing_shown r) c.from_residual-in_err-time-2.result e c.from_residual-in_err-time-2.ensures.1
-    (stops-in Maybe m1 e (once-stops ws d c.in-Some-eat.next g.Expr e c.in_err-time-2.ensures) [])
+    (stops-in Maybe m1 e (once-stops ws d c.in-Some-eat.next g.Expression e c.in_err-time-2.ensures) [])
 
 pub returns-in-Some-eat : goal.returns-in-Some-eat
 unfolding is
@@ -74,7 +74,7 @@ returns-in_err-process c =
     let m1 = to m0 (kept at refl (took ws at c.in-Some-eat-2.next places k.Before refl refl w)) in
     let e = c.in_err-process.field-0.0 in
     exit (λ r. GivesAll ws d (Of Maybe g.Timing ∷ []) at timing_shown r) c.from_residual-in_err-process.result e c.from_residual-in_err-process.ensures.1
-    (stops-in Maybe m1 e (once-stops ws d c.in-Some-eat-2.next g.Expr e c.in_err-process.ensures) [])
+    (stops-in Maybe m1 e (once-stops ws d c.in-Some-eat-2.next g.Expression e c.in_err-process.ensures) [])
 
 pub returns-in-Some-eat-2 : goal.returns-in-Some-eat-2
 unfolding is
@@ -103,7 +103,7 @@ returns-in_err-process-2 c =
     let m1 = to m0 (kept at refl (took ws at c.in-Some-eat-3.next places k.After refl refl w)) in
     let e = c.in_err-process-2.field-0.0 in
     exit (λ r. GivesAll ws d (Of Maybe g.Timing ∷ []) at timing_shown r) c.from_residual-in_err-process-2.result e c.from_residual-in_err-process-2.ensures.1
-    (stops-in Maybe m1 e (once-stops ws d c.in-Some-eat-3.next g.Expr e c.in_err-process-2.ensures) [])
+    (stops-in Maybe m1 e (once-stops ws d c.in-Some-eat-3.next g.Expression e c.in_err-process-2.ensures) [])
 
 pub returns : goal.returns
 unfolding is

@@ -56,7 +56,7 @@ returns-in_err-arguments c =
     let r = c.from_residual-in_err-arguments in
     exit (GivesPrefix ws) r.result e r.ensures.1 (
       program-stops ws prefixed_symbols e row (along-stops w1 e c.in_err-arguments.ensures),
-      names-token ws ended 0 c.in_ok-class.next (Of Maybe g.Args ∷ []) e refl (c.in_ok-class.ensures 0).within (c.in_err-arguments.ensures []),
+      names-token ws ended 0 c.in_ok-class.next (Of Maybe g.Arguments ∷ []) e refl (c.in_ok-class.ensures 0).within (c.in_err-arguments.ensures []),
     )
 
 pub returns : goal.returns

@@ -69,7 +69,7 @@ if_statement-returns-in_err-condition u c =
     let e = c.in_err-condition.field-0.0 in
     let r = c.from_residual-in_err-condition in
     exit (λ r. GivesAll ws d if_row i stmt_shown r) r.result e r.ensures.1
-    (along-stops w1 e (once-stops ws d c.in_ok-next.next g.Expr e c.in_err-condition.ensures))
+    (along-stops w1 e (once-stops ws d c.in_ok-next.next g.Expression e c.in_err-condition.ensures))
 
 pub if_statement-returns-in_err-next-2 : goal.if_statement-returns-in_err-next-2
 if_statement-returns-in_err-next-2 u c =
@@ -96,7 +96,7 @@ if_statement-returns-in_err-first u c =
     let e = c.in_err-first.field-0.0 in
     let r = c.from_residual-in_err-first in
     exit (λ r. GivesAll ws d if_row i stmt_shown r) r.result e r.ensures.1
-    (along-stops w3 e (once-stops ws d c.in_ok-next-2.next g.Stmt e c.in_err-first.ensures))
+    (along-stops w3 e (once-stops ws d c.in_ok-next-2.next g.Statement e c.in_err-first.ensures))
 
 pub if_statement-returns-in_err-else_branch : goal.if_statement-returns-in_err-else_branch
 if_statement-returns-in_err-else_branch u c =
@@ -149,7 +149,7 @@ optional_branch-returns-in_err-body u c =
     let b = c.args.branch in
     let w = c.in-Some.ensures in
     let h = ap (is (terminal_at ws i)) (sym c.word.ensures) ∙ w.0 in
-    let m0 = opened ws d i (branch_part b) (Mark (branch_word b) ∷ one g.Stmt) (branch_uncounted b) (branch_row b (terminal_at ws i) true h) c.requires.within in
+    let m0 = opened ws d i (branch_part b) (Mark (branch_word b) ∷ one g.Statement) (branch_uncounted b) (branch_row b (terminal_at ws i) true h) c.requires.within in
     let m1 = to m0 (marked (h, w.1, w.2)) in
     let e = c.in_err-body.field-0.0 in
     let r = c.from_residual in
@@ -164,13 +164,13 @@ optional_branch-returns u c =
     let b = c.args.branch in
     let w = c.in-Some.ensures in
     let h = ap (is (terminal_at ws i)) (sym c.word.ensures) ∙ w.0 in
-    let m0 = opened ws d i (branch_part b) (Mark (branch_word b) ∷ one g.Stmt) (branch_uncounted b) (branch_row b (terminal_at ws i) true h) c.requires.within in
+    let m0 = opened ws d i (branch_part b) (Mark (branch_word b) ∷ one g.Statement) (branch_uncounted b) (branch_row b (terminal_at ws i) true h) c.requires.within in
     let m1 = to m0 (marked (h, w.1, w.2)) in
     let m2 = to m1 (once c.in_ok-body.ensures) in
     let x = c.in_ok-body.body in
     let a = c.in_ok-new.field-0 in
-    all (past (along d i (Of Maybe (branch_part b) ∷ []) c.requires.within) (maybe (gone m2 (node g.Stmt (stmt_shown x) done) refl))) (branch_shown b (Some a))
-    (ap (λ z. node (branch_part b) (node g.Stmt (stmt_shown z) done) done) (sym c.in_ok-new.ensures.ok))
+    all (past (along d i (Of Maybe (branch_part b) ∷ []) c.requires.within) (maybe (gone m2 (node g.Statement (stmt_shown x) done) refl))) (branch_shown b (Some a))
+    (ap (λ z. node (branch_part b) (node g.Statement (stmt_shown z) done) done) (sym c.in_ok-new.ensures.ok))
 
 pub while_statement-returns-in_err-next : goal.while_statement-returns-in_err-next
 while_statement-returns-in_err-next u c =
@@ -193,7 +193,7 @@ while_statement-returns-in_err-condition u c =
     let e = c.in_err-condition.field-0.0 in
     let r = c.from_residual-in_err-condition in
     exit (λ r. GivesAll ws d while_row i stmt_shown r) r.result e r.ensures.1
-    (along-stops w1 e (once-stops ws d c.in_ok-next.next g.Expr e c.in_err-condition.ensures))
+    (along-stops w1 e (once-stops ws d c.in_ok-next.next g.Expression e c.in_err-condition.ensures))
 
 pub while_statement-returns-in_err-body : goal.while_statement-returns-in_err-body
 while_statement-returns-in_err-body u c =
@@ -219,7 +219,7 @@ while_statement-returns u c =
     let w2 = past w1 (once c.in_ok-condition.ensures.1) in
     let e = c.in_ok-condition.condition in
     let a = c.in_ok-body-2.body in
-    left w2 (node g.Stmt (stmt_shown c.in_ok-body.body) done) c.in_ok-body.ensures (stmt_shown (s.While n e a)) (while_shown n e c.in_ok-body.body a c.in_ok-body-2.ensures.ok)
+    left w2 (node g.Statement (stmt_shown c.in_ok-body.body) done) c.in_ok-body.ensures (stmt_shown (s.While n e a)) (while_shown n e c.in_ok-body.body a c.in_ok-body-2.ensures.ok)
 
 pub body-returns-in_err-next : goal.body-returns-in_err-next
 body-returns-in_err-next u c =
@@ -229,7 +229,7 @@ body-returns-in_err-next u c =
     let w0 = along d i body_row c.requires.within in
     let e = c.in_err-next.field-0.0 in
     let r = c.from_residual in
-    exit (λ r. GivesAll ws d body_row i (λ x. node g.Stmt (stmt_shown x) done) r) r.result e r.ensures.1
+    exit (λ r. GivesAll ws d body_row i (λ x. node g.Statement (stmt_shown x) done) r) r.result e r.ensures.1
     (along-stops w0 e (mark-stops ws d i t.Do e c.in_err-next.ensures))
 
 pub body-returns : goal.body-returns
@@ -238,8 +238,8 @@ body-returns u c =
     let d = c.args.depth in
     let i = c.args.at in
     let w1 = past (along d i body_row c.requires.within) (marked c.in_ok-next.ensures) in
-    passed (GivesPart ws d g.Stmt c.in_ok-next.next stmt_shown) (GivesAll ws d body_row i (λ x. node g.Stmt (stmt_shown x) done))
-    (λ x h. all (past w1 (once h)) (node g.Stmt (stmt_shown x.0) done) refl) (λ e h. along-ends w1 e h)
+    passed (GivesPart ws d g.Statement c.in_ok-next.next stmt_shown) (GivesAll ws d body_row i (λ x. node g.Statement (stmt_shown x) done))
+    (λ x h. all (past w1 (once h)) (node g.Statement (stmt_shown x.0) done) refl) (λ e h. along-ends w1 e h)
     c.statement.result c.statement.ensures
 
 pub for_statement-returns-in_err-next : goal.for_statement-returns-in_err-next
@@ -323,7 +323,7 @@ identified_statement-returns-in_err-block u c =
     let w2 = past (past (along d i identified_row c.requires.within) (c.in_ok-name.ensures d)) c.in_ok-arguments.ensures in
     let j = c.in_ok-arguments.next in
     let begin = ap (λ z. is z t.Begin) (sym c.terminal_at_token.ensures) ∙ made_is _ _ true c.if-eq.ensures in
-    let m0 = opened ws d j g.AfterHead (one g.Compound) refl (after_head (terminal_at ws j) true begin) w2.within in
+    let m0 = opened ws d j g.AfterFirstOperand (one g.Compound) refl (after_head (terminal_at ws j) true begin) w2.within in
     let e = c.in_err-block.field-0.0 in
     let r = c.from_residual-in_err-block in
     exit (λ r. GivesAll ws d identified_row i stmt_shown r) r.result e r.ensures.1
@@ -337,7 +337,7 @@ identified_statement-returns-then-eq u c =
     let w2 = past (past (along d i identified_row c.requires.within) (c.in_ok-name.ensures d)) c.in_ok-arguments.ensures in
     let j = c.in_ok-arguments.next in
     let begin = ap (λ z. is z t.Begin) (sym c.terminal_at_token.ensures) ∙ made_is _ _ true c.if-eq.ensures in
-    let m0 = opened ws d j g.AfterHead (one g.Compound) refl (after_head (terminal_at ws j) true begin) w2.within in
+    let m0 = opened ws d j g.AfterFirstOperand (one g.Compound) refl (after_head (terminal_at ws j) true begin) w2.within in
     let b = c.in_ok-block.block in
     let m1 = gone (to m0 (once c.in_ok-block.ensures)) (node g.Compound (block_shown b) done) refl in
     let p : BlockPrefix = record { class = c.in_ok-name.name; arguments = c.in_ok-arguments.arguments } in
@@ -351,7 +351,7 @@ identified_statement-returns-in_err-selectors u c =
     let w2 = past (past (along d i identified_row c.requires.within) (c.in_ok-name.ensures d)) c.in_ok-arguments.ensures in
     let j = c.in_ok-arguments.next in
     let begin = ap (λ z. is z t.Begin) (sym c.terminal_at_token.ensures) ∙ made_is _ _ false c.if-eq.ensures in
-    let m0 = opened ws d j g.AfterHead (Of Many g.Selected ∷ Of Many g.Assigned ∷ []) refl (after_head (terminal_at ws j) false begin) w2.within in
+    let m0 = opened ws d j g.AfterFirstOperand (Of Many g.Selection ∷ Of Many g.Assigned ∷ []) refl (after_head (terminal_at ws j) false begin) w2.within in
     let e = c.in_err-selectors.field-0.0 in
     let r = c.from_residual-in_err-selectors in
     exit (λ r. GivesAll ws d identified_row i stmt_shown r) r.result e r.ensures.1
@@ -365,7 +365,7 @@ identified_statement-returns-in_err-rest u c =
     let w2 = past (past (along d i identified_row c.requires.within) (c.in_ok-name.ensures d)) c.in_ok-arguments.ensures in
     let j = c.in_ok-arguments.next in
     let begin = ap (λ z. is z t.Begin) (sym c.terminal_at_token.ensures) ∙ made_is _ _ false c.if-eq.ensures in
-    let m0 = opened ws d j g.AfterHead (Of Many g.Selected ∷ Of Many g.Assigned ∷ []) refl (after_head (terminal_at ws j) false begin) w2.within in
+    let m0 = opened ws d j g.AfterFirstOperand (Of Many g.Selection ∷ Of Many g.Assigned ∷ []) refl (after_head (terminal_at ws j) false begin) w2.within in
     let m1 = to m0 c.in_ok-selectors.ensures in
     let e = c.in_err-rest.field-0.0 in
     let r = c.from_residual-in_err-rest in
@@ -380,7 +380,7 @@ identified_statement-returns u c =
     let w2 = past (past (along d i identified_row c.requires.within) (c.in_ok-name.ensures d)) c.in_ok-arguments.ensures in
     let j = c.in_ok-arguments.next in
     let begin = ap (λ z. is z t.Begin) (sym c.terminal_at_token.ensures) ∙ made_is _ _ false c.if-eq.ensures in
-    let m0 = opened ws d j g.AfterHead (Of Many g.Selected ∷ Of Many g.Assigned ∷ []) refl (after_head (terminal_at ws j) false begin) w2.within in
+    let m0 = opened ws d j g.AfterFirstOperand (Of Many g.Selection ∷ Of Many g.Assigned ∷ []) refl (after_head (terminal_at ws j) false begin) w2.within in
     let m2 = to (to m0 c.in_ok-selectors.ensures) c.in_ok-rest.ensures in
     let x = c.in_ok-name.name in
     let l = c.in_ok-arguments.arguments in
@@ -389,10 +389,10 @@ identified_statement-returns u c =
     let named = shown-Named x l in
     let inner : Shown = record { level = 0; inside = identifier x (arguments (map shown l.items) done) } in
     let left =
-    c.in_ok-left.ensures (ap (λ z. z.level) named) ∙ ap (λ z. node g.Primary (raise 0 z) (row g.Selected v done)) named
-    ∙ ap (λ z. node g.Primary z (row g.Selected v done)) (raise-same 0 inner refl) in
+    c.in_ok-left.ensures (ap (λ z. z.level) named) ∙ ap (λ z. node g.Primary (raise 0 z) (row g.Selection v done)) named
+    ∙ ap (λ z. node g.Primary z (row g.Selection v done)) (raise-same 0 inner refl) in
     let made = c.operation.ensures ∙ ap (λ z. acted z rest) left ∙ acted_named x (map shown l.items) v rest in
-    all (past w2 (once (gone m2 (row g.Selected v rest) refl))) (stmt_shown c.operation.result) (sym made)
+    all (past w2 (once (gone m2 (row g.Selection v rest) refl))) (stmt_shown c.operation.result) (sym made)
 
 pub statement-returns-then-not-begins_statement : goal.statement-returns-then-not-begins_statement
 statement-returns-then-not-begins_statement u c =
@@ -401,7 +401,7 @@ statement-returns-then-not-begins_statement u c =
     let i = c.args.at in
     let n = c.token_no-token.result in
     let none = ap (one_of begins) (sym c.terminal_at_token.ensures) ∙ sym c.begins_statement.ensures ∙ c.if-not-begins_statement.true in
-    subst (λ z. ReadsPart ws d g.Stmt i z i) (ap (λ z. place z done) (sym c.token_no-token.ensures) ∙ sym (shown-Empty n)) (nothing_read ws d i none c.requires.within)
+    subst (λ z. ReadsPart ws d g.Statement i z i) (ap (λ z. place z done) (sym c.token_no-token.ensures) ∙ sym (shown-Empty n)) (nothing_read ws d i none c.requires.within)
 
 pub statement-returns-then-depth-eq-LIMIT : goal.statement-returns-then-depth-eq-LIMIT
 statement-returns-then-depth-eq-LIMIT u c =
@@ -415,42 +415,42 @@ statement-returns u c =
 
 pub begun_statement-returns-in-Begin : goal.begun_statement-returns-in-Begin
 begun_statement-returns-in-Begin u c =
-    inside c.args.tokens.now c.args.depth c.args.at (one g.Compound) (ap (right_side g.Stmt) (sym c.terminal_at_token.ensures ∙ c.in-Begin.is) ∙ block_at) c.block_statement.result c.block_statement.ensures
+    inside c.args.tokens.now c.args.depth c.args.at (one g.Compound) (ap (right_side g.Statement) (sym c.terminal_at_token.ensures ∙ c.in-Begin.is) ∙ block_at) c.block_statement.result c.block_statement.ensures
 
 pub begun_statement-returns-in-Identifier : goal.begun_statement-returns-in-Identifier
 begun_statement-returns-in-Identifier u c =
-    inside c.args.tokens.now c.args.depth c.args.at identified_row (ap (right_side g.Stmt) (sym c.terminal_at_token.ensures ∙ c.in-Identifier.is) ∙ identified_at) c.identified_statement.result c.identified_statement.ensures
+    inside c.args.tokens.now c.args.depth c.args.at identified_row (ap (right_side g.Statement) (sym c.terminal_at_token.ensures ∙ c.in-Identifier.is) ∙ identified_at) c.identified_statement.result c.identified_statement.ensures
 
 pub begun_statement-returns-in-If : goal.begun_statement-returns-in-If
 begun_statement-returns-in-If u c =
-    inside c.args.tokens.now c.args.depth c.args.at if_row (ap (right_side g.Stmt) (sym c.terminal_at_token.ensures ∙ c.in-If.is) ∙ if_at) c.if_statement.result c.if_statement.ensures
+    inside c.args.tokens.now c.args.depth c.args.at if_row (ap (right_side g.Statement) (sym c.terminal_at_token.ensures ∙ c.in-If.is) ∙ if_at) c.if_statement.result c.if_statement.ensures
 
 pub begun_statement-returns-in-While : goal.begun_statement-returns-in-While
 begun_statement-returns-in-While u c =
-    inside c.args.tokens.now c.args.depth c.args.at while_row (ap (right_side g.Stmt) (sym c.terminal_at_token.ensures ∙ c.in-While.is) ∙ while_at) c.while_statement.result c.while_statement.ensures
+    inside c.args.tokens.now c.args.depth c.args.at while_row (ap (right_side g.Statement) (sym c.terminal_at_token.ensures ∙ c.in-While.is) ∙ while_at) c.while_statement.result c.while_statement.ensures
 
 pub begun_statement-returns-in-For : goal.begun_statement-returns-in-For
 begun_statement-returns-in-For u c =
-    inside c.args.tokens.now c.args.depth c.args.at for_row (ap (right_side g.Stmt) (sym c.terminal_at_token.ensures ∙ c.in-For.is) ∙ for_at) c.for_statement.result c.for_statement.ensures
+    inside c.args.tokens.now c.args.depth c.args.at for_row (ap (right_side g.Statement) (sym c.terminal_at_token.ensures ∙ c.in-For.is) ∙ for_at) c.for_statement.result c.for_statement.ensures
 
 pub begun_statement-returns-in-Inspect : goal.begun_statement-returns-in-Inspect
 begun_statement-returns-in-Inspect u c =
-    inside c.args.tokens.now c.args.depth c.args.at inspect_row (ap (right_side g.Stmt) (sym c.terminal_at_token.ensures ∙ c.in-Inspect.is) ∙ inspect_at) c.inspect_statement.result c.inspect_statement.ensures
+    inside c.args.tokens.now c.args.depth c.args.at inspect_row (ap (right_side g.Statement) (sym c.terminal_at_token.ensures ∙ c.in-Inspect.is) ∙ inspect_at) c.inspect_statement.result c.inspect_statement.ensures
 
 pub begun_statement-returns-in-Inner : goal.begun_statement-returns-in-Inner
 begun_statement-returns-in-Inner u c =
-    inside c.args.tokens.now c.args.depth c.args.at (Kept (just t.Inner) ∷ []) (ap (right_side g.Stmt) (sym c.terminal_at_token.ensures ∙ c.in-Inner.is) ∙ inner_at) c.inner_statement.result
+    inside c.args.tokens.now c.args.depth c.args.at (Kept (just t.Inner) ∷ []) (ap (right_side g.Statement) (sym c.terminal_at_token.ensures ∙ c.in-Inner.is) ∙ inner_at) c.inner_statement.result
     (c.inner_statement.ensures c.args.depth)
 
 pub begun_statement-returns-in-Activate : goal.begun_statement-returns-in-Activate
 begun_statement-returns-in-Activate u c =
     let ws = c.args.tokens.now in
     let i = c.args.at in
-    let at : right_side g.Stmt c.terminal_at_token.result ≡ Some activation_row = elim c.in-Activate.is [
-      | inl e ↦ ap (right_side g.Stmt) e ∙ activate_at
-      | inr e ↦ ap (right_side g.Stmt) e ∙ reactivate_at
+    let at : right_side g.Statement c.terminal_at_token.result ≡ Some activation_row = elim c.in-Activate.is [
+      | inl e ↦ ap (right_side g.Statement) e ∙ activate_at
+      | inr e ↦ ap (right_side g.Statement) e ∙ reactivate_at
     ] in
-    inside ws c.args.depth i activation_row (ap (right_side g.Stmt) (sym c.terminal_at_token.ensures) ∙ at) c.activation_statement.result c.activation_statement.ensures
+    inside ws c.args.depth i activation_row (ap (right_side g.Statement) (sym c.terminal_at_token.ensures) ∙ at) c.activation_statement.result c.activation_statement.ensures
 
 pub begun_statement-returns-in_default : goal.begun_statement-returns-in_default
 begun_statement-returns-in_default u c =
@@ -460,7 +460,7 @@ begun_statement-returns-in_default u c =
     let n = c.in_default in
     let b = ap (one_of begins) c.terminal_at_token.ensures ∙ c.requires.begins in
     let h = operation_begins a b n.not-Begin n.not-Identifier n.not-Inner n.not-If n.not-While n.not-For n.not-Inspect n.not-Activate n.not-Reactivate in
-    inside ws c.args.depth i operation_row (ap (right_side g.Stmt) (sym c.terminal_at_token.ensures) ∙ operation_stands a h) c.operation_statement.result c.operation_statement.ensures
+    inside ws c.args.depth i operation_row (ap (right_side g.Statement) (sym c.terminal_at_token.ensures) ∙ operation_stands a h) c.operation_statement.result c.operation_statement.ensures
 
 pub for_statement-returns : goal.for_statement-returns
 for_statement-returns u c =
@@ -476,15 +476,15 @@ for_statement-returns u c =
     let y = c.in_ok-body.body in
     let a = c.in_ok-body-2.body in
     let m = c.match-list-3.statement in
-    let made : leaf n.0 k.For (identifier x (node g.ForList (for_list_shown c.in_ok-list.list) (node g.Stmt (stmt_shown y) done))) ≡ stmt_shown m = elim c.match-list-3.branch [
+    let made : leaf n.0 k.For (identifier x (node g.ForList (for_list_shown c.in_ok-list.list) (node g.Statement (stmt_shown y) done))) ≡ stmt_shown m = elim c.match-list-3.branch [
       | for_statement-in-Values w ↦
-          ap (λ z. leaf n.0 k.For (identifier x (node g.ForList (for_list_shown z) (node g.Stmt (stmt_shown y) done)))) w.in-Values.is
+          ap (λ z. leaf n.0 k.For (identifier x (node g.ForList (for_list_shown z) (node g.Statement (stmt_shown y) done)))) w.in-Values.is
           ∙ for_shown n x w.in-Values.sign w.in-Values.elements y a c.in_ok-body-2.ensures.ok ∙ ap stmt_shown (sym w.statement-is)
       | for_statement-in-References w ↦
-          ap (λ z. leaf n.0 k.For (identifier x (node g.ForList (for_list_shown z) (node g.Stmt (stmt_shown y) done)))) w.in-References.is
+          ap (λ z. leaf n.0 k.For (identifier x (node g.ForList (for_list_shown z) (node g.Statement (stmt_shown y) done)))) w.in-References.is
           ∙ for_reference_shown n x w.in-References.sign w.in-References.elements y a c.in_ok-body-2.ensures.ok ∙ ap stmt_shown (sym w.statement-is)
     ] in
-    left w3 (node g.Stmt (stmt_shown y) done) c.in_ok-body.ensures (stmt_shown m) made
+    left w3 (node g.Statement (stmt_shown y) done) c.in_ok-body.ensures (stmt_shown m) made
 
 pub for_statement-for_list-requires-clause-within : goal.for_statement-for_list-requires-clause-within
 for_statement-for_list-requires-clause-within u c = (c.in_ok-variable.ensures 0).within
@@ -523,7 +523,7 @@ inspect_statement-returns-in_err-object u c =
     let e = c.in_err-object.field-0.0 in
     let r = c.from_residual-in_err-object in
     exit (λ r. GivesAll ws d inspect_row i stmt_shown r) r.result e r.ensures.1
-    (along-stops w1 e (once-stops ws d c.in_ok-next.next g.Expr e c.in_err-object.ensures))
+    (along-stops w1 e (once-stops ws d c.in_ok-next.next g.Expression e c.in_err-object.ensures))
 
 pub inspect_statement-returns-in_err-body : goal.inspect_statement-returns-in_err-body
 inspect_statement-returns-in_err-body u c =
@@ -552,7 +552,7 @@ inspect_statement-returns-in_err-otherwise u c =
     let j = c.in_ok-object.next in
     let h = ap (λ z. is z t.Do) (sym c.terminal_at_token.ensures) ∙ made_is _ _ true c.if-eq.ensures in
     let m0 = opened ws d j g.Arms body_row refl (by_test g.Arms (terminal_at ws j) t.Do body_row h arms_do) w2.within in
-    let w3 = past w2 (once (closed-by m0 (node g.Stmt (stmt_shown c.in_ok-body.body) done) c.in_ok-body.ensures (node g.Stmt (stmt_shown c.in_ok-body.body) done) refl)) in
+    let w3 = past w2 (once (closed-by m0 (node g.Statement (stmt_shown c.in_ok-body.body) done) c.in_ok-body.ensures (node g.Statement (stmt_shown c.in_ok-body.body) done) refl)) in
     let e = c.in_err-otherwise.field-0.0 in
     let r = c.from_residual-in_err-otherwise in
     exit (λ r. GivesAll ws d inspect_row i stmt_shown r) r.result e r.ensures.1
@@ -570,7 +570,7 @@ inspect_statement-returns-then-eq u c =
     let j = c.in_ok-object.next in
     let h = ap (λ z. is z t.Do) (sym c.terminal_at_token.ensures) ∙ made_is _ _ true c.if-eq.ensures in
     let m0 = opened ws d j g.Arms body_row refl (by_test g.Arms (terminal_at ws j) t.Do body_row h arms_do) w2.within in
-    let w3 = past w2 (once (closed-by m0 (node g.Stmt (stmt_shown c.in_ok-body.body) done) c.in_ok-body.ensures (node g.Stmt (stmt_shown c.in_ok-body.body) done) refl)) in
+    let w3 = past w2 (once (closed-by m0 (node g.Statement (stmt_shown c.in_ok-body.body) done) c.in_ok-body.ensures (node g.Statement (stmt_shown c.in_ok-body.body) done) refl)) in
     let a = c.in_ok-body-2.body in
     let o = c.in_ok-otherwise.otherwise in
     let x = c.in_ok-object.object in
@@ -725,7 +725,7 @@ when_arm-returns u c =
     let m1 = to m0 (kept n.0 c.token_no-token.ensures (took_one ws i c.in_ok-next.next k.When refl c.in_ok-next.ensures)) in
     let m2 = to m1 (c.in_ok-class.ensures d) in
     let b = c.in_ok-body.body in
-    closed-by m2 (node g.Stmt (stmt_shown b) done) c.in_ok-body.ensures _ (sym (shown-when n c.in_ok-class.class b))
+    closed-by m2 (node g.Statement (stmt_shown b) done) c.in_ok-body.ensures _ (sym (shown-when n c.in_ok-class.class b))
 
 pub compound-returns-in_err-next : goal.compound-returns-in_err-next
 compound-returns-in_err-next u c =
@@ -846,12 +846,12 @@ declaration-returns-in_err-class u c =
     let x = c.in_ok-prefix.ensures d in
     let same = kept_one (x.reads [] done _ reads-done) in
     let w1 = to w0 (subst (λ z. ReadsTo ws d (Kept (just t.Identifier)) i (identifier c.in_ok-prefix.prefix) z) (same ∙ sym f.1) x) in
-    let m0 = opened ws d j g.AfterId class_row refl (by_test g.AfterId (terminal_at ws j) t.Class class_row f.3 after_class) f.2 in
+    let m0 = opened ws d j g.AfterIdentifier class_row refl (by_test g.AfterIdentifier (terminal_at ws j) t.Class class_row f.3 after_class) f.2 in
     let m1 = to m0 (kept j refl (took_one ws j c.in_ok-next.next k.Class refl c.in_ok-next.ensures)) in
     let e = c.in_err-class.field-0.0 in
     let r = c.from_residual-in_err-class in
     exit (λ r. GivesDeclaration ws d i r) r.result e r.ensures.1
-    (stops w1 e (stops-in Once m1 e (once-stops ws d c.in_ok-next.next g.Cls e c.in_err-class.ensures)))
+    (stops w1 e (stops-in Once m1 e (once-stops ws d c.in_ok-next.next g.Class e c.in_err-class.ensures)))
 
 pub declaration-returns-in_err-end : goal.declaration-returns-in_err-end
 declaration-returns-in_err-end u c =
@@ -864,7 +864,7 @@ declaration-returns-in_err-end u c =
     let x = c.in_ok-prefix.ensures d in
     let same = kept_one (x.reads [] done _ reads-done) in
     let w1 = to w0 (subst (λ z. ReadsTo ws d (Kept (just t.Identifier)) i (identifier c.in_ok-prefix.prefix) z) (same ∙ sym f.1) x) in
-    let m0 = opened ws d j g.AfterId class_row refl (by_test g.AfterId (terminal_at ws j) t.Class class_row f.3 after_class) f.2 in
+    let m0 = opened ws d j g.AfterIdentifier class_row refl (by_test g.AfterIdentifier (terminal_at ws j) t.Class class_row f.3 after_class) f.2 in
     let m1 = to m0 (kept j refl (took_one ws j c.in_ok-next.next k.Class refl c.in_ok-next.ensures)) in
     let m2 = to m1 (once c.in_ok-class.ensures) in
     let e = c.in_err-end.field-0.0 in
@@ -883,7 +883,7 @@ declaration-returns-in-Some u c =
     let x = c.in_ok-prefix.ensures d in
     let same = kept_one (x.reads [] done _ reads-done) in
     let w1 = to w0 (subst (λ z. ReadsTo ws d (Kept (just t.Identifier)) i (identifier c.in_ok-prefix.prefix) z) (same ∙ sym f.1) x) in
-    let m0 = opened ws d j g.AfterId class_row refl (by_test g.AfterId (terminal_at ws j) t.Class class_row f.3 after_class) f.2 in
+    let m0 = opened ws d j g.AfterIdentifier class_row refl (by_test g.AfterIdentifier (terminal_at ws j) t.Class class_row f.3 after_class) f.2 in
     let n = c.token_no-token.result in
     let m1 = to m0 (kept n.0 c.token_no-token.ensures (took_one ws j c.in_ok-next.next k.Class refl c.in_ok-next.ensures)) in
     let m2 = to m1 (once c.in_ok-class.ensures) in
@@ -919,7 +919,7 @@ declaration-returns-in_err-declared u c =
     let e = c.in_err-declared.field-0.0 in
     let r = c.from_residual-in_err-declared in
     exit (λ r. GivesDeclaration ws d i r) r.result e r.ensures.1
-    (stops w0 e (once-stops ws d i g.Decl e c.in_err-declared.ensures))
+    (stops w0 e (once-stops ws d i g.Declaration e c.in_err-declared.ensures))
 
 pub declaration-returns-in_err-end-2 : goal.declaration-returns-in_err-end-2
 declaration-returns-in_err-end-2 u c =
@@ -945,7 +945,7 @@ declaration-returns u c =
     let w1 = to w0 (once p.part) in
     let closed = c.in_ok-end-2.ensures d in
     let w2 = to_closed w1 closed in (
-      omega (arith, part_ahead ws d i c.in_ok-declared.next g.Decl p.inside refl p.part, closed.0),
+      omega (arith, part_ahead ws d i c.in_ok-declared.next g.Declaration p.inside refl p.part, closed.0),
       record {
         reads = λ f m q. gone (to w2 (once q)) _ (sym (ap (λ z. declared (z ∷ []) f) p.shown_is));
         fails = λ e q. stops-at Once w2 e q [];
@@ -959,12 +959,12 @@ plain_declaration-returns-in_err-procedure u c =
     let ws = c.args.tokens.now in
     let d = c.args.depth in
     let i = c.args.at in
-    let w0 = opened ws d i g.Decl procedure_row refl (by_test g.Decl (terminal_at ws i) t.Procedure procedure_row c.in-Some.ensures.0 decl_procedure) c.requires.within in
+    let w0 = opened ws d i g.Declaration procedure_row refl (by_test g.Declaration (terminal_at ws i) t.Procedure procedure_row c.in-Some.ensures.0 decl_procedure) c.requires.within in
     let w1 = to w0 (kept i refl (took_one ws i c.in-Some.next k.Procedure refl c.in-Some.ensures)) in
     let e = c.in_err-procedure.field-0.0 in
     let r = c.from_residual in
     exit (λ r. GivesDecl ws d i r) r.result e r.ensures.1
-    (stops w1 e (once-stops ws d c.in-Some.next g.Proc e c.in_err-procedure.ensures))
+    (stops w1 e (once-stops ws d c.in-Some.next g.Procedure e c.in_err-procedure.ensures))
 
 pub plain_declaration-returns-in-Some : goal.plain_declaration-returns-in-Some
 plain_declaration-returns-in-Some u c =
@@ -972,22 +972,22 @@ plain_declaration-returns-in-Some u c =
     let d = c.args.depth in
     let i = c.args.at in
     let n = c.token_no-token.result in
-    let w0 = opened ws d i g.Decl procedure_row refl (by_test g.Decl (terminal_at ws i) t.Procedure procedure_row c.in-Some.ensures.0 decl_procedure) c.requires.within in
+    let w0 = opened ws d i g.Declaration procedure_row refl (by_test g.Declaration (terminal_at ws i) t.Procedure procedure_row c.in-Some.ensures.0 decl_procedure) c.requires.within in
     let w1 = to w0 (kept n.0 c.token_no-token.ensures (took_one ws i c.in-Some.next k.Procedure refl c.in-Some.ensures)) in
     let p = c.in_ok-procedure.procedure in
-    record { inside = leaf n.0 k.Procedure (node g.Proc (procedure_shown p) done); shown_is = shown-Procedure n p; part = gone (to w1 (once c.in_ok-procedure.ensures)) _ refl }
+    record { inside = leaf n.0 k.Procedure (node g.Procedure (procedure_shown p) done); shown_is = shown-Procedure n p; part = gone (to w1 (once c.in_ok-procedure.ensures)) _ refl }
 
 pub plain_declaration-returns-in_err-class : goal.plain_declaration-returns-in_err-class
 plain_declaration-returns-in_err-class u c =
     let ws = c.args.tokens.now in
     let d = c.args.depth in
     let i = c.args.at in
-    let w0 = opened ws d i g.Decl plain_class_row refl (by_test g.Decl (terminal_at ws i) t.Class plain_class_row c.in-Some-eat.ensures.0 decl_class) c.requires.within in
+    let w0 = opened ws d i g.Declaration plain_class_row refl (by_test g.Declaration (terminal_at ws i) t.Class plain_class_row c.in-Some-eat.ensures.0 decl_class) c.requires.within in
     let w1 = to w0 (kept i refl (took_one ws i c.in-Some-eat.next k.Class refl c.in-Some-eat.ensures)) in
     let e = c.in_err-class.field-0.0 in
     let r = c.from_residual-in_err-class in
     exit (λ r. GivesDecl ws d i r) r.result e r.ensures.1
-    (stops w1 e (once-stops ws d c.in-Some-eat.next g.Cls e c.in_err-class.ensures))
+    (stops w1 e (once-stops ws d c.in-Some-eat.next g.Class e c.in_err-class.ensures))
 
 pub plain_declaration-returns-in-Some-eat : goal.plain_declaration-returns-in-Some-eat
 plain_declaration-returns-in-Some-eat u c =
@@ -995,10 +995,10 @@ plain_declaration-returns-in-Some-eat u c =
     let d = c.args.depth in
     let i = c.args.at in
     let n = c.token_no-token.result in
-    let w0 = opened ws d i g.Decl plain_class_row refl (by_test g.Decl (terminal_at ws i) t.Class plain_class_row c.in-Some-eat.ensures.0 decl_class) c.requires.within in
+    let w0 = opened ws d i g.Declaration plain_class_row refl (by_test g.Declaration (terminal_at ws i) t.Class plain_class_row c.in-Some-eat.ensures.0 decl_class) c.requires.within in
     let w1 = to w0 (kept n.0 c.token_no-token.ensures (took_one ws i c.in-Some-eat.next k.Class refl c.in-Some-eat.ensures)) in
     let p = c.in_ok-class.class in
-    record { inside = leaf n.0 k.Class (node g.Cls (class_shown p) done); shown_is = shown-Class n p; part = gone (to w1 (once c.in_ok-class.ensures)) _ refl }
+    record { inside = leaf n.0 k.Class (node g.Class (class_shown p) done); shown_is = shown-Class n p; part = gone (to w1 (once c.in_ok-class.ensures)) _ refl }
 
 pub plain_declaration-returns-in_err-name : goal.plain_declaration-returns-in_err-name
 plain_declaration-returns-in_err-name u c =
@@ -1016,12 +1016,12 @@ plain_declaration-returns u c =
     let d = c.args.depth in
     let i = c.args.at in
     let p = c.in_ok-name.ensures d in
-    let w0 = opened ws d i g.Decl typed_row refl (decl_typed (terminal_at ws i) (type_begins (terminal_at ws i) p.right p.begins)) c.requires.within in
+    let w0 = opened ws d i g.Declaration typed_row refl (decl_typed (terminal_at ws i) (type_begins (terminal_at ws i) p.right p.begins)) c.requires.within in
     let w1 = to w0 (once p) in
     let x = c.in_ok-name.name in
     passed (GivesTyped x ws d c.in_ok-name.next) (GivesDecl ws d i)
-    (λ r h. record { inside = node g.TypeName (type_shown x) (node g.Typed h.inside done); shown_is = h.shown_is; part = gone (to w1 (once h.part)) _ refl })
-    (λ e h. stops w1 e (once-stops ws d c.in_ok-name.next g.Typed e h)) c.typed_declaration.result c.typed_declaration.ensures
+    (λ r h. record { inside = node g.TypeName (type_shown x) (node g.TypedDeclaration h.inside done); shown_is = h.shown_is; part = gone (to w1 (once h.part)) _ refl })
+    (λ e h. stops w1 e (once-stops ws d c.in_ok-name.next g.TypedDeclaration e h)) c.typed_declaration.result c.typed_declaration.ensures
 
 pub typed_declaration-returns-in_err-procedure : goal.typed_declaration-returns-in_err-procedure
 typed_declaration-returns-in_err-procedure u c =
@@ -1029,12 +1029,12 @@ typed_declaration-returns-in_err-procedure u c =
     let d = c.args.depth in
     let i = c.args.at in
     let x = c.args.type_name in
-    let w0 = opened ws d i g.Typed procedure_row refl (by_test g.Typed (terminal_at ws i) t.Procedure procedure_row c.in-Some.ensures.0 typed_procedure) c.requires.within in
+    let w0 = opened ws d i g.TypedDeclaration procedure_row refl (by_test g.TypedDeclaration (terminal_at ws i) t.Procedure procedure_row c.in-Some.ensures.0 typed_procedure) c.requires.within in
     let w1 = to w0 (kept i refl (took_one ws i c.in-Some.next k.Procedure refl c.in-Some.ensures)) in
     let e = c.in_err-procedure.field-0.0 in
     let r = c.from_residual in
     exit (λ r. GivesTyped x ws d i r) r.result e r.ensures.1
-    (stops w1 e (once-stops ws d c.in-Some.next g.Proc e c.in_err-procedure.ensures))
+    (stops w1 e (once-stops ws d c.in-Some.next g.Procedure e c.in_err-procedure.ensures))
 
 pub typed_declaration-returns-in-Some : goal.typed_declaration-returns-in-Some
 typed_declaration-returns-in-Some u c =
@@ -1043,10 +1043,10 @@ typed_declaration-returns-in-Some u c =
     let i = c.args.at in
     let n = c.token_no-token.result in
     let x = c.args.type_name in
-    let w0 = opened ws d i g.Typed procedure_row refl (by_test g.Typed (terminal_at ws i) t.Procedure procedure_row c.in-Some.ensures.0 typed_procedure) c.requires.within in
+    let w0 = opened ws d i g.TypedDeclaration procedure_row refl (by_test g.TypedDeclaration (terminal_at ws i) t.Procedure procedure_row c.in-Some.ensures.0 typed_procedure) c.requires.within in
     let w1 = to w0 (kept n.0 c.token_no-token.ensures (took_one ws i c.in-Some.next k.Procedure refl c.in-Some.ensures)) in
     let p = c.in_ok-procedure.procedure in
-    record { inside = leaf n.0 k.Procedure (node g.Proc (procedure_shown p) done); shown_is = shown-Procedure-typed x n p; part = gone (to w1 (once c.in_ok-procedure.ensures)) _ refl }
+    record { inside = leaf n.0 k.Procedure (node g.Procedure (procedure_shown p) done); shown_is = shown-Procedure-typed x n p; part = gone (to w1 (once c.in_ok-procedure.ensures)) _ refl }
 
 pub typed_declaration-returns-in_err-segments : goal.typed_declaration-returns-in_err-segments
 typed_declaration-returns-in_err-segments u c =
@@ -1054,7 +1054,7 @@ typed_declaration-returns-in_err-segments u c =
     let d = c.args.depth in
     let i = c.args.at in
     let x = c.args.type_name in
-    let w0 = opened ws d i g.Typed array_row refl (by_test g.Typed (terminal_at ws i) t.Array array_row c.in-Some-eat.ensures.0 typed_array) c.requires.within in
+    let w0 = opened ws d i g.TypedDeclaration array_row refl (by_test g.TypedDeclaration (terminal_at ws i) t.Array array_row c.in-Some-eat.ensures.0 typed_array) c.requires.within in
     let w1 = to w0 (kept i refl (took_one ws i c.in-Some-eat.next k.Array refl c.in-Some-eat.ensures)) in
     let e = c.in_err-segments.field-0.0 in
     let r = c.from_residual-in_err-segments in
@@ -1068,7 +1068,7 @@ typed_declaration-returns-in-Some-eat u c =
     let i = c.args.at in
     let n = c.token_no-token.result in
     let x = c.args.type_name in
-    let w0 = opened ws d i g.Typed array_row refl (by_test g.Typed (terminal_at ws i) t.Array array_row c.in-Some-eat.ensures.0 typed_array) c.requires.within in
+    let w0 = opened ws d i g.TypedDeclaration array_row refl (by_test g.TypedDeclaration (terminal_at ws i) t.Array array_row c.in-Some-eat.ensures.0 typed_array) c.requires.within in
     let w1 = to w0 (kept n.0 c.token_no-token.ensures (took_one ws i c.in-Some-eat.next k.Array refl c.in-Some-eat.ensures)) in
     let v = c.in_ok-segments.segments in
     record { inside = leaf n.0 k.Array (segments_shown v.items); shown_is = shown-Arrays x n v; part = closed-by w1 (segments_shown v.items) c.in_ok-segments.ensures _ refl }
@@ -1082,7 +1082,7 @@ typed_declaration-returns-in_err-expect u c =
     let e = c.in_err-expect.field-0.0 in
     let r = c.from_residual-in_err-expect in
     exit (λ r. GivesTyped x ws d i r) r.result e r.ensures.1
-    (unexpected ws d i g.Typed e c.in_err-expect.ensures.1 (no_typed (terminal_at ws i) c.in_default.ensures c.in_default-eat.ensures c.in_err-expect.ensures.0))
+    (unexpected ws d i g.TypedDeclaration e c.in_err-expect.ensures.1 (no_typed (terminal_at ws i) c.in_default.ensures c.in_default-eat.ensures c.in_err-expect.ensures.0))
 
 pub typed_declaration-returns-in_err-variables : goal.typed_declaration-returns-in_err-variables
 typed_declaration-returns-in_err-variables u c =
@@ -1090,7 +1090,7 @@ typed_declaration-returns-in_err-variables u c =
     let d = c.args.depth in
     let i = c.args.at in
     let x = c.args.type_name in
-    let w0 = opened ws d i g.Typed variables_row refl (by_test g.Typed (terminal_at ws i) t.Identifier variables_row c.in_ok-expect.ensures.0 typed_variables) c.requires.within in
+    let w0 = opened ws d i g.TypedDeclaration variables_row refl (by_test g.TypedDeclaration (terminal_at ws i) t.Identifier variables_row c.in_ok-expect.ensures.0 typed_variables) c.requires.within in
     let e = c.in_err-variables.field-0.0 in
     let r = c.from_residual-in_err-variables in
     exit (λ r. GivesTyped x ws d i r) r.result e r.ensures.1
@@ -1102,7 +1102,7 @@ typed_declaration-returns u c =
     let d = c.args.depth in
     let i = c.args.at in
     let x = c.args.type_name in
-    let w0 = opened ws d i g.Typed variables_row refl (by_test g.Typed (terminal_at ws i) t.Identifier variables_row c.in_ok-expect.ensures.0 typed_variables) c.requires.within in
+    let w0 = opened ws d i g.TypedDeclaration variables_row refl (by_test g.TypedDeclaration (terminal_at ws i) t.Identifier variables_row c.in_ok-expect.ensures.0 typed_variables) c.requires.within in
     let v = c.in_ok-variables.variables in
     record { inside = variables_shown v.items; shown_is = shown-Variables x v; part = closed-by w0 (variables_shown v.items) (c.in_ok-variables.ensures d) _ refl }
 
@@ -1111,10 +1111,10 @@ procedure-returns-in_err-name u c =
     let ws = c.args.tokens.now in
     let d = c.args.depth in
     let i = c.args.at in
-    let w0 = opened ws d i g.Proc proc_row refl (only g.Proc proc_row (terminal_at ws i) refl) c.requires.within in
+    let w0 = opened ws d i g.Procedure proc_row refl (only g.Procedure proc_row (terminal_at ws i) refl) c.requires.within in
     let e = c.in_err-name.field-0.0 in
     let r = c.from_residual in
-    exit (λ r. GivesPart ws d g.Proc i procedure_shown r) r.result e r.ensures.1
+    exit (λ r. GivesPart ws d g.Procedure i procedure_shown r) r.result e r.ensures.1
     (stops w0 e (c.in_err-name.ensures d))
 
 pub procedure-returns-in_err-heading : goal.procedure-returns-in_err-heading
@@ -1122,11 +1122,11 @@ procedure-returns-in_err-heading u c =
     let ws = c.args.tokens.now in
     let d = c.args.depth in
     let i = c.args.at in
-    let w0 = opened ws d i g.Proc proc_row refl (only g.Proc proc_row (terminal_at ws i) refl) c.requires.within in
+    let w0 = opened ws d i g.Procedure proc_row refl (only g.Procedure proc_row (terminal_at ws i) refl) c.requires.within in
     let w1 = to w0 (c.in_ok-name.ensures d) in
     let e = c.in_err-heading.field-0.0 in
     let r = c.from_residual-in_err-heading in
-    exit (λ r. GivesPart ws d g.Proc i procedure_shown r) r.result e r.ensures.1
+    exit (λ r. GivesPart ws d g.Procedure i procedure_shown r) r.result e r.ensures.1
     (stops w1 e (once-stops ws d c.in_ok-name.next g.Heading e (c.in_err-heading.ensures d)))
 
 pub procedure-returns-in_err-body : goal.procedure-returns-in_err-body
@@ -1134,20 +1134,20 @@ procedure-returns-in_err-body u c =
     let ws = c.args.tokens.now in
     let d = c.args.depth in
     let i = c.args.at in
-    let w0 = opened ws d i g.Proc proc_row refl (only g.Proc proc_row (terminal_at ws i) refl) c.requires.within in
+    let w0 = opened ws d i g.Procedure proc_row refl (only g.Procedure proc_row (terminal_at ws i) refl) c.requires.within in
     let w1 = to w0 (c.in_ok-name.ensures d) in
     let w2 = to w1 (once (c.in_ok-heading.ensures d)) in
     let e = c.in_err-body.field-0.0 in
     let r = c.from_residual-in_err-body in
-    exit (λ r. GivesPart ws d g.Proc i procedure_shown r) r.result e r.ensures.1
-    (stops w2 e (once-stops ws d c.in_ok-heading.next g.Stmt e c.in_err-body.ensures))
+    exit (λ r. GivesPart ws d g.Procedure i procedure_shown r) r.result e r.ensures.1
+    (stops w2 e (once-stops ws d c.in_ok-heading.next g.Statement e c.in_err-body.ensures))
 
 pub procedure-returns : goal.procedure-returns
 procedure-returns u c =
     let ws = c.args.tokens.now in
     let d = c.args.depth in
     let i = c.args.at in
-    let w0 = opened ws d i g.Proc proc_row refl (only g.Proc proc_row (terminal_at ws i) refl) c.requires.within in
+    let w0 = opened ws d i g.Procedure proc_row refl (only g.Procedure proc_row (terminal_at ws i) refl) c.requires.within in
     let w1 = to w0 (c.in_ok-name.ensures d) in
     let w2 = to w1 (once (c.in_ok-heading.ensures d)) in
     let x = c.in_ok-name.name in
@@ -1155,17 +1155,17 @@ procedure-returns u c =
     let b = c.in_ok-body-2.body in
     let front = heading_shown h.parameters.items h.modes.items h.specifications.items in
     gone (to w2 (once c.in_ok-body.ensures)) _
-    (ap (λ z. identifier x (node g.Heading front (node g.Stmt (stmt_shown z) done))) (sym c.in_ok-body-2.ensures.ok) ∙ sym (shown-procedure x h.parameters h.modes h.specifications b))
+    (ap (λ z. identifier x (node g.Heading front (node g.Statement (stmt_shown z) done))) (sym c.in_ok-body-2.ensures.ok) ∙ sym (shown-procedure x h.parameters h.modes h.specifications b))
 
 pub class-returns-in_err-name : goal.class-returns-in_err-name
 class-returns-in_err-name u c =
     let ws = c.args.tokens.now in
     let d = c.args.depth in
     let i = c.args.at in
-    let w0 = opened ws d i g.Cls cls_row refl (only g.Cls cls_row (terminal_at ws i) refl) c.requires.within in
+    let w0 = opened ws d i g.Class cls_row refl (only g.Class cls_row (terminal_at ws i) refl) c.requires.within in
     let e = c.in_err-name.field-0.0 in
     let r = c.from_residual in
-    exit (λ r. GivesPart ws d g.Cls i class_shown r) r.result e r.ensures.1
+    exit (λ r. GivesPart ws d g.Class i class_shown r) r.result e r.ensures.1
     (stops w0 e (c.in_err-name.ensures d))
 
 pub class-returns-in_err-heading : goal.class-returns-in_err-heading
@@ -1173,11 +1173,11 @@ class-returns-in_err-heading u c =
     let ws = c.args.tokens.now in
     let d = c.args.depth in
     let i = c.args.at in
-    let w0 = opened ws d i g.Cls cls_row refl (only g.Cls cls_row (terminal_at ws i) refl) c.requires.within in
+    let w0 = opened ws d i g.Class cls_row refl (only g.Class cls_row (terminal_at ws i) refl) c.requires.within in
     let w1 = to w0 (c.in_ok-name.ensures d) in
     let e = c.in_err-heading.field-0.0 in
     let r = c.from_residual-in_err-heading in
-    exit (λ r. GivesPart ws d g.Cls i class_shown r) r.result e r.ensures.1
+    exit (λ r. GivesPart ws d g.Class i class_shown r) r.result e r.ensures.1
     (stops w1 e (once-stops ws d c.in_ok-name.next g.Heading e (c.in_err-heading.ensures d)))
 
 pub class-returns-in_err-protections : goal.class-returns-in_err-protections
@@ -1185,12 +1185,12 @@ class-returns-in_err-protections u c =
     let ws = c.args.tokens.now in
     let d = c.args.depth in
     let i = c.args.at in
-    let w0 = opened ws d i g.Cls cls_row refl (only g.Cls cls_row (terminal_at ws i) refl) c.requires.within in
+    let w0 = opened ws d i g.Class cls_row refl (only g.Class cls_row (terminal_at ws i) refl) c.requires.within in
     let w1 = to w0 (c.in_ok-name.ensures d) in
     let w2 = to w1 (once (c.in_ok-heading.ensures d)) in
     let e = c.in_err-protections.field-0.0 in
     let r = c.from_residual-in_err-protections in
-    exit (λ r. GivesPart ws d g.Cls i class_shown r) r.result e r.ensures.1
+    exit (λ r. GivesPart ws d g.Class i class_shown r) r.result e r.ensures.1
     (stops w2 e (c.in_err-protections.ensures d))
 
 pub class-returns-in_err-virtuals : goal.class-returns-in_err-virtuals
@@ -1198,13 +1198,13 @@ class-returns-in_err-virtuals u c =
     let ws = c.args.tokens.now in
     let d = c.args.depth in
     let i = c.args.at in
-    let w0 = opened ws d i g.Cls cls_row refl (only g.Cls cls_row (terminal_at ws i) refl) c.requires.within in
+    let w0 = opened ws d i g.Class cls_row refl (only g.Class cls_row (terminal_at ws i) refl) c.requires.within in
     let w1 = to w0 (c.in_ok-name.ensures d) in
     let w2 = to w1 (once (c.in_ok-heading.ensures d)) in
     let w3 = to w2 (c.in_ok-protections.ensures d) in
     let e = c.in_err-virtuals.field-0.0 in
     let r = c.from_residual-in_err-virtuals in
-    exit (λ r. GivesPart ws d g.Cls i class_shown r) r.result e r.ensures.1
+    exit (λ r. GivesPart ws d g.Class i class_shown r) r.result e r.ensures.1
     (stops w3 e (c.in_err-virtuals.ensures d))
 
 pub class-returns-in_err-body : goal.class-returns-in_err-body
@@ -1212,22 +1212,22 @@ class-returns-in_err-body u c =
     let ws = c.args.tokens.now in
     let d = c.args.depth in
     let i = c.args.at in
-    let w0 = opened ws d i g.Cls cls_row refl (only g.Cls cls_row (terminal_at ws i) refl) c.requires.within in
+    let w0 = opened ws d i g.Class cls_row refl (only g.Class cls_row (terminal_at ws i) refl) c.requires.within in
     let w1 = to w0 (c.in_ok-name.ensures d) in
     let w2 = to w1 (once (c.in_ok-heading.ensures d)) in
     let w3 = to w2 (c.in_ok-protections.ensures d) in
     let w4 = to w3 (c.in_ok-virtuals.ensures d) in
     let e = c.in_err-body.field-0.0 in
     let r = c.from_residual-in_err-body in
-    exit (λ r. GivesPart ws d g.Cls i class_shown r) r.result e r.ensures.1
-    (stops w4 e (once-stops ws d c.in_ok-virtuals.next g.Stmt e c.in_err-body.ensures))
+    exit (λ r. GivesPart ws d g.Class i class_shown r) r.result e r.ensures.1
+    (stops w4 e (once-stops ws d c.in_ok-virtuals.next g.Statement e c.in_err-body.ensures))
 
 pub class-returns : goal.class-returns
 class-returns u c =
     let ws = c.args.tokens.now in
     let d = c.args.depth in
     let i = c.args.at in
-    let w0 = opened ws d i g.Cls cls_row refl (only g.Cls cls_row (terminal_at ws i) refl) c.requires.within in
+    let w0 = opened ws d i g.Class cls_row refl (only g.Class cls_row (terminal_at ws i) refl) c.requires.within in
     let w1 = to w0 (c.in_ok-name.ensures d) in
     let w2 = to w1 (once (c.in_ok-heading.ensures d)) in
     let w3 = to w2 (c.in_ok-protections.ensures d) in
@@ -1242,7 +1242,7 @@ class-returns u c =
     let rs = c.in_ok-protections.protections in
     let vs = c.in_ok-virtuals.virtuals in
     gone w6 _
-    (ap (λ z. identifier x (node g.Heading front (row g.Prot (map protection_shown rs.items) (virtuals_shown vs.items (node g.Stmt (stmt_shown z) (place n.0 done)))))) (sym c.in_ok-body-2.ensures.ok)
+    (ap (λ z. identifier x (node g.Heading front (row g.Protection (map protection_shown rs.items) (virtuals_shown vs.items (node g.Statement (stmt_shown z) (place n.0 done)))))) (sym c.in_ok-body-2.ensures.ok)
     ∙ sym (shown-class x h.parameters h.modes h.specifications rs vs b n))
 
 pub sequence_at-returns-in-Some : goal.sequence_at-returns-in-Some
@@ -1310,7 +1310,7 @@ statements-returns-in_err-first u c =
     let e = c.in_err-first.field-0.0 in
     let r = c.from_residual in
     exit (λ r. GivesStatements ws d i r) r.result e r.ensures.1
-    (λ s. once-stops ws d i g.Stmt e c.in_err-first.ensures (Of Many g.NextStmt ∷ s))
+    (λ s. once-stops ws d i g.Statement e c.in_err-first.ensures (Of Many g.NextStatement ∷ s))
 
 pub statements-loop-next-init : goal.statements-loop-next-init
 statements-loop-next-init u c =
@@ -1321,7 +1321,7 @@ statements-loop-next-init u c =
     let p = c.in_ok-first.ensures in
     let items : c.push.new.self.items ≡ x ∷ [] = c.in_ok-push.ensures.items ∙ ap (λ l. l ++ x ∷ []) c.new-list.ensures.items in
     record {
-      goes = λ s. leads-as (λ f. node g.Stmt (stmt_shown x) f) (statement_list (map stmt_shown c.push.new.self.items)) (λ f. ap (λ l. statement_list (map stmt_shown l) f) (sym items))
+      goes = λ s. leads-as (λ f. node g.Statement (stmt_shown x) f) (statement_list (map stmt_shown c.push.new.self.items)) (λ f. ap (λ l. statement_list (map stmt_shown l) f) (sym items))
           (past-one (start d (statements_then s) i) p);
       some = omega (arith, ap length items);
       ahead = p.ahead;
@@ -1336,12 +1336,12 @@ statements-returns-in_err-following u c =
     let l = c.loop-next in
     let at = l.at in
     let w = c.in-Some.ensures in
-    let m0 = opened ws d at g.NextStmt next_row refl (one_row g.NextStmt (just t.Semicolon) next_row (terminal_at ws at) true refl (just_is _ _ _ w.0)) l.invariant.within in
+    let m0 = opened ws d at g.NextStatement next_row refl (one_row g.NextStatement (just t.Semicolon) next_row (terminal_at ws at) true refl (just_is _ _ _ w.0)) l.invariant.within in
     let m1 = to m0 (marked w) in
     let e = c.in_err-following.field-0.0 in
     let r = c.from_residual-in_err-following in
     exit (λ r. GivesStatements ws d i r) r.result e r.ensures.1
-    (λ s. leads-stops (l.invariant.goes s) e (stops-in Many m1 e (once-stops ws d c.in-Some.next g.Stmt e c.in_err-following.ensures) s))
+    (λ s. leads-stops (l.invariant.goes s) e (stops-in Many m1 e (once-stops ws d c.in-Some.next g.Statement e c.in_err-following.ensures) s))
 
 pub statements-loop-next-preserved : goal.statements-loop-next-preserved
 statements-loop-next-preserved u c =
@@ -1351,14 +1351,14 @@ statements-loop-next-preserved u c =
     let l = c.loop-next in
     let at = l.at in
     let w = c.in-Some.ensures in
-    let m0 = opened ws d at g.NextStmt next_row refl (one_row g.NextStmt (just t.Semicolon) next_row (terminal_at ws at) true refl (just_is _ _ _ w.0)) l.invariant.within in
+    let m0 = opened ws d at g.NextStatement next_row refl (one_row g.NextStatement (just t.Semicolon) next_row (terminal_at ws at) true refl (just_is _ _ _ w.0)) l.invariant.within in
     let m1 = to m0 (marked w) in
     let x = c.in_ok-following.following in
     let p = c.in_ok-following.ensures in
     let items = c.in_ok-push-2.ensures.items in
     let part = gone (to m1 (once p)) (next_statement (stmt_shown x)) refl in
     record {
-      goes = λ s. leads-as (λ h. statement_list (map stmt_shown l.list.items) (node g.NextStmt (next_statement (stmt_shown x)) h)) (statement_list (map stmt_shown c.push-in-Some.new.self.items)) (λ h. statements-more l.list.items c.push-in-Some.new.self.items x h l.invariant.some items)
+      goes = λ s. leads-as (λ h. statement_list (map stmt_shown l.list.items) (node g.NextStatement (next_statement (stmt_shown x)) h)) (statement_list (map stmt_shown c.push-in-Some.new.self.items)) (λ h. statements-more l.list.items c.push-in-Some.new.self.items x h l.invariant.some items)
           (past-one (l.invariant.goes s) part);
       some = omega (arith, ap length items, length-append l.list.items (x ∷ []));
       ahead = omega (arith, l.invariant.ahead, w.1, p.ahead);
@@ -1371,7 +1371,7 @@ statements-returns u c =
     let d = c.args.depth in
     let i = c.args.start in
     let l = c.loop-next in
-    let none = one_row g.NextStmt (just t.Semicolon) next_row (terminal_at ws l.at) false refl (just_is _ _ _ c.in_default.ensures) in (
+    let none = one_row g.NextStatement (just t.Semicolon) next_row (terminal_at ws l.at) false refl (just_is _ _ _ c.in_default.ensures) in (
       l.invariant.some,
       record {
         reads = λ s f m q. (l.invariant.goes s).reads f m (reads-skip none refl q);

@@ -74,7 +74,7 @@ decreases-optional_branch l = calls_left calls l.depth 1
 
 abbrev pub invariant-statements-loop-next : goal.invariant-statements-loop-next
 invariant-statements-loop-next l = record {
-  goes : (s : List Symbol) → Leads l.tokens l.depth (statements_then s) l.start (statement_list (map stmt_shown l.list.items)) l.depth (Of Many g.NextStmt ∷ s) l.at;
+  goes : (s : List Symbol) → Leads l.tokens l.depth (statements_then s) l.start (statement_list (map stmt_shown l.list.items)) l.depth (Of Many g.NextStatement ∷ s) l.at;
   some : 0 < length l.list.items;
   ahead : l.start ≤ l.at;
   within : l.at < length l.tokens;

@@ -12,32 +12,32 @@ use Rattle.sim_tree.proofs.measure.+first_leaf_of.Goals as goal
 pub returns-in-OrElse : goal.returns-in-OrElse
 returns-in-OrElse t c = λ i h.
     let w = c.in-OrElse in
-    passed_on c.args.expr.now w.first.value c.deref.result.now _ c.first_leaf_of.result.0 i (ap shown w.is ∙ lemma.shown-OrElse w.first w.rest) c.deref.ensures (λ j e. c.first_leaf_of.ensures j e) (in_operated 12 k.OrElse g.OrElsed (shown w.first.value) (map operand_shown w.rest.items) i (omega arith)) h
+    passed_on c.args.expr.now w.first.value c.deref.result.now _ c.first_leaf_of.result.0 i (ap shown w.is ∙ lemma.shown-OrElse w.first w.rest) c.deref.ensures (λ j e. c.first_leaf_of.ensures j e) (in_operated 12 k.OrElse g.NextOrElse (shown w.first.value) (map operand_shown w.rest.items) i (omega arith)) h
 
 pub returns-in-AndThen : goal.returns-in-AndThen
 returns-in-AndThen t c = λ i h.
     let w = c.in-AndThen in
-    passed_on c.args.expr.now w.first.value c.deref-in-AndThen.result.now _ c.first_leaf_of-in-AndThen.result.0 i (ap shown w.is ∙ lemma.shown-AndThen w.first w.rest) c.deref-in-AndThen.ensures (λ j e. c.first_leaf_of-in-AndThen.ensures j e) (in_operated 11 k.AndThen g.AndThened (shown w.first.value) (map operand_shown w.rest.items) i (omega arith)) h
+    passed_on c.args.expr.now w.first.value c.deref-in-AndThen.result.now _ c.first_leaf_of-in-AndThen.result.0 i (ap shown w.is ∙ lemma.shown-AndThen w.first w.rest) c.deref-in-AndThen.ensures (λ j e. c.first_leaf_of-in-AndThen.ensures j e) (in_operated 11 k.AndThen g.NextAndThen (shown w.first.value) (map operand_shown w.rest.items) i (omega arith)) h
 
 pub returns-in-Eqv : goal.returns-in-Eqv
 returns-in-Eqv t c = λ i h.
     let w = c.in-Eqv in
-    passed_on c.args.expr.now w.first.value c.deref-in-Eqv.result.now _ c.first_leaf_of-in-Eqv.result.0 i (ap shown w.is ∙ lemma.shown-Eqv w.first w.rest) c.deref-in-Eqv.ensures (λ j e. c.first_leaf_of-in-Eqv.ensures j e) (in_operated 10 k.Eqv g.Eqved (shown w.first.value) (map operand_shown w.rest.items) i (omega arith)) h
+    passed_on c.args.expr.now w.first.value c.deref-in-Eqv.result.now _ c.first_leaf_of-in-Eqv.result.0 i (ap shown w.is ∙ lemma.shown-Eqv w.first w.rest) c.deref-in-Eqv.ensures (λ j e. c.first_leaf_of-in-Eqv.ensures j e) (in_operated 10 k.Eqv g.NextEquivalence (shown w.first.value) (map operand_shown w.rest.items) i (omega arith)) h
 
 pub returns-in-Imp : goal.returns-in-Imp
 returns-in-Imp t c = λ i h.
     let w = c.in-Imp in
-    passed_on c.args.expr.now w.first.value c.deref-in-Imp.result.now _ c.first_leaf_of-in-Imp.result.0 i (ap shown w.is ∙ lemma.shown-Imp w.first w.rest) c.deref-in-Imp.ensures (λ j e. c.first_leaf_of-in-Imp.ensures j e) (in_operated 9 k.Imp g.Imped (shown w.first.value) (map operand_shown w.rest.items) i (omega arith)) h
+    passed_on c.args.expr.now w.first.value c.deref-in-Imp.result.now _ c.first_leaf_of-in-Imp.result.0 i (ap shown w.is ∙ lemma.shown-Imp w.first w.rest) c.deref-in-Imp.ensures (λ j e. c.first_leaf_of-in-Imp.ensures j e) (in_operated 9 k.Imp g.NextImplication (shown w.first.value) (map operand_shown w.rest.items) i (omega arith)) h
 
 pub returns-in-Or : goal.returns-in-Or
 returns-in-Or t c = λ i h.
     let w = c.in-Or in
-    passed_on c.args.expr.now w.first.value c.deref-in-Or.result.now _ c.first_leaf_of-in-Or.result.0 i (ap shown w.is ∙ lemma.shown-Or w.first w.rest) c.deref-in-Or.ensures (λ j e. c.first_leaf_of-in-Or.ensures j e) (in_operated 8 k.Or g.Ored (shown w.first.value) (map operand_shown w.rest.items) i (omega arith)) h
+    passed_on c.args.expr.now w.first.value c.deref-in-Or.result.now _ c.first_leaf_of-in-Or.result.0 i (ap shown w.is ∙ lemma.shown-Or w.first w.rest) c.deref-in-Or.ensures (λ j e. c.first_leaf_of-in-Or.ensures j e) (in_operated 8 k.Or g.NextOr (shown w.first.value) (map operand_shown w.rest.items) i (omega arith)) h
 
 pub returns-in-And : goal.returns-in-And
 returns-in-And t c = λ i h.
     let w = c.in-And in
-    passed_on c.args.expr.now w.first.value c.deref-in-And.result.now _ c.first_leaf_of-in-And.result.0 i (ap shown w.is ∙ lemma.shown-And w.first w.rest) c.deref-in-And.ensures (λ j e. c.first_leaf_of-in-And.ensures j e) (in_operated 7 k.And g.Anded (shown w.first.value) (map operand_shown w.rest.items) i (omega arith)) h
+    passed_on c.args.expr.now w.first.value c.deref-in-And.result.now _ c.first_leaf_of-in-And.result.0 i (ap shown w.is ∙ lemma.shown-And w.first w.rest) c.deref-in-And.ensures (λ j e. c.first_leaf_of-in-And.ensures j e) (in_operated 7 k.And g.NextAnd (shown w.first.value) (map operand_shown w.rest.items) i (omega arith)) h
 
 pub returns-in-None : goal.returns-in-None
 returns-in-None t c = λ i h.
@@ -58,7 +58,7 @@ returns-in-Member t c = λ i h.
 pub returns-in-Concatenation : goal.returns-in-Concatenation
 returns-in-Concatenation t c = λ i h.
     let w = c.in-Concatenation in
-    passed_on c.args.expr.now w.first.value c.deref-in-Concatenation.result.now _ c.first_leaf_of-in-Concatenation.result.0 i (ap shown w.is ∙ lemma.shown-Concatenation w.first w.rest) c.deref-in-Concatenation.ensures (λ j e. c.first_leaf_of-in-Concatenation.ensures j e) (in_operated 4 k.Ampersand g.Catted (shown w.first.value) (map operand_shown w.rest.items) i (omega arith)) h
+    passed_on c.args.expr.now w.first.value c.deref-in-Concatenation.result.now _ c.first_leaf_of-in-Concatenation.result.0 i (ap shown w.is ∙ lemma.shown-Concatenation w.first w.rest) c.deref-in-Concatenation.ensures (λ j e. c.first_leaf_of-in-Concatenation.ensures j e) (in_operated 4 k.Ampersand g.NextConcatenated (shown w.first.value) (map operand_shown w.rest.items) i (omega arith)) h
 
 pub returns-in-None-sign : goal.returns-in-None-sign
 returns-in-None-sign t c = λ i h.
@@ -75,7 +75,7 @@ returns-in-Product t c = λ i h.
 pub returns-in-Power : goal.returns-in-Power
 returns-in-Power t c = λ i h.
     let w = c.in-Power in
-    passed_on c.args.expr.now w.first.value c.deref-in-Power.result.now _ c.first_leaf_of-in-Power.result.0 i (ap shown w.is ∙ lemma.shown-Power w.first w.rest) c.deref-in-Power.ensures (λ j e. c.first_leaf_of-in-Power.ensures j e) (in_operated 1 k.Power g.Powered (shown w.first.value) (map operand_shown w.rest.items) i (omega arith)) h
+    passed_on c.args.expr.now w.first.value c.deref-in-Power.result.now _ c.first_leaf_of-in-Power.result.0 i (ap shown w.is ∙ lemma.shown-Power w.first w.rest) c.deref-in-Power.ensures (λ j e. c.first_leaf_of-in-Power.ensures j e) (in_operated 1 k.Power g.NextPower (shown w.first.value) (map operand_shown w.rest.items) i (omega arith)) h
 
 pub returns-in-Postfix : goal.returns-in-Postfix
 returns-in-Postfix t c = λ i h.

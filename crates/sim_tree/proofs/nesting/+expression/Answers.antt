@@ -80,42 +80,42 @@ selector-returns-in-Qua t c =
 pub inside-returns-in-OrElse : goal.inside-returns-in-OrElse
 inside-returns-in-OrElse t c =
     let w = c.in-OrElse in
-    nests.answer_operated c.args.expr.now 12 k.OrElse g.OrElsed w.first.value c.deref-in-OrElse.result.now w.rest.items c.deref-in-OrElse-2.result.now c.inside-in-OrElse.result c.operands.result c.max-in-OrElse.result (omega arith) refl (ap shown w.is ∙ lemma.shown-OrElse w.first w.rest) c.deref-in-OrElse.ensures c.inside-in-OrElse.ensures c.deref-in-OrElse-2.ensures.value c.operands.ensures (omega arith)
+    nests.answer_operated c.args.expr.now 12 k.OrElse g.NextOrElse w.first.value c.deref-in-OrElse.result.now w.rest.items c.deref-in-OrElse-2.result.now c.inside-in-OrElse.result c.operands.result c.max-in-OrElse.result (omega arith) refl (ap shown w.is ∙ lemma.shown-OrElse w.first w.rest) c.deref-in-OrElse.ensures c.inside-in-OrElse.ensures c.deref-in-OrElse-2.ensures.value c.operands.ensures (omega arith)
 
 pub inside-returns-in-AndThen : goal.inside-returns-in-AndThen
 inside-returns-in-AndThen t c =
     let w = c.in-AndThen in
-    nests.answer_operated c.args.expr.now 11 k.AndThen g.AndThened w.first.value c.deref-in-AndThen.result.now w.rest.items c.deref-in-AndThen-2.result.now c.inside-in-AndThen.result c.operands-in-AndThen.result c.max-in-AndThen.result (omega arith) refl (ap shown w.is ∙ lemma.shown-AndThen w.first w.rest) c.deref-in-AndThen.ensures c.inside-in-AndThen.ensures c.deref-in-AndThen-2.ensures.value c.operands-in-AndThen.ensures (omega arith)
+    nests.answer_operated c.args.expr.now 11 k.AndThen g.NextAndThen w.first.value c.deref-in-AndThen.result.now w.rest.items c.deref-in-AndThen-2.result.now c.inside-in-AndThen.result c.operands-in-AndThen.result c.max-in-AndThen.result (omega arith) refl (ap shown w.is ∙ lemma.shown-AndThen w.first w.rest) c.deref-in-AndThen.ensures c.inside-in-AndThen.ensures c.deref-in-AndThen-2.ensures.value c.operands-in-AndThen.ensures (omega arith)
 
 pub inside-returns-in-Eqv : goal.inside-returns-in-Eqv
 inside-returns-in-Eqv t c =
     let w = c.in-Eqv in
-    nests.answer_operated c.args.expr.now 10 k.Eqv g.Eqved w.first.value c.deref-in-Eqv.result.now w.rest.items c.deref-in-Eqv-2.result.now c.inside-in-Eqv.result c.operands-in-Eqv.result c.max-in-Eqv.result (omega arith) refl (ap shown w.is ∙ lemma.shown-Eqv w.first w.rest) c.deref-in-Eqv.ensures c.inside-in-Eqv.ensures c.deref-in-Eqv-2.ensures.value c.operands-in-Eqv.ensures (omega arith)
+    nests.answer_operated c.args.expr.now 10 k.Eqv g.NextEquivalence w.first.value c.deref-in-Eqv.result.now w.rest.items c.deref-in-Eqv-2.result.now c.inside-in-Eqv.result c.operands-in-Eqv.result c.max-in-Eqv.result (omega arith) refl (ap shown w.is ∙ lemma.shown-Eqv w.first w.rest) c.deref-in-Eqv.ensures c.inside-in-Eqv.ensures c.deref-in-Eqv-2.ensures.value c.operands-in-Eqv.ensures (omega arith)
 
 pub inside-returns-in-Imp : goal.inside-returns-in-Imp
 inside-returns-in-Imp t c =
     let w = c.in-Imp in
-    nests.answer_operated c.args.expr.now 9 k.Imp g.Imped w.first.value c.deref-in-Imp.result.now w.rest.items c.deref-in-Imp-2.result.now c.inside-in-Imp.result c.operands-in-Imp.result c.max-in-Imp.result (omega arith) refl (ap shown w.is ∙ lemma.shown-Imp w.first w.rest) c.deref-in-Imp.ensures c.inside-in-Imp.ensures c.deref-in-Imp-2.ensures.value c.operands-in-Imp.ensures (omega arith)
+    nests.answer_operated c.args.expr.now 9 k.Imp g.NextImplication w.first.value c.deref-in-Imp.result.now w.rest.items c.deref-in-Imp-2.result.now c.inside-in-Imp.result c.operands-in-Imp.result c.max-in-Imp.result (omega arith) refl (ap shown w.is ∙ lemma.shown-Imp w.first w.rest) c.deref-in-Imp.ensures c.inside-in-Imp.ensures c.deref-in-Imp-2.ensures.value c.operands-in-Imp.ensures (omega arith)
 
 pub inside-returns-in-Or : goal.inside-returns-in-Or
 inside-returns-in-Or t c =
     let w = c.in-Or in
-    nests.answer_operated c.args.expr.now 8 k.Or g.Ored w.first.value c.deref-in-Or.result.now w.rest.items c.deref-in-Or-2.result.now c.inside-in-Or.result c.operands-in-Or.result c.max-in-Or.result (omega arith) refl (ap shown w.is ∙ lemma.shown-Or w.first w.rest) c.deref-in-Or.ensures c.inside-in-Or.ensures c.deref-in-Or-2.ensures.value c.operands-in-Or.ensures (omega arith)
+    nests.answer_operated c.args.expr.now 8 k.Or g.NextOr w.first.value c.deref-in-Or.result.now w.rest.items c.deref-in-Or-2.result.now c.inside-in-Or.result c.operands-in-Or.result c.max-in-Or.result (omega arith) refl (ap shown w.is ∙ lemma.shown-Or w.first w.rest) c.deref-in-Or.ensures c.inside-in-Or.ensures c.deref-in-Or-2.ensures.value c.operands-in-Or.ensures (omega arith)
 
 pub inside-returns-in-And : goal.inside-returns-in-And
 inside-returns-in-And t c =
     let w = c.in-And in
-    nests.answer_operated c.args.expr.now 7 k.And g.Anded w.first.value c.deref-in-And.result.now w.rest.items c.deref-in-And-2.result.now c.inside-in-And.result c.operands-in-And.result c.max-in-And.result (omega arith) refl (ap shown w.is ∙ lemma.shown-And w.first w.rest) c.deref-in-And.ensures c.inside-in-And.ensures c.deref-in-And-2.ensures.value c.operands-in-And.ensures (omega arith)
+    nests.answer_operated c.args.expr.now 7 k.And g.NextAnd w.first.value c.deref-in-And.result.now w.rest.items c.deref-in-And-2.result.now c.inside-in-And.result c.operands-in-And.result c.max-in-And.result (omega arith) refl (ap shown w.is ∙ lemma.shown-And w.first w.rest) c.deref-in-And.ensures c.inside-in-And.ensures c.deref-in-And-2.ensures.value c.operands-in-And.ensures (omega arith)
 
 pub inside-returns-in-Concatenation : goal.inside-returns-in-Concatenation
 inside-returns-in-Concatenation t c =
     let w = c.in-Concatenation in
-    nests.answer_operated c.args.expr.now 4 k.Ampersand g.Catted w.first.value c.deref-in-Concatenation.result.now w.rest.items c.deref-in-Concatenation-2.result.now c.inside-in-Concatenation.result c.operands-in-Concatenation.result c.max-in-Concatenation.result (omega arith) refl (ap shown w.is ∙ lemma.shown-Concatenation w.first w.rest) c.deref-in-Concatenation.ensures c.inside-in-Concatenation.ensures c.deref-in-Concatenation-2.ensures.value c.operands-in-Concatenation.ensures (omega arith)
+    nests.answer_operated c.args.expr.now 4 k.Ampersand g.NextConcatenated w.first.value c.deref-in-Concatenation.result.now w.rest.items c.deref-in-Concatenation-2.result.now c.inside-in-Concatenation.result c.operands-in-Concatenation.result c.max-in-Concatenation.result (omega arith) refl (ap shown w.is ∙ lemma.shown-Concatenation w.first w.rest) c.deref-in-Concatenation.ensures c.inside-in-Concatenation.ensures c.deref-in-Concatenation-2.ensures.value c.operands-in-Concatenation.ensures (omega arith)
 
 pub inside-returns-in-Power : goal.inside-returns-in-Power
 inside-returns-in-Power t c =
     let w = c.in-Power in
-    nests.answer_operated c.args.expr.now 1 k.Power g.Powered w.first.value c.deref-in-Power.result.now w.rest.items c.deref-in-Power-2.result.now c.inside-in-Power.result c.operands-in-Power.result c.max-in-Power.result (omega arith) refl (ap shown w.is ∙ lemma.shown-Power w.first w.rest) c.deref-in-Power.ensures c.inside-in-Power.ensures c.deref-in-Power-2.ensures.value c.operands-in-Power.ensures (omega arith)
+    nests.answer_operated c.args.expr.now 1 k.Power g.NextPower w.first.value c.deref-in-Power.result.now w.rest.items c.deref-in-Power-2.result.now c.inside-in-Power.result c.operands-in-Power.result c.max-in-Power.result (omega arith) refl (ap shown w.is ∙ lemma.shown-Power w.first w.rest) c.deref-in-Power.ensures c.inside-in-Power.ensures c.deref-in-Power-2.ensures.value c.operands-in-Power.ensures (omega arith)
 
 pub inside-returns-in-If : goal.inside-returns-in-If
 inside-returns-in-If t c =

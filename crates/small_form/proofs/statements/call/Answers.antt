@@ -43,5 +43,5 @@ returns c =
     let two : w.arguments.items ≡ c.index.result.now ∷ c.index-2.result.now ∷ [] =
     two_items w.arguments.items c.index.result.now c.index-2.result.now (omega (arith, c.if-len-ne2.false, c.len.ensures)) (omega (arith, c.if-len-ne2.false, c.len.ensures)) c.index.ensures c.index-2.ensures in
     subst (λ p. Builds p c.args.identifiers.now c.output.new.identifiers c.output.result)
-    (ap (λ z. behind_in names lines w.name.token.0 w.name.name (arguments (map shown z) (node g.AfterHead done done))) (sym two)
+    (ap (λ z. behind_in names lines w.name.token.0 w.name.name (arguments (map shown z) (node g.AfterFirstOperand done done))) (sym two)
     ∙ sym (called names lines c.args.call.now w.name w.arguments w.arguments.items w.is refl)) c.output.ensures

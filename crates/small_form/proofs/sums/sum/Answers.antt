@@ -69,7 +69,7 @@ returns-in_err-first c =
     exit (λ r. Builds q c.args.identifiers.now new r) c.from_residual-in_err-first.result c.in_err-first.field-0.0 c.from_residual-in_err-first.ensures.1
     (refused p q c.args.identifiers.now new new c.in_err-first.field-0.0
     (λ none. sum_several names lines x w.sign w.first w.rest w.is (sym c.if-is_some.ensures) some
-    ∙ ap (λ z. both (λ (first : Product) others. let t : Sum = record { first = first; rest = others } in t) z (terms_in names lines (row g.Added (map term_shown w.rest.items) done)))
+    ∙ ap (λ z. both (λ (first : Product) others. let t : Sum = record { first = first; rest = others } in t) z (terms_in names lines (row g.NextTerm (map term_shown w.rest.items) done)))
     (ap (λ z. product_in names lines (raise 3 (shown z))) (sym c.deref.ensures) ∙ none)) c.in_err-first.ensures)
 
 -- a sum, by what the code reads of it
@@ -78,7 +78,7 @@ both_of : (names : List (List ℕ)) (lines : List Line) (x : Expr) (o : Option L
     → sum_in names lines (expression x) ≡ both (λ (first : Product) others. let t : Sum = record { first = first; rest = others } in t) (product_in names lines (raise 3 (shown y))) (sequence (map (λ t. added_in names lines (term_shown t)) l))
 both_of names lines x o a v y l is unsigned first rest some =
     sum_several names lines x o a v is unsigned some
-    ∙ ap (λ z. both (λ (first : Product) others. let t : Sum = record { first = first; rest = others } in t) (product_in names lines (raise 3 (shown z))) (terms_in names lines (row g.Added (map term_shown v.items) done))) (sym first)
+    ∙ ap (λ z. both (λ (first : Product) others. let t : Sum = record { first = first; rest = others } in t) (product_in names lines (raise 3 (shown z))) (terms_in names lines (row g.NextTerm (map term_shown v.items) done))) (sym first)
     ∙ ap (both (λ (first : Product) others. let t : Sum = record { first = first; rest = others } in t) (product_in names lines (raise 3 (shown y)))) (terms_row names lines v.items)
     ∙ ap (λ m. both (λ (first : Product) others. let t : Sum = record { first = first; rest = others } in t) (product_in names lines (raise 3 (shown y))) (sequence (map (λ t. added_in names lines (term_shown t)) m))) (sym rest)
 

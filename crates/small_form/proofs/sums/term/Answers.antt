@@ -61,7 +61,7 @@ returns-in_err-first c =
     exit (λ r. Builds q c.args.identifiers.now new r) c.from_residual-in_err-first.result c.in_err-first.field-0.0 c.from_residual-in_err-first.ensures.1
     (refused p q c.args.identifiers.now new new c.in_err-first.field-0.0
     (λ none. product_several names lines x w.first w.rest w.is some
-    ∙ ap (λ z. both (λ (first : Operand) others. let t : Product = record { first = first; rest = others } in t) z (factors_in names lines (row g.Multiplied (map factor_shown w.rest.items) done)))
+    ∙ ap (λ z. both (λ (first : Operand) others. let t : Product = record { first = first; rest = others } in t) z (factors_in names lines (row g.NextFactor (map factor_shown w.rest.items) done)))
     (ap (λ z. operand_in names lines (raise 0 (shown z))) (sym c.deref.ensures) ∙ none)) c.in_err-first.ensures)
 
 -- a product, by what the code reads of it
@@ -70,7 +70,7 @@ both_of : (names : List (List ℕ)) (lines : List Line) (x : Expr) (a : Box Expr
     (sequence (map (λ f. multiplied_in names lines (factor_shown f)) l))
 both_of names lines x a v y l is first rest some =
     product_several names lines x a v is some
-    ∙ ap (λ z. both (λ (first : Operand) others. let t : Product = record { first = first; rest = others } in t) (operand_in names lines (raise 0 (shown z))) (factors_in names lines (row g.Multiplied (map factor_shown v.items) done))) (sym first)
+    ∙ ap (λ z. both (λ (first : Operand) others. let t : Product = record { first = first; rest = others } in t) (operand_in names lines (raise 0 (shown z))) (factors_in names lines (row g.NextFactor (map factor_shown v.items) done))) (sym first)
     ∙ ap (both (λ (first : Operand) others. let t : Product = record { first = first; rest = others } in t) (operand_in names lines (raise 0 (shown y)))) (factors_row names lines v.items)
     ∙ ap (λ m. both (λ (first : Operand) others. let t : Product = record { first = first; rest = others } in t) (operand_in names lines (raise 0 (shown y))) (sequence (map (λ f. multiplied_in names lines (factor_shown f)) m))) (sym rest)
 
