@@ -13,3 +13,6 @@ pub mod Sizes
 pub mod StatementLemmas
 pub mod Statements
 pub mod Steps
+pub mod ProgramSyntaxLemmas
+pub mod SyntaxLemmas
+pub mod FirstTokens

@@ -72,11 +72,13 @@ shown-If i e a = ap stmt_shown (sym (s.rolls-If i e a None)) ∙ fold-roll-Stmt 
 pub shown-If-two : (i : TokenNo) (e : Expr) (a : Box Stmt Global) (o : Box Stmt Global) → stmt_shown (s.If i e a (Some o)) ≡ leaf i.0 k.If (expr e (node g.Statement (stmt_shown a.value) (node g.ElseBranch (node g.Statement (stmt_shown o.value) done) done)))
 shown-If-two i e a o = ap stmt_shown (sym (s.rolls-If i e a (Some o))) ∙ fold-roll-Stmt Declared Forest Forest Forest Forest Forest decl_layer stmt_layer block_layer class_layer procedure_layer when_layer (Stmt-F.If i e a (Some o))
 
-pub shown-Inspect : (i : TokenNo) (e : Expr) (a : Box Stmt Global) → stmt_shown (s.Inspect i e a None) ≡ leaf i.0 k.Inspect (expr e (node g.Arms (node g.Statement (stmt_shown a.value) done) done))
-shown-Inspect i e a = ap stmt_shown (sym (s.rolls-Inspect i e a None)) ∙ fold-roll-Stmt Declared Forest Forest Forest Forest Forest decl_layer stmt_layer block_layer class_layer procedure_layer when_layer (Stmt-F.Inspect i e a None)
+pub shown-Inspect : (i : TokenNo) (e : Expr) (o : TokenNo) (a : Box Stmt Global) (n : TokenNo)
+    → stmt_shown (s.Inspect i e o a n None) ≡ leaf i.0 k.Inspect (expr e (node g.Arms (leaf o.0 k.Do (node g.Statement (stmt_shown a.value) (place n.0 done))) done))
+shown-Inspect i e o a n = ap stmt_shown (sym (s.rolls-Inspect i e o a n None)) ∙ fold-roll-Stmt Declared Forest Forest Forest Forest Forest decl_layer stmt_layer block_layer class_layer procedure_layer when_layer (Stmt-F.Inspect i e o a n None)
 
-pub shown-Inspect-two : (i : TokenNo) (e : Expr) (a : Box Stmt Global) (o : Box Stmt Global) → stmt_shown (s.Inspect i e a (Some o)) ≡ leaf i.0 k.Inspect (expr e (node g.Arms (node g.Statement (stmt_shown a.value) done) (node g.OtherwiseBranch (node g.Statement (stmt_shown o.value) done) done)))
-shown-Inspect-two i e a o = ap stmt_shown (sym (s.rolls-Inspect i e a (Some o))) ∙ fold-roll-Stmt Declared Forest Forest Forest Forest Forest decl_layer stmt_layer block_layer class_layer procedure_layer when_layer (Stmt-F.Inspect i e a (Some o))
+pub shown-Inspect-two : (i : TokenNo) (e : Expr) (d : TokenNo) (a : Box Stmt Global) (n : TokenNo) (o : Box Stmt Global)
+    → stmt_shown (s.Inspect i e d a n (Some o)) ≡ leaf i.0 k.Inspect (expr e (node g.Arms (leaf d.0 k.Do (node g.Statement (stmt_shown a.value) (place n.0 done))) (node g.OtherwiseBranch (node g.Statement (stmt_shown o.value) done) done)))
+shown-Inspect-two i e d a n o = ap stmt_shown (sym (s.rolls-Inspect i e d a n (Some o))) ∙ fold-roll-Stmt Declared Forest Forest Forest Forest Forest decl_layer stmt_layer block_layer class_layer procedure_layer when_layer (Stmt-F.Inspect i e d a n (Some o))
 
 pub shown-InspectWhen : (i : TokenNo) (e : Expr) (v : Vec When Global) → stmt_shown (s.InspectWhen i e v None) ≡ leaf i.0 k.Inspect (expr e (node g.Arms (row g.WhenArm (map when_shown v.items) done) done))
 shown-InspectWhen i e v = ap stmt_shown (sym (s.rolls-InspectWhen i e v None)) ∙ fold-roll-Stmt Declared Forest Forest Forest Forest Forest decl_layer stmt_layer block_layer class_layer procedure_layer when_layer (Stmt-F.InspectWhen i e v None)
@@ -107,17 +109,17 @@ pub shown-block : (i : TokenNo) (ds : Vec Decl Global) (ss : Vec Stmt Global) (e
 shown-block i ds ss e =
     fold-roll-Block Declared Forest Forest Forest Forest Forest decl_layer stmt_layer block_layer class_layer procedure_layer when_layer (record { token = i; declarations = ds; statements = ss; end = e })
 
-pub shown-procedure : (x : Identifier) (ps : Vec Identifier Global) (ms : Vec ModePart Global) (ss : Vec Specification Global) (b : Box Stmt Global)
-    → procedure_shown (roll-Procedure (record { name = x; parameters = ps; modes = ms; specifications = ss; body = b })) ≡ identifier x (node g.Heading (heading_shown ps.items ms.items ss.items) (node g.Statement (stmt_shown b.value) done))
-shown-procedure x ps ms ss b =
-    fold-roll-Procedure Declared Forest Forest Forest Forest Forest decl_layer stmt_layer block_layer class_layer procedure_layer when_layer (record { name = x; parameters = ps; modes = ms; specifications = ss; body = b })
+pub shown-procedure : (x : Identifier) (ps : Vec Identifier Global) (ms : Vec ModePart Global) (ss : Vec Specification Global) (b : Box Stmt Global) (e : TokenNo)
+    → procedure_shown (roll-Procedure (record { name = x; parameters = ps; modes = ms; specifications = ss; body = b; end = e })) ≡ identifier x (node g.Heading (heading_shown ps.items ms.items ss.items) (node g.Statement (stmt_shown b.value) (place e.0 done)))
+shown-procedure x ps ms ss b e =
+    fold-roll-Procedure Declared Forest Forest Forest Forest Forest decl_layer stmt_layer block_layer class_layer procedure_layer when_layer (record { name = x; parameters = ps; modes = ms; specifications = ss; body = b; end = e })
 
 pub shown-class : (x : Identifier) (ps : Vec Identifier Global) (ms : Vec ModePart Global) (ss : Vec Specification Global) (rs : Vec Protection Global) (vs : Vec VirtualSpecification Global) (b : Box Stmt Global) (e : TokenNo)
     → class_shown (roll-Class (record { name = x; parameters = ps; modes = ms; specifications = ss; protections = rs; virtuals = vs; body = b; end = e })) ≡ identifier x (node g.Heading (heading_shown ps.items ms.items ss.items) (row g.Protection (map protection_shown rs.items) (virtuals_shown vs.items (node g.Statement (stmt_shown b.value) (place e.0 done)))))
 shown-class x ps ms ss rs vs b e =
     fold-roll-Class Declared Forest Forest Forest Forest Forest decl_layer stmt_layer block_layer class_layer procedure_layer when_layer (record { name = x; parameters = ps; modes = ms; specifications = ss; protections = rs; virtuals = vs; body = b; end = e })
 
-pub shown-when : (i : TokenNo) (x : Identifier) (b : Stmt)
-    → when_shown (roll-When (record { token = i; class = x; body = b })) ≡ leaf i.0 k.When (identifier x (node g.Statement (stmt_shown b) done))
-shown-when i x b =
-    fold-roll-When Declared Forest Forest Forest Forest Forest decl_layer stmt_layer block_layer class_layer procedure_layer when_layer (record { token = i; class = x; body = b })
+pub shown-when : (i : TokenNo) (x : Identifier) (b : Stmt) (e : TokenNo)
+    → when_shown (roll-When (record { token = i; class = x; body = b; end = e })) ≡ leaf i.0 k.When (identifier x (node g.Statement (stmt_shown b) (place e.0 done)))
+shown-when i x b e =
+    fold-roll-When Declared Forest Forest Forest Forest Forest decl_layer stmt_layer block_layer class_layer procedure_layer when_layer (record { token = i; class = x; body = b; end = e })

@@ -118,16 +118,20 @@ flat_virtuals [] rest = rest
 flat_virtuals (v ∷ vs) rest =
     before refl (flat_row g.VirtualSpecification virtual_shown (v ∷ vs) refl (λ x. flat_typed x.result (nests_leaf (flat_names x.names.items))) nests_done) rest
 
+-- a body, and the token behind it
+pub nests_to_its_end : (i : ℕ) {f : Forest} {a : ℕ} → Nests (next_statement f) a → Nests (node g.Statement f (place i done)) a
+nests_to_its_end i {a = a} body = same (let z : max a 0 ≡ a = omega arith in z) (followed body (nests_place nests_done))
+
 -- what stands in front of the body of a procedure, and of a class
-pub nests_procedure : (x : Identifier) (ps : List Identifier) (ms : List ModePart) (ss : List Specification) {f : Forest} {a : ℕ}
-    → Nests (next_statement f) a → Nests (identifier x (node g.Heading (heading_shown ps ms ss) (node g.Statement f done))) a
-nests_procedure x ps ms ss body = nests_leaf (before refl (flat_heading ps ms ss) body)
+pub nests_procedure : (x : Identifier) (ps : List Identifier) (ms : List ModePart) (ss : List Specification) (i : ℕ) {f : Forest} {a : ℕ}
+    → Nests (next_statement f) a → Nests (identifier x (node g.Heading (heading_shown ps ms ss) (node g.Statement f (place i done)))) a
+nests_procedure x ps ms ss i body = nests_leaf (before refl (flat_heading ps ms ss) (nests_to_its_end i body))
 
 pub nests_class : (x : Identifier) (ps : List Identifier) (ms : List ModePart) (ss : List Specification) (rs : List Protection) (vs : List VirtualSpecification) (i : ℕ) {f : Forest} {a : ℕ}
     → Nests (next_statement f) a
     → Nests (identifier x (node g.Heading (heading_shown ps ms ss) (row g.Protection (map protection_shown rs) (virtuals_shown vs (node g.Statement f (place i done)))))) a
-nests_class x ps ms ss rs vs i {a = a} body =
-    nests_leaf (before refl (flat_heading ps ms ss) (flat_protections rs (flat_virtuals vs (same (let z : max a 0 ≡ a = omega arith in z) (followed body (nests_place nests_done))))))
+nests_class x ps ms ss rs vs i body =
+    nests_leaf (before refl (flat_heading ps ms ss) (flat_protections rs (flat_virtuals vs (nests_to_its_end i body))))
 
 -- Lists whose first part is no further one.
 first_and_more : (a b : ℕ) → max a (max b 0) ≡ max a b
@@ -168,12 +172,12 @@ nests_if i e b None {x} {y} {z} one two three =
 nests_if i e b (Some o) {x} {y} {z} one two three =
     along (ap next_statement (lemma.shown-If-two i e b o)) (nests_stmt refl (nests_leaf (same (let q : max x (max y z) ≡ max (max x y) z = omega arith in q) (followed one (followed two (nests_alone refl three))))))
 
-pub nests_inspect : (i : TokenNo) (e : Expr) (b : Box Stmt Global) (o : Option (Box Stmt Global)) {x y z : ℕ}
-    → Nests (argument (shown e)) x → Nests (next_statement (stmt_shown b.value)) y → Nests (branch_shown o) z → Nests (next_statement (stmt_shown (s.Inspect i e b o))) (capped (max (max x y) z + 1))
-nests_inspect i e b None {x} {y} {z} one two three =
-    along (ap next_statement (lemma.shown-Inspect i e b)) (nests_stmt refl (nests_leaf (same (let q : max x (max y z) ≡ max (max x y) z = omega arith in q) (followed one (nests_node refl two three)))))
-nests_inspect i e b (Some o) {x} {y} {z} one two three =
-    along (ap next_statement (lemma.shown-Inspect-two i e b o)) (nests_stmt refl (nests_leaf (same (let q : max x (max y z) ≡ max (max x y) z = omega arith in q) (followed one (nests_node refl two (nests_alone refl three))))))
+pub nests_inspect : (i : TokenNo) (e : Expr) (d : TokenNo) (b : Box Stmt Global) (n : TokenNo) (o : Option (Box Stmt Global)) {x y z : ℕ}
+    → Nests (argument (shown e)) x → Nests (next_statement (stmt_shown b.value)) y → Nests (branch_shown o) z → Nests (next_statement (stmt_shown (s.Inspect i e d b n o))) (capped (max (max x y) z + 1))
+nests_inspect i e d b n None {x} {y} {z} one two three =
+    along (ap next_statement (lemma.shown-Inspect i e d b n)) (nests_stmt refl (nests_leaf (same (let q : max x (max y z) ≡ max (max x y) z = omega arith in q) (followed one (nests_node refl (nests_leaf (nests_to_its_end n.0 two)) three)))))
+nests_inspect i e d b n (Some o) {x} {y} {z} one two three =
+    along (ap next_statement (lemma.shown-Inspect-two i e d b n o)) (nests_stmt refl (nests_leaf (same (let q : max x (max y z) ≡ max (max x y) z = omega arith in q) (followed one (nests_node refl (nests_leaf (nests_to_its_end n.0 two)) (nests_alone refl three))))))
 
 pub nests_inspect_when : (i : TokenNo) (e : Expr) (v : Vec When Global) (o : Option (Box Stmt Global)) {x y z : ℕ}
     → Nests (argument (shown e)) x → Largest (λ w. Nests (when_shown w)) v.items y → Nests (branch_shown o) z → Nests (next_statement (stmt_shown (s.InspectWhen i e v o))) (capped (max (max x y) z + 1))
@@ -204,7 +208,7 @@ nests_block b ds ss =
 
 -- declarations
 pub nests_declared_procedure : (t : Option TypeName) (i : TokenNo) (p : Procedure) {a : ℕ} → Nests (next_statement (stmt_shown p.body.value)) a → Nests (apart (decl_shown (decl.Procedure t i p))) a
-nests_declared_procedure t i p {a} body = go t (along (lemma.shown-procedure p.name p.parameters p.modes p.specifications p.body) (nests_procedure p.name p.parameters.items p.modes.items p.specifications.items body))
+nests_declared_procedure t i p {a} body = go t (along (lemma.shown-procedure p.name p.parameters p.modes p.specifications p.body p.end) (nests_procedure p.name p.parameters.items p.modes.items p.specifications.items p.end.0 body))
   where
     go : (t : Option TypeName) → Nests (procedure_shown p) a → Nests (apart (decl_shown (decl.Procedure t i p))) a
     go None h = along (ap apart (lemma.shown-Procedure i p)) (nests_alone refl (nests_leaf (nests_alone refl h)))

@@ -184,7 +184,7 @@ rows NextIdentifier = At (just t.Comma) (Mark t.Comma ∷ Kept (just t.Identifie
 rows ArraySegment = Else (Of Once Identifiers ∷ Mark t.Open ∷ Of Once Bounds ∷ Of Many NextBounds ∷ Mark t.Close ∷ []) ∷ []
 rows Bounds = Else (Of Once Expression ∷ Mark t.Colon ∷ Of Once Expression ∷ []) ∷ []
 rows NextBounds = At (just t.Comma) (Mark t.Comma ∷ Of Once Bounds ∷ []) ∷ []
-rows Procedure = Else (Kept (just t.Identifier) ∷ Of Once Heading ∷ Of Once Statement ∷ []) ∷ []
+rows Procedure = Else (Kept (just t.Identifier) ∷ Of Once Heading ∷ Of Once Statement ∷ Here ∷ []) ∷ []
 rows Heading =
     At (just t.Open) (Mark t.Open ∷ Of Once Identifiers ∷ Mark t.Close ∷ Mark t.Semicolon ∷ Of Many Mode ∷ Of Once Specification ∷ Of Many Specification ∷ [])
     ∷ At (just t.Semicolon) (Mark t.Semicolon ∷ []) ∷ []
@@ -227,7 +227,7 @@ rows ForList =
 rows NextForElement = At (just t.Comma) (Mark t.Comma ∷ Of Once ForElement ∷ []) ∷ []
 rows NextReferenceElement = At (just t.Comma) (Mark t.Comma ∷ Of Once ReferenceElement ∷ []) ∷ []
 rows Arms =
-    At (just t.Do) (Mark t.Do ∷ Of Once Statement ∷ [])
+    At (just t.Do) (Kept (just t.Do) ∷ Of Once Statement ∷ Here ∷ [])
     ∷ At (just t.When) (Of Once WhenArm ∷ Of Many WhenArm ∷ []) ∷ []
 rows OtherwiseBranch = At (just t.Otherwise) (Mark t.Otherwise ∷ Of Once Statement ∷ []) ∷ []
 rows ForElement = Else (Of Once Expression ∷ Of Maybe ForElementTail ∷ []) ∷ []
@@ -236,7 +236,7 @@ rows ForElementTail =
     ∷ At (just t.While) (Kept (just t.While) ∷ Of Once Expression ∷ []) ∷ []
 rows ReferenceElement = Else (Of Once Expression ∷ Of Maybe ReferenceElementTail ∷ []) ∷ []
 rows ReferenceElementTail = At (just t.While) (Kept (just t.While) ∷ Of Once Expression ∷ []) ∷ []
-rows WhenArm = At (just t.When) (Kept (just t.When) ∷ Kept (just t.Identifier) ∷ Mark t.Do ∷ Of Once Statement ∷ []) ∷ []
+rows WhenArm = At (just t.When) (Kept (just t.When) ∷ Kept (just t.Identifier) ∷ Mark t.Do ∷ Of Once Statement ∷ Here ∷ []) ∷ []
 rows Timing =
     (let times = t.At ∷ t.Delay ∷ [] in At times (Kept times ∷ Of Once Expression ∷ Of Maybe PriorMark ∷ []))
     ∷ (let places = t.Before ∷ t.After ∷ [] in At places (Kept places ∷ Of Once Expression ∷ [])) ∷ []

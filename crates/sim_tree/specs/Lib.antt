@@ -7,3 +7,6 @@ pub mod Shown
 pub mod ShownProgram
 pub mod Terminal
 pub mod Tree
+pub mod Syntax
+pub mod SyntaxOf
+pub mod SyntaxOfProgram

@@ -251,7 +251,7 @@ block_layer b = leaf b.token.0 k.Begin (node g.Block (contents b.declarations.it
 
 abbrev pub procedure_layer : Procedure-F Declared Forest Forest Forest Forest Forest → Forest
 procedure_layer p =
-    identifier p.name (node g.Heading (heading_shown p.parameters.items p.modes.items p.specifications.items) (node g.Statement p.body.value done))
+    identifier p.name (node g.Heading (heading_shown p.parameters.items p.modes.items p.specifications.items) (node g.Statement p.body.value (place p.end.0 done)))
 
 abbrev pub class_layer : Class-F Declared Forest Forest Forest Forest Forest → Forest
 class_layer c =
@@ -259,7 +259,7 @@ class_layer c =
     (row g.Protection (map protection_shown c.protections.items) (virtuals_shown c.virtuals.items (node g.Statement c.body.value (place c.end.0 done)))))
 
 abbrev pub when_layer : When-F Declared Forest Forest Forest Forest Forest → Forest
-when_layer w = leaf w.token.0 k.When (identifier w.class (node g.Statement w.body done))
+when_layer w = leaf w.token.0 k.When (identifier w.class (node g.Statement w.body (place w.end.0 done)))
 
 abbrev pub decl_layer : Decl-F Declared Forest Forest Forest Forest Forest → Declared
 decl_layer (Decl-F.Variables t vs) = Plain (node g.TypeName (type_shown t) (node g.TypedDeclaration (variables_shown vs.items) done))
@@ -284,9 +284,10 @@ stmt_layer (Stmt-F.For i x s elements body) =
     leaf i.0 k.For (identifier x (node g.ForList (leaf s.0 k.Assign (for_elements elements.items)) (node g.Statement body.value done)))
 stmt_layer (Stmt-F.ForReference i x s elements body) =
     leaf i.0 k.For (identifier x (node g.ForList (leaf s.0 k.AssignReference (reference_elements elements.items)) (node g.Statement body.value done)))
-stmt_layer (Stmt-F.Inspect i object body None) = leaf i.0 k.Inspect (expr object (node g.Arms (node g.Statement body.value done) done))
-stmt_layer (Stmt-F.Inspect i object body (Some otherwise)) =
-    leaf i.0 k.Inspect (expr object (node g.Arms (node g.Statement body.value done) (node g.OtherwiseBranch (node g.Statement otherwise.value done) done)))
+stmt_layer (Stmt-F.Inspect i object opening body end None) =
+    leaf i.0 k.Inspect (expr object (node g.Arms (leaf opening.0 k.Do (node g.Statement body.value (place end.0 done))) done))
+stmt_layer (Stmt-F.Inspect i object opening body end (Some otherwise)) =
+    leaf i.0 k.Inspect (expr object (node g.Arms (leaf opening.0 k.Do (node g.Statement body.value (place end.0 done))) (node g.OtherwiseBranch (node g.Statement otherwise.value done) done)))
 stmt_layer (Stmt-F.InspectWhen i object arms None) = leaf i.0 k.Inspect (expr object (node g.Arms (row g.WhenArm arms.items done) done))
 stmt_layer (Stmt-F.InspectWhen i object arms (Some otherwise)) =
     leaf i.0 k.Inspect (expr object (node g.Arms (row g.WhenArm arms.items done) (node g.OtherwiseBranch (node g.Statement otherwise.value done) done)))

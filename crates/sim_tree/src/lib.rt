@@ -5,6 +5,7 @@ mod expr;
 pub mod grammar;
 mod measure;
 mod nesting;
+mod operator;
 mod program;
 mod stmt;
 mod terminal;
@@ -17,6 +18,7 @@ pub use expr::{
 };
 pub use measure::first_token;
 pub use nesting::depth;
+pub use operator::Operator;
 pub use program::{BlockPrefix, Program};
 pub use stmt::{
     Activation, ArraySegment, Assigned, Assignment, Block, Bounds, Class, Constant, Decl,

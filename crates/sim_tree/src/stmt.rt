@@ -295,11 +295,13 @@ pub enum Stmt {
         elements: Vec<ReferenceElement>,
         body: Box<Stmt>,
     },
-    /// `inspect` with `do`.
+    /// `inspect` with `do`, whose token is `opening`; `end` is the token behind the body.
     Inspect {
         token: TokenNo,
         object: Expr,
+        opening: TokenNo,
         body: Box<Stmt>,
+        end: TokenNo,
         otherwise: Option<Box<Stmt>>,
     },
     /// `inspect` with `when`.
@@ -328,6 +330,8 @@ pub struct When {
     pub class: Identifier,
     /// What is done where the object is in the class.
     pub body: Stmt,
+    /// The token behind the body.
+    pub end: TokenNo,
 }
 
 /// The declarations and the statements between `begin` and `end`. Without a declaration it is a compound statement.
@@ -387,6 +391,8 @@ pub struct Procedure {
     pub specifications: Vec<Specification>,
     /// The body.
     pub body: Box<Stmt>,
+    /// The token behind the body, so that the one in front of it is the last token of the procedure.
+    pub end: TokenNo,
 }
 
 /// A class without its prefix.

@@ -17,7 +17,7 @@ arms-loop-item-init t c = nests.begins c.args.list.now
 pub arms-loop-item-preserved : goal.arms-loop-item-preserved
 arms-loop-item-preserved t c =
     let x = c.item-item.result in
-    nests.goes_on c.args.list.now c.loop-item.item-index x c.statement.result c.loop-item.deepest c.max-deepest.result c.loop-item-test.true c.item-item.is (nests.along (lemma.shown-when x.token x.class x.body) (nests.nests_leaf (nests.nests_leaf c.statement.ensures))) (omega arith) c.loop-item.invariant
+    nests.goes_on c.args.list.now c.loop-item.item-index x c.statement.result c.loop-item.deepest c.max-deepest.result c.loop-item-test.true c.item-item.is (nests.along (lemma.shown-when x.token x.class x.body x.end) (nests.nests_leaf (nests.nests_leaf (st.nests_to_its_end x.end.0 c.statement.ensures)))) (omega arith) c.loop-item.invariant
 
 pub arms-returns : goal.arms-returns
 arms-returns t c = nests.ends c.args.list.now c.loop-item.item-index c.loop-item.deepest c.loop-item-test.false c.loop-item.invariant
@@ -134,7 +134,7 @@ statement-returns-in-ForReference t c =
 pub statement-returns-in-Inspect : goal.statement-returns-in-Inspect
 statement-returns-in-Inspect t c =
     let w = c.in-Inspect in
-    nests.along (ap (λ z. next_statement (stmt_shown z)) w.is) (nests.same (omega arith) (st.nests_inspect w.token w.object w.body w.otherwise c.expression-in-Inspect.ensures (st.at_stmt c.deref-in-Inspect.ensures c.statement-in-Inspect.ensures) c.branch-otherwise.ensures))
+    nests.along (ap (λ z. next_statement (stmt_shown z)) w.is) (nests.same (omega arith) (st.nests_inspect w.token w.object w.opening w.body w.end w.otherwise c.expression-in-Inspect.ensures (st.at_stmt c.deref-in-Inspect.ensures c.statement-in-Inspect.ensures) c.branch-otherwise.ensures))
 
 pub statement-returns-in-InspectWhen : goal.statement-returns-in-InspectWhen
 statement-returns-in-InspectWhen t c =
