@@ -15,7 +15,7 @@ use Rattle.sim_tree.specs.declared.terminal.Terminal.TheVariants as t
 use Rattle.sim_tree.specs.Terminal.{terminal_of}
 use Rattle.sim_tree.specs.Grammar as g
 use Rattle.sim_tree.specs.Grammar.{is}
-use Rattle.sim_tree.specs.Reading.{Forest, done, leaf, node}
+use Rattle.sim_tree.specs.Reading.{Forest, done, leaf, place, node}
 use Rattle.sim_tree.specs.Shown.{row}
 use Rattle.sim_tree.specs.ShownProgram.{Declared, Plain, Prefixed, begun, contents, expr, next_statement, statements, stmt_shown, when_shown}
 use Rattle.sim_tree.proofs.ShownLemmas.{map-append, row-append}
@@ -23,12 +23,13 @@ use Rattle.sim_tree.proofs.StatementLemmas.{shown-Inspect, shown-Inspect-two, sh
 use Rattle.sim_parser.specs.declared.statement.Branch.TheVariants as branch
 use Rattle.sim_parser.specs.Parsing.{branch_shown, declared, statement_list}
 
-pub inspect_shown : (n : TokenNo) (e : Expr) (x : Stmt) (a : Box Stmt Global) (o : Option (Box Stmt Global)) → a.value ≡ x
-    → leaf n.0 k.Inspect (expr e (node g.Arms (node g.Statement (stmt_shown x) done) (branch_shown branch.Otherwise o))) ≡ stmt_shown (s.Inspect n e a o)
-inspect_shown n e x a None h = ap (λ z. leaf n.0 k.Inspect (expr e (node g.Arms (node g.Statement (stmt_shown z) done) done))) (sym h) ∙ sym (shown-Inspect n e a)
-inspect_shown n e x a (Some o) h =
-    ap (λ z. leaf n.0 k.Inspect (expr e (node g.Arms (node g.Statement (stmt_shown z) done) (node g.OtherwiseBranch (node g.Statement (stmt_shown o.value) done) done)))) (sym h)
-    ∙ sym (shown-Inspect-two n e a o)
+pub inspect_shown : (n : TokenNo) (e : Expr) (m : TokenNo) (x : Stmt) (z : TokenNo) (a : Box Stmt Global) (o : Option (Box Stmt Global)) → a.value ≡ x
+    → leaf n.0 k.Inspect (expr e (node g.Arms (leaf m.0 k.Do (node g.Statement (stmt_shown x) (place z.0 done))) (branch_shown branch.Otherwise o))) ≡ stmt_shown (s.Inspect n e m a z o)
+inspect_shown n e m x z a None h =
+    ap (λ y. leaf n.0 k.Inspect (expr e (node g.Arms (leaf m.0 k.Do (node g.Statement (stmt_shown y) (place z.0 done))) done))) (sym h) ∙ sym (shown-Inspect n e m a z)
+inspect_shown n e m x z a (Some o) h =
+    ap (λ y. leaf n.0 k.Inspect (expr e (node g.Arms (leaf m.0 k.Do (node g.Statement (stmt_shown y) (place z.0 done))) (node g.OtherwiseBranch (node g.Statement (stmt_shown o.value) done) done)))) (sym h)
+    ∙ sym (shown-Inspect-two n e m a z o)
 
 pub inspect_when_shown : (n : TokenNo) (e : Expr) (v : Vec When Global) (o : Option (Box Stmt Global))
     → leaf n.0 k.Inspect (expr e (node g.Arms (row g.WhenArm (map when_shown v.items) done) (branch_shown branch.Otherwise o))) ≡ stmt_shown (s.InspectWhen n e v o)

@@ -6,7 +6,7 @@ use Rattle.sim_tree.specs.declared.terminal.Terminal.{Terminal}
 use Rattle.sim_tree.specs.declared.terminal.Terminal.TheVariants as t
 use Rattle.sim_tree.specs.Grammar as g
 use Rattle.sim_tree.specs.Grammar.{Symbol, Of, Once, Maybe, Many, Kept, Mark, Any, Here, is, one_of, just, types, begins_statement, right_side}
-use Rattle.sim_parser.specs.Parsing.{begins_declaration, body_row, statements_then, identified_row}
+use Rattle.sim_parser.specs.Parsing.{begins_declaration, connection_row, statements_then, identified_row}
 
 pub or_left : (a b : Bool) → (a || b) ≡ false → a ≡ false
 or_left true b h = h
@@ -25,9 +25,9 @@ abbrev pub arms_row : List Symbol
 arms_row = Of Once g.WhenArm ∷ Of Many g.WhenArm ∷ []
 
 abbrev pub arm_row : List Symbol
-arm_row = Kept (just t.When) ∷ Kept (just t.Identifier) ∷ body_row
+arm_row = Kept (just t.When) ∷ Kept (just t.Identifier) ∷ connection_row
 
-pub arms_do : right_side g.Arms t.Do ≡ Some body_row
+pub arms_do : right_side g.Arms t.Do ≡ Some connection_row
 unfolding right_side is
 arms_do = refl
 
@@ -38,7 +38,7 @@ arms_when = refl
 pub no_arms : (a : Terminal) → is a t.Do ≡ false → is a t.When ≡ false → right_side g.Arms a ≡ None
 unfolding right_side
 no_arms a h e =
-    ap (λ x. if x || false then Some body_row else (if is a t.When || false then Some arms_row else None)) h
+    ap (λ x. if x || false then Some connection_row else (if is a t.When || false then Some arms_row else None)) h
     ∙ ap (λ x. if x || false then Some arms_row else None) e
 
 pub same_do : (a : Terminal) → is a t.Do ≡ false → a ≡ t.Do → ⊥
@@ -203,7 +203,7 @@ no_typed a p r i =
 
 -- Procedures and classes.
 abbrev pub proc_row : List Symbol
-proc_row = Kept (just t.Identifier) ∷ Of Once g.Heading ∷ Of Once g.Statement ∷ []
+proc_row = Kept (just t.Identifier) ∷ Of Once g.Heading ∷ Of Once g.Statement ∷ Here ∷ []
 
 abbrev pub cls_row : List Symbol
 cls_row = Kept (just t.Identifier) ∷ Of Once g.Heading ∷ Of Many g.Protection ∷ Of Maybe g.Virtuals ∷ Of Once g.Statement ∷ Here ∷ []

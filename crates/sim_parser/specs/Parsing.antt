@@ -13,8 +13,8 @@ use Rattle.sim_tree.specs.declared.stmt.TypeName.{TypeName}
 use Rattle.sim_tree.specs.declared.terminal.Terminal.{Terminal}
 use Rattle.sim_tree.specs.declared.terminal.Terminal.TheVariants as t
 use Rattle.sim_tree.specs.Grammar as g
-use Rattle.sim_tree.specs.Grammar.{Part, Symbol, Of, Once, Maybe, Many, Kept, Mark, Any, is, one_of, just, types, begins_statement}
-use Rattle.sim_tree.specs.Reading.{Forest, done, leaf, node, terminal_at, Reads, Fails, Fault, Unexpected, TooDeep}
+use Rattle.sim_tree.specs.Grammar.{Part, Symbol, Of, Once, Maybe, Many, Kept, Mark, Any, Here, is, one_of, just, types, begins_statement}
+use Rattle.sim_tree.specs.Reading.{Forest, done, leaf, place, node, terminal_at, Reads, Fails, Fault, Unexpected, TooDeep}
 use Rattle.sim_tree.specs.Claim.{Begins, IsFirstBad, one}
 use Rattle.sim_tree.specs.ShownProgram.{Declared, Plain, Prefixed, decl_shown, next_statement, stmt_shown, type_shown}
 use Rattle.sim_tree.specs.Shown.{identifier, row}
@@ -23,6 +23,7 @@ use Rattle.sim_expr_parser.specs.declared.refusal.Stop.{Stop}
 use Rattle.sim_expr_parser.specs.declared.refusal.SyntaxRefusal.{SyntaxRefusal}
 use Rattle.sim_expr_parser.specs.declared.refusal.SyntaxRefusal.TheVariants as refusal
 use Rattle.sim_expr_parser.specs.Parsing.{IsSource, Stops}
+use Rattle.sim_parser.specs.declared.statement.Connection.{Connection}
 use Rattle.sim_parser.specs.declared.statement.Branch.{Branch}
 use Rattle.sim_parser.specs.declared.statement.Branch.TheVariants as branch
 
@@ -58,6 +59,13 @@ if_row = Kept (just t.If) ∷ Of Once g.Expression ∷ Mark t.Then ∷ Of Once g
 
 abbrev pub body_row : List Symbol
 body_row = Mark t.Do ∷ Of Once g.Statement ∷ []
+
+-- a connection, from `do` on
+abbrev pub connection_row : List Symbol
+connection_row = Kept (just t.Do) ∷ Of Once g.Statement ∷ Here ∷ []
+
+abbrev pub connection_shown : Connection → Forest
+connection_shown c = leaf c.opening.0 k.Do (node g.Statement (stmt_shown c.body) (place c.end.0 done))
 
 abbrev pub while_row : List Symbol
 while_row = Kept (just t.While) ∷ Of Once g.Expression ∷ body_row

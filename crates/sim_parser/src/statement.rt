@@ -9,7 +9,7 @@ ghost use Rattle.sim_tree.specs.Reading.{Forest, done, node, terminal_at};
 ghost use Rattle.sim_tree.specs.Shown.{row};
 ghost use Rattle.sim_tree.specs.ShownProgram.{block_shown, class_shown, procedure_shown, statements as statements_shown, stmt_shown, when_shown};
 ghost use Rattle.sim_expr_parser.specs.Parsing.{IsSource};
-ghost use Rattle.sim_parser.specs.Parsing.{GivesAll, GivesDecl, GivesDeclaration, GivesDeclarations, GivesInside, GivesPart, GivesStatements, GivesTyped, NoDeclaration, begins as begins_spec, body_row, branch_part, branch_shown, branch_word, for_row, identified_row, if_row, inspect_row, while_row};
+ghost use Rattle.sim_parser.specs.Parsing.{GivesAll, GivesDecl, GivesDeclaration, GivesDeclarations, GivesInside, GivesPart, GivesStatements, GivesTyped, NoDeclaration, begins as begins_spec, body_row, branch_part, branch_shown, branch_word, connection_row, connection_shown, for_row, identified_row, if_row, inspect_row, while_row};
 
 use crate::declaration::{segments, variables};
 use crate::elements::{ForList, for_list};
@@ -26,6 +26,17 @@ use sim_expr_parser::{
 };
 use sim_tree::{Block, BlockPrefix, Class, Decl, Expr, Procedure, Stmt, Terminal, TypeName, When};
 use std::alloc::Global;
+
+/// What a connection does, from its `do` on.
+#[derive(Drop)]
+pub struct Connection {
+    /// The token of `do`.
+    opening: TokenNo,
+    /// The body.
+    body: Stmt,
+    /// The token behind the body.
+    end: TokenNo,
+}
 
 /// A branch of a statement that may be left out.
 #[derive(Clone, Copy, Debug, PartialEq, Eq)]
@@ -306,17 +317,20 @@ fn inspect_statement(
     let next = expect(tokens, at, Terminal::Inspect)?;
     let (object, next) = expression(alloc, tokens, next, depth)?;
     if terminal_at_token(tokens, next) == Terminal::Do {
-        let (body, next) = body(alloc, tokens, next, depth)?;
+        let (connection, next) = connected_at(alloc, tokens, next, depth)?;
+        let Connection { opening, body, end } = connection;
         let body = Box::new(alloc, body)?;
-        let (otherwise, end) = optional_branch(alloc, tokens, next, depth, Branch::Otherwise)?;
+        let (otherwise, next) = optional_branch(alloc, tokens, next, depth, Branch::Otherwise)?;
         return Ok((
             Stmt::Inspect {
                 token,
                 object,
+                opening,
                 body,
+                end,
                 otherwise,
             },
-            end,
+            next,
         ));
     }
     let (arms, next) = when_arms(alloc, tokens, next, depth)?;
@@ -367,8 +381,38 @@ fn when_arm(alloc: Global, tokens: &[Token], at: usize, depth: u32) -> Result<(W
     let token = token_no(tokens, at);
     let next = expect(tokens, at, Terminal::When)?;
     let (class, next) = identifier_at(alloc, tokens, next)?;
-    let (body, end) = body(alloc, tokens, next, depth)?;
-    Ok((When { token, class, body }, end))
+    let (connection, next) = connected_at(alloc, tokens, next, depth)?;
+    let Connection { opening, body, end } = connection;
+    Ok((
+        When {
+            token,
+            class,
+            opening,
+            body,
+            end,
+        },
+        next,
+    ))
+}
+
+// A connection from its `do` on.
+#[cycle(statement)]
+fn connected_at(
+    alloc: Global,
+    tokens: &[Token],
+    at: usize,
+    depth: u32,
+) -> Result<(Connection, usize), Stop>
+    requires source { IsSource tokens.now }
+    requires within { at < length tokens.now }
+    requires shallow { depth ≤ LIMIT }
+    ensures { GivesAll tokens.now depth connection_row at connection_shown result }
+{
+    let opening = token_no(tokens, at);
+    let next = expect(tokens, at, Terminal::Do)?;
+    let (body, next) = statement(alloc, tokens, next, depth)?;
+    let end = token_no(tokens, next);
+    Ok((Connection { opening, body, end }, next))
 }
 
 /// The block at its `begin`, with the index after its `end`.
@@ -563,8 +607,9 @@ fn procedure(
 {
     let (name, next) = identifier_at(alloc, tokens, at)?;
     let (heading, next) = heading_at(alloc, tokens, next)?;
-    let (body, end) = statement(alloc, tokens, next, depth)?;
+    let (body, next) = statement(alloc, tokens, next, depth)?;
     let body = Box::new(alloc, body)?;
+    let end = token_no(tokens, next);
     let Heading {
         parameters,
         modes,
@@ -577,8 +622,9 @@ fn procedure(
             modes,
             specifications,
             body,
+            end,
         },
-        end,
+        next,
     ))
 }
 

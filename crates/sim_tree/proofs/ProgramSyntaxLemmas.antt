@@ -123,7 +123,7 @@ pub syntax-class : (x : Identifier) (ps : Vec Identifier Global) (ms : Vec ModeP
 unfolding statement_syntax declaration_syntax block_syntax class_syntax procedure_syntax arm_syntax
 syntax-class x ps ms ss rs vs b e r n = ap (λ f. f r n) (fold-roll-Class Declaration Statement BlockSyntax Classed Headed Arm decl_layer stmt_layer block_layer class_layer procedure_layer when_layer (record { name = x; parameters = ps; modes = ms; specifications = ss; protections = rs; virtuals = vs; body = b; end = e }))
 
-pub syntax-when : (i : TokenNo) (x : Identifier) (b : Stmt) (e : TokenNo)
-    → arm_syntax (roll-When (record { token = i; class = x; body = b; end = e })) ≡ record { token = i.0; class = x; body = statement_syntax b; end = e.0 }
+pub syntax-when : (i : TokenNo) (x : Identifier) (n : TokenNo) (b : Stmt) (e : TokenNo)
+    → arm_syntax (roll-When (record { token = i; class = x; opening = n; body = b; end = e })) ≡ record { token = i.0; class = x; opening = n.0; body = statement_syntax b; end = e.0 }
 unfolding statement_syntax declaration_syntax block_syntax class_syntax procedure_syntax arm_syntax
-syntax-when i x b e = fold-roll-When Declaration Statement BlockSyntax Classed Headed Arm decl_layer stmt_layer block_layer class_layer procedure_layer when_layer (record { token = i; class = x; body = b; end = e })
+syntax-when i x n b e = fold-roll-When Declaration Statement BlockSyntax Classed Headed Arm decl_layer stmt_layer block_layer class_layer procedure_layer when_layer (record { token = i; class = x; opening = n; body = b; end = e })

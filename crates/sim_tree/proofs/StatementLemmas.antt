@@ -119,7 +119,7 @@ pub shown-class : (x : Identifier) (ps : Vec Identifier Global) (ms : Vec ModePa
 shown-class x ps ms ss rs vs b e =
     fold-roll-Class Declared Forest Forest Forest Forest Forest decl_layer stmt_layer block_layer class_layer procedure_layer when_layer (record { name = x; parameters = ps; modes = ms; specifications = ss; protections = rs; virtuals = vs; body = b; end = e })
 
-pub shown-when : (i : TokenNo) (x : Identifier) (b : Stmt) (e : TokenNo)
-    → when_shown (roll-When (record { token = i; class = x; body = b; end = e })) ≡ leaf i.0 k.When (identifier x (node g.Statement (stmt_shown b) (place e.0 done)))
-shown-when i x b e =
-    fold-roll-When Declared Forest Forest Forest Forest Forest decl_layer stmt_layer block_layer class_layer procedure_layer when_layer (record { token = i; class = x; body = b; end = e })
+pub shown-when : (i : TokenNo) (x : Identifier) (n : TokenNo) (b : Stmt) (e : TokenNo)
+    → when_shown (roll-When (record { token = i; class = x; opening = n; body = b; end = e })) ≡ leaf i.0 k.When (identifier x (leaf n.0 k.Do (node g.Statement (stmt_shown b) (place e.0 done))))
+shown-when i x n b e =
+    fold-roll-When Declared Forest Forest Forest Forest Forest decl_layer stmt_layer block_layer class_layer procedure_layer when_layer (record { token = i; class = x; opening = n; body = b; end = e })

@@ -236,7 +236,7 @@ rows ForElementTail =
     ∷ At (just t.While) (Kept (just t.While) ∷ Of Once Expression ∷ []) ∷ []
 rows ReferenceElement = Else (Of Once Expression ∷ Of Maybe ReferenceElementTail ∷ []) ∷ []
 rows ReferenceElementTail = At (just t.While) (Kept (just t.While) ∷ Of Once Expression ∷ []) ∷ []
-rows WhenArm = At (just t.When) (Kept (just t.When) ∷ Kept (just t.Identifier) ∷ Mark t.Do ∷ Of Once Statement ∷ Here ∷ []) ∷ []
+rows WhenArm = At (just t.When) (Kept (just t.When) ∷ Kept (just t.Identifier) ∷ Kept (just t.Do) ∷ Of Once Statement ∷ Here ∷ []) ∷ []
 rows Timing =
     (let times = t.At ∷ t.Delay ∷ [] in At times (Kept times ∷ Of Once Expression ∷ Of Maybe PriorMark ∷ []))
     ∷ (let places = t.Before ∷ t.After ∷ [] in At places (Kept places ∷ Of Once Expression ∷ [])) ∷ []

@@ -259,7 +259,7 @@ class_layer c =
     (row g.Protection (map protection_shown c.protections.items) (virtuals_shown c.virtuals.items (node g.Statement c.body.value (place c.end.0 done)))))
 
 abbrev pub when_layer : When-F Declared Forest Forest Forest Forest Forest → Forest
-when_layer w = leaf w.token.0 k.When (identifier w.class (node g.Statement w.body (place w.end.0 done)))
+when_layer w = leaf w.token.0 k.When (identifier w.class (leaf w.opening.0 k.Do (node g.Statement w.body (place w.end.0 done))))
 
 abbrev pub decl_layer : Decl-F Declared Forest Forest Forest Forest Forest → Declared
 decl_layer (Decl-F.Variables t vs) = Plain (node g.TypeName (type_shown t) (node g.TypedDeclaration (variables_shown vs.items) done))

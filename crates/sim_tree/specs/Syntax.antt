@@ -134,8 +134,8 @@ mutual
     Choose : (token : ℕ) → (condition : Expression) → (then_branch : Statement) → (else_branch : Statements) → Statement
     Repeat : (token : ℕ) → (condition : Expression) → (body : Statement) → Statement
     For : (token : ℕ) → (variable : Identifier) → (sign : Assignment) → (assign : ℕ) → List Element → (body : Statement) → Statement
-    -- the connection is what stands between `do` and `end`
-    Inspect : (token : ℕ) → (object : Expression) → (do_token : ℕ) → (body : Statement) → (end : ℕ) → (otherwise : Statements) → Statement
+    -- the connection is what stands between `do`, whose token is `opening`, and `end`
+    Inspect : (token : ℕ) → (object : Expression) → (opening : ℕ) → (body : Statement) → (end : ℕ) → (otherwise : Statements) → Statement
     InspectWhen : (token : ℕ) → (object : Expression) → Arms → (otherwise : Statements) → Statement
     Activate : (token : ℕ) → Activation → (process : Expression) → Schedule → Statement
 
@@ -143,10 +143,10 @@ mutual
     NoStatement : Statements
     Also : Statement → Statements → Statements
 
-  -- the connection of an arm is what stands between its class and `end`
+  -- the connection of an arm is what stands between its `do` and `end`
   pub data Arms : Type 0 where
     NoArm : Arms
-    When : (token : ℕ) → (class : Identifier) → (body : Statement) → (end : ℕ) → Arms → Arms
+    When : (token : ℕ) → (class : Identifier) → (opening : ℕ) → (body : Statement) → (end : ℕ) → Arms → Arms
 
   pub data Block : Type 0 where
     Begin : (token : ℕ) → Declarations → Statements → (end : ℕ) → Block

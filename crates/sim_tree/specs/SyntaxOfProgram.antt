@@ -99,12 +99,13 @@ interface_syntax protections virtuals = record { protections = map protection_sy
 pub record Arm : Type 0 where
   pub token : ℕ
   pub class : Identifier
+  pub opening : ℕ
   pub body : Statement
   pub end : ℕ
 
 abbrev pub arms : List Arm → Arms
 arms [] = NoArm
-arms (a ∷ others) = When a.token a.class a.body a.end (arms others)
+arms (a ∷ others) = When a.token a.class a.opening a.body a.end (arms others)
 
 abbrev pub branch : Option (Box Statement Global) → Statements
 branch None = NoStatement
@@ -130,7 +131,7 @@ class_layer c prefix token =
     (interface_syntax c.protections.items c.virtuals.items) c.body.value c.end.0
 
 abbrev pub when_layer : When-F Declaration Statement BlockSyntax Classed Headed Arm → Arm
-when_layer w = record { token = w.token.0; class = w.class; body = w.body; end = w.end.0 }
+when_layer w = record { token = w.token.0; class = w.class; opening = w.opening.0; body = w.body; end = w.end.0 }
 
 abbrev pub decl_layer : Decl-F Declaration Statement BlockSyntax Classed Headed Arm → Declaration
 decl_layer (Decl-F.Variables t vs) = s.Variables t vs.items

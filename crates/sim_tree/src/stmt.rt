@@ -328,6 +328,8 @@ pub struct When {
     pub token: TokenNo,
     /// The class.
     pub class: Identifier,
+    /// The token of `do`.
+    pub opening: TokenNo,
     /// What is done where the object is in the class.
     pub body: Stmt,
     /// The token behind the body.

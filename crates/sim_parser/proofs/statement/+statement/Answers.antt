@@ -14,7 +14,7 @@ use Rattle.sim_parser.proofs.BlockTables.{after_class, arm_row, arms_do, arms_ro
 use Rattle.sim_parser.proofs.StatementRows.{after_head, block_at, branch_no_end, branch_row, branch_uncounted, for_at, from_inside, identified_at, if_at, inner_at, inside, inspect_at, nothing_read, operation_begins, operation_stands, too_deep, while_at, activate_at, reactivate_at}
 use Rattle.sim_parser.proofs.StatementShapes.{acted_named, for_reference_shown, for_shown, if_shown, while_shown}
 use Rattle.sim_parser.specs.Elements.{for_list_shown}
-use Rattle.sim_parser.specs.Parsing.{GivesAll, GivesPart, begins, body_row, branch_part, branch_shown, branch_word, for_row, identified_row, if_row, inspect_row, operation_row, activation_row, while_row, GivesDecl, GivesDeclaration, GivesDeclarations, GivesStatements, GivesTyped, ReadsDeclarations, begins_declaration, declared, statement_list, statements_then}
+use Rattle.sim_parser.specs.Parsing.{GivesAll, GivesPart, begins, body_row, connection_row, connection_shown, branch_part, branch_shown, branch_word, for_row, identified_row, if_row, inspect_row, operation_row, activation_row, while_row, GivesDecl, GivesDeclaration, GivesDeclarations, GivesStatements, GivesTyped, ReadsDeclarations, begins_declaration, declared, statement_list, statements_then}
 use Rattle.sim_parser.specs.declared.statement.Branch.TheVariants as branch
 use Rattle.sim_tree.proofs.ShownLemmas.{raise-same, shown-Named, map-append}
 use Rattle.sim_tree.proofs.StatementLemmas.{shown-Block, shown-Empty, shown-PrefixedBlock, shown-Arrays, shown-Class, shown-Class-prefixed, shown-Procedure, shown-Procedure-typed, shown-Variables, shown-block, shown-class, shown-procedure, shown-when}
@@ -525,8 +525,8 @@ inspect_statement-returns-in_err-object u c =
     exit (λ r. GivesAll ws d inspect_row i stmt_shown r) r.result e r.ensures.1
     (along-stops w1 e (once-stops ws d c.in_ok-next.next g.Expression e c.in_err-object.ensures))
 
-pub inspect_statement-returns-in_err-body : goal.inspect_statement-returns-in_err-body
-inspect_statement-returns-in_err-body u c =
+pub inspect_statement-returns-in_err-connection : goal.inspect_statement-returns-in_err-connection
+inspect_statement-returns-in_err-connection u c =
     let ws = c.args.tokens.now in
     let d = c.args.depth in
     let i = c.args.at in
@@ -535,11 +535,11 @@ inspect_statement-returns-in_err-body u c =
     let w2 = past w1 (once c.in_ok-object.ensures.1) in
     let j = c.in_ok-object.next in
     let h = ap (λ z. is z t.Do) (sym c.terminal_at_token.ensures) ∙ made_is _ _ true c.if-eq.ensures in
-    let m0 = opened ws d j g.Arms body_row refl (by_test g.Arms (terminal_at ws j) t.Do body_row h arms_do) w2.within in
-    let e = c.in_err-body.field-0.0 in
-    let r = c.from_residual-in_err-body in
+    let m0 = opened ws d j g.Arms connection_row refl (by_test g.Arms (terminal_at ws j) t.Do connection_row h arms_do) w2.within in
+    let e = c.in_err-connection.field-0.0 in
+    let r = c.from_residual-in_err-connection in
     exit (λ r. GivesAll ws d inspect_row i stmt_shown r) r.result e r.ensures.1
-    (along-stops w2 e (stops-at Once m0 e c.in_err-body.ensures))
+    (along-stops w2 e (stops-at Once m0 e c.in_err-connection.ensures))
 
 pub inspect_statement-returns-in_err-otherwise : goal.inspect_statement-returns-in_err-otherwise
 inspect_statement-returns-in_err-otherwise u c =
@@ -551,8 +551,8 @@ inspect_statement-returns-in_err-otherwise u c =
     let w2 = past w1 (once c.in_ok-object.ensures.1) in
     let j = c.in_ok-object.next in
     let h = ap (λ z. is z t.Do) (sym c.terminal_at_token.ensures) ∙ made_is _ _ true c.if-eq.ensures in
-    let m0 = opened ws d j g.Arms body_row refl (by_test g.Arms (terminal_at ws j) t.Do body_row h arms_do) w2.within in
-    let w3 = past w2 (once (closed-by m0 (node g.Statement (stmt_shown c.in_ok-body.body) done) c.in_ok-body.ensures (node g.Statement (stmt_shown c.in_ok-body.body) done) refl)) in
+    let m0 = opened ws d j g.Arms connection_row refl (by_test g.Arms (terminal_at ws j) t.Do connection_row h arms_do) w2.within in
+    let w3 = past w2 (once (closed-by m0 (connection_shown c.in_ok-connection.connection) c.in_ok-connection.ensures (connection_shown c.in_ok-connection.connection) refl)) in
     let e = c.in_err-otherwise.field-0.0 in
     let r = c.from_residual-in_err-otherwise in
     exit (λ r. GivesAll ws d inspect_row i stmt_shown r) r.result e r.ensures.1
@@ -569,12 +569,13 @@ inspect_statement-returns-then-eq u c =
     let w2 = past w1 (once c.in_ok-object.ensures.1) in
     let j = c.in_ok-object.next in
     let h = ap (λ z. is z t.Do) (sym c.terminal_at_token.ensures) ∙ made_is _ _ true c.if-eq.ensures in
-    let m0 = opened ws d j g.Arms body_row refl (by_test g.Arms (terminal_at ws j) t.Do body_row h arms_do) w2.within in
-    let w3 = past w2 (once (closed-by m0 (node g.Statement (stmt_shown c.in_ok-body.body) done) c.in_ok-body.ensures (node g.Statement (stmt_shown c.in_ok-body.body) done) refl)) in
-    let a = c.in_ok-body-2.body in
+    let m0 = opened ws d j g.Arms connection_row refl (by_test g.Arms (terminal_at ws j) t.Do connection_row h arms_do) w2.within in
+    let w3 = past w2 (once (closed-by m0 (connection_shown c.in_ok-connection.connection) c.in_ok-connection.ensures (connection_shown c.in_ok-connection.connection) refl)) in
+    let a = c.in_ok-body.body in
     let o = c.in_ok-otherwise.otherwise in
     let x = c.in_ok-object.object in
-    left w3 (branch_shown branch.Otherwise o) c.in_ok-otherwise.ensures (stmt_shown (s.Inspect n x a o)) (inspect_shown n x c.in_ok-body.body a o c.in_ok-body-2.ensures.ok)
+    let b = c.in_ok-connection.connection in
+    left w3 (branch_shown branch.Otherwise o) c.in_ok-otherwise.ensures (stmt_shown (s.Inspect n x b.opening a b.end o)) (inspect_shown n x b.opening b.body b.end a o c.in_ok-body.ensures.ok)
 
 pub inspect_statement-returns-in_err-arms : goal.inspect_statement-returns-in_err-arms
 inspect_statement-returns-in_err-arms u c =
@@ -702,18 +703,18 @@ when_arm-returns-in_err-class u c =
     exit (λ r. GivesPart ws d g.WhenArm i when_shown r) r.result e r.ensures.1
     (stops m1 e (c.in_err-class.ensures d))
 
-pub when_arm-returns-in_err-body : goal.when_arm-returns-in_err-body
-when_arm-returns-in_err-body u c =
+pub when_arm-returns-in_err-connection : goal.when_arm-returns-in_err-connection
+when_arm-returns-in_err-connection u c =
     let ws = c.args.tokens.now in
     let d = c.args.depth in
     let i = c.args.at in
     let m0 = opened ws d i g.WhenArm arm_row refl (one_row g.WhenArm (just t.When) arm_row (terminal_at ws i) true refl (just_is _ _ _ c.in_ok-next.ensures.0)) c.requires.within in
     let m1 = to m0 (kept i refl (took_one ws i c.in_ok-next.next k.When refl c.in_ok-next.ensures)) in
     let m2 = to m1 (c.in_ok-class.ensures d) in
-    let e = c.in_err-body.field-0.0 in
-    let r = c.from_residual-in_err-body in
+    let e = c.in_err-connection.field-0.0 in
+    let r = c.from_residual-in_err-connection in
     exit (λ r. GivesPart ws d g.WhenArm i when_shown r) r.result e r.ensures.1
-    (stops-at Once m2 e c.in_err-body.ensures [])
+    (stops-at Once m2 e c.in_err-connection.ensures [])
 
 pub when_arm-returns : goal.when_arm-returns
 when_arm-returns u c =
@@ -724,8 +725,43 @@ when_arm-returns u c =
     let m0 = opened ws d i g.WhenArm arm_row refl (one_row g.WhenArm (just t.When) arm_row (terminal_at ws i) true refl (just_is _ _ _ c.in_ok-next.ensures.0)) c.requires.within in
     let m1 = to m0 (kept n.0 c.token_no-token.ensures (took_one ws i c.in_ok-next.next k.When refl c.in_ok-next.ensures)) in
     let m2 = to m1 (c.in_ok-class.ensures d) in
-    let b = c.in_ok-body.body in
-    closed-by m2 (node g.Statement (stmt_shown b) done) c.in_ok-body.ensures _ (sym (shown-when n c.in_ok-class.class b))
+    let b = c.in_ok-connection.connection in
+    closed-by m2 (connection_shown b) c.in_ok-connection.ensures _ (sym (shown-when n c.in_ok-class.class b.opening b.body b.end))
+
+pub connected_at-returns-in_err-next : goal.connected_at-returns-in_err-next
+connected_at-returns-in_err-next u c =
+    let ws = c.args.tokens.now in
+    let d = c.args.depth in
+    let i = c.args.at in
+    let w0 = along d i connection_row c.requires.within in
+    let e = c.in_err-next.field-0.0 in
+    let r = c.from_residual in
+    exit (λ r. GivesAll ws d connection_row i connection_shown r) r.result e r.ensures.1
+    (along-stops w0 e (kept-stops ws d i (just t.Do) e (just_is _ _ _ c.in_err-next.ensures.0) c.in_err-next.ensures.1))
+
+pub connected_at-returns-in_err-body : goal.connected_at-returns-in_err-body
+connected_at-returns-in_err-body u c =
+    let ws = c.args.tokens.now in
+    let d = c.args.depth in
+    let i = c.args.at in
+    let w0 = along d i connection_row c.requires.within in
+    let w1 = past w0 (kept i refl (took_one ws i c.in_ok-next.next k.Do refl c.in_ok-next.ensures)) in
+    let e = c.in_err-body.field-0.0 in
+    let r = c.from_residual-in_err-body in
+    exit (λ r. GivesAll ws d connection_row i connection_shown r) r.result e r.ensures.1
+    (along-stops w1 e (once-stops ws d c.in_ok-next.next g.Statement e c.in_err-body.ensures))
+
+pub connected_at-returns : goal.connected_at-returns
+connected_at-returns u c =
+    let ws = c.args.tokens.now in
+    let d = c.args.depth in
+    let i = c.args.at in
+    let n = c.token_no-opening.result in
+    let m = c.token_no-end.result in
+    let w0 = along d i connection_row c.requires.within in
+    let w1 = past w0 (kept n.0 c.token_no-opening.ensures (took_one ws i c.in_ok-next.next k.Do refl c.in_ok-next.ensures)) in
+    let w2 = past w1 (once c.in_ok-body.ensures) in
+    all (past w2 (at_place m.0 c.token_no-end.ensures w2.within)) _ refl
 
 pub compound-returns-in_err-next : goal.compound-returns-in_err-next
 compound-returns-in_err-next u c =
@@ -1154,8 +1190,10 @@ procedure-returns u c =
     let h = c.in_ok-heading.heading in
     let b = c.in_ok-body-2.body in
     let front = heading_shown h.parameters.items h.modes.items h.specifications.items in
-    gone (to w2 (once c.in_ok-body.ensures)) _
-    (ap (λ z. identifier x (node g.Heading front (node g.Statement (stmt_shown z) done))) (sym c.in_ok-body-2.ensures.ok) ∙ sym (shown-procedure x h.parameters h.modes h.specifications b))
+    let w3 = to w2 (once c.in_ok-body.ensures) in
+    let n = c.token_no-end.result in
+    gone (to w3 (at_place n.0 c.token_no-end.ensures w3.within)) _
+    (ap (λ z. identifier x (node g.Heading front (node g.Statement (stmt_shown z) (place n.0 done)))) (sym c.in_ok-body-2.ensures.ok) ∙ sym (shown-procedure x h.parameters h.modes h.specifications b n))
 
 pub class-returns-in_err-name : goal.class-returns-in_err-name
 class-returns-in_err-name u c =
@@ -1389,8 +1427,8 @@ when_arms-loop-alloc-smaller u c =
     let p = c.in_ok-arm.ensures in
     omega (arith, part_ahead ws d c.loop-alloc.at c.in_ok-arm.next g.WhenArm _ refl p, p.within)
 
-pub when_arm-body-requires : goal.when_arm-body-requires
-when_arm-body-requires u c =
+pub when_arm-connected_at-requires : goal.when_arm-connected_at-requires
+when_arm-connected_at-requires u c =
     let q = c.in_ok-class.ensures 0 in
     (omega (arith, c.decreases), (c.requires.source, (q.within, c.requires.shallow)))
 

@@ -9,6 +9,9 @@ use Rattle.sim_parser.specs.Recursion.{calls}
 use Rattle.sim_parser.specs.Parsing.{ReadsDeclarations, statement_list, statements_then}
 use Rattle.sim_parser.proofs.statement.+statement.Given as goal
 
+abbrev pub decreases-connected_at : goal.decreases-connected_at
+decreases-connected_at l = calls_left calls l.depth 1
+
 abbrev pub decreases-when_arm : goal.decreases-when_arm
 decreases-when_arm l = calls_left calls l.depth 2
 

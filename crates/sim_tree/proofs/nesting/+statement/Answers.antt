@@ -17,7 +17,7 @@ arms-loop-item-init t c = nests.begins c.args.list.now
 pub arms-loop-item-preserved : goal.arms-loop-item-preserved
 arms-loop-item-preserved t c =
     let x = c.item-item.result in
-    nests.goes_on c.args.list.now c.loop-item.item-index x c.statement.result c.loop-item.deepest c.max-deepest.result c.loop-item-test.true c.item-item.is (nests.along (lemma.shown-when x.token x.class x.body x.end) (nests.nests_leaf (nests.nests_leaf (st.nests_to_its_end x.end.0 c.statement.ensures)))) (omega arith) c.loop-item.invariant
+    nests.goes_on c.args.list.now c.loop-item.item-index x c.statement.result c.loop-item.deepest c.max-deepest.result c.loop-item-test.true c.item-item.is (nests.along (lemma.shown-when x.token x.class x.opening x.body x.end) (nests.nests_leaf (nests.nests_leaf (nests.nests_leaf (st.nests_to_its_end x.end.0 c.statement.ensures))))) (omega arith) c.loop-item.invariant
 
 pub arms-returns : goal.arms-returns
 arms-returns t c = nests.ends c.args.list.now c.loop-item.item-index c.loop-item.deepest c.loop-item-test.false c.loop-item.invariant
