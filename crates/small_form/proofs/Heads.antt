@@ -195,8 +195,8 @@ module _ (names : List (List ℕ)) (lines : List Line) where
   no_stmt-layer (Stmt-F.While i x a) he hc ha = ap (λ z. statement_in names lines (stmt_shown z)) (s.rolls-While i x a) ∙ ap (statement_in names lines) (stmts.shown-While i x a)
   no_stmt-layer (Stmt-F.For i x n v a) he hc ha = ap (λ z. statement_in names lines (stmt_shown z)) (s.rolls-For i x n v a) ∙ ap (statement_in names lines) (stmts.shown-For i x n v a)
   no_stmt-layer (Stmt-F.ForReference i x n v a) he hc ha = ap (λ z. statement_in names lines (stmt_shown z)) (s.rolls-ForReference i x n v a) ∙ ap (statement_in names lines) (stmts.shown-ForReference i x n v a)
-  no_stmt-layer (Stmt-F.Inspect i x a None) he hc ha = ap (λ z. statement_in names lines (stmt_shown z)) (s.rolls-Inspect i x a None) ∙ ap (statement_in names lines) (stmts.shown-Inspect i x a)
-  no_stmt-layer (Stmt-F.Inspect i x a (Some b)) he hc ha = ap (λ z. statement_in names lines (stmt_shown z)) (s.rolls-Inspect i x a (Some b)) ∙ ap (statement_in names lines) (stmts.shown-Inspect-two i x a b)
+  no_stmt-layer (Stmt-F.Inspect i x d a n None) he hc ha = ap (λ z. statement_in names lines (stmt_shown z)) (s.rolls-Inspect i x d a n None) ∙ ap (statement_in names lines) (stmts.shown-Inspect i x d a n)
+  no_stmt-layer (Stmt-F.Inspect i x d a n (Some b)) he hc ha = ap (λ z. statement_in names lines (stmt_shown z)) (s.rolls-Inspect i x d a n (Some b)) ∙ ap (statement_in names lines) (stmts.shown-Inspect-two i x d a n b)
   no_stmt-layer (Stmt-F.InspectWhen i x v None) he hc ha = ap (λ z. statement_in names lines (stmt_shown z)) (s.rolls-InspectWhen i x v None) ∙ ap (statement_in names lines) (stmts.shown-InspectWhen i x v)
   no_stmt-layer (Stmt-F.InspectWhen i x v (Some b)) he hc ha = ap (λ z. statement_in names lines (stmt_shown z)) (s.rolls-InspectWhen i x v (Some b)) ∙ ap (statement_in names lines) (stmts.shown-InspectWhen-two i x v b)
   no_stmt-layer (Stmt-F.Activation i w x t) he hc ha =
