@@ -49,17 +49,3 @@ impl ByteString {
         Ok(ByteString { bytes })
     }
 }
-
-#[cfg(test)]
-mod tests {
-    use super::*;
-    use std::test::Fail;
-
-    #[test]
-    fn copies_hold_the_same_bytes(rt: HostRuntime) -> Result<(), Fail> {
-        let string = ByteString::new(Vec::from_slice(rt.alloc(), b"queue")?);
-        let copy = string.copy(rt.alloc())?;
-        assert_eq!(rt; copy.as_bytes(), b"queue".as_slice());
-        Ok(())
-    }
-}

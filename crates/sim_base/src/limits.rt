@@ -1,5 +1,7 @@
 //! The limits that a run is given.
 
+ghost use Rattle.std.specs.Prelude.{◌≡◌};
+
 /// The limits of a run.
 #[derive(Clone, Copy, Debug, PartialEq, Eq)]
 pub struct Limits {
@@ -21,4 +23,13 @@ impl Limits {
         in_length: 80,
         out_length: 132,
     };
+
+    /// The limits of a run with no options.
+    pub fn without_options() -> Limits
+        ensures storage { result.storage ≡ 4000000 }
+        ensures ticks { result.ticks ≡ 1000000000 }
+        ensures images { (result.in_length ≡ 80) × (result.out_length ≡ 132) }
+    {
+        Limits::DEFAULT
+    }
 }

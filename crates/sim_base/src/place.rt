@@ -20,18 +20,3 @@ pub fn line_of(source: &[u8], place: usize) -> Line
     }
     Line(line)
 }
-
-#[cfg(test)]
-mod tests {
-    use super::*;
-
-    #[test]
-    fn lines_of_places(rt: HostRuntime) {
-        let source = b"begin\n\nend\r\n";
-        let places = [(0, 1), (5, 1), (6, 2), (7, 3), (11, 3), (12, 4)];
-        for (place, line) in places {
-            assert!(rt; place <= source.len());
-            assert_eq!(rt; line_of(source, place), Line(line));
-        }
-    }
-}
