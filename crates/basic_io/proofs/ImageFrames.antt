@@ -42,12 +42,12 @@ written-written frames n at xs ys made room =
     ∙ ap (λ (bs : List ℕ). set frames n (record { bytes = bs; constant = old.constant })) (replaced-replaced old.bytes xs ys at room)
 
 -- characters that fit are written into an image, which stays one at every position in it
-pub IsImage-written : (frames : List Frame) (image : TextVal) (at : ℕ) (xs : List ℕ) (p : ℕ) → IsImage frames image → at + length xs ≤ image.length → 1 ≤ p → p ≤ image.length + 1 → IsImage (written frames image.frame at xs) (at_position image p)
+pub IsImage-written : (frames : List Frame) (image : TextVal) (at : ℕ) (xs : List ℕ) (p : ℕ) → IsImage frames image → at + length xs ≤ image.length → 1 ≤ p → p ≤ image.length + 1 → IsImage (written frames image.text_frame at xs) (at_position image p)
 IsImage-written frames image at xs p h room above within =
-    let here = frame_written frames image.frame at xs h.made in
-    let old : Frame = frame_at frames image.frame in
+    let here = frame_written frames image.text_frame at xs h.made in
+    let old : Frame = frame_at frames image.text_frame in
     record {
-      made = omega (arith, h.made, length-set frames image.frame (record { bytes = replaced old.bytes at xs; constant = old.constant }));
+      made = omega (arith, h.made, length-set frames image.text_frame (record { bytes = replaced old.bytes at xs; constant = old.constant }));
       variable = ap (λ (f : Frame). f.constant) here ∙ h.variable;
       whole = ap (λ (f : Frame). length f.bytes) here ∙ length-replaced old.bytes xs at (omega (arith, h.whole)) ∙ h.whole;
       start = h.start;
@@ -61,7 +61,7 @@ IsImage-written frames image at xs p h room above within =
 pub one_more_written : (frames : List Frame) (image : TextVal) (cs : List ℕ) (k c : ℕ) → IsImage frames image → k < length cs → length cs ≤ image.length → c ≡ get_or cs k 0
     → with_character (with_characters frames image (take k cs)) (at_position image (k + 1)) c ≡ with_characters frames image (take (k + 1) cs)
 one_more_written frames image cs k c h below fits is =
-    let n : ℕ = image.frame in
+    let n : ℕ = image.text_frame in
     let front : List ℕ = take k cs in
     let count : length front ≡ k = length-take-le k cs (omega arith) in
     let none : image.start - 1 ≡ 0 = omega (arith, h.start) in

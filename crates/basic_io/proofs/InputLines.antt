@@ -1,5 +1,5 @@
 -- The line that `inimage` takes from an input of which some bytes are held.
-use Rattle.std.proofs.Common.{◌≡◌, ◌≢◌, inl, inr, ◌==◌, nat_lt, nat_le, ℕ, ◌+◌, ◌<◌, ◌≤◌, Bool, true, false, not, List, [], ◌∷◌, ◌++◌, Option, Some, None, Ok, Err, length, take, drop, refl, sym, ap, ◌∙◌, subst, arith, rules, tests, length-append, length-take}
+use Rattle.std.proofs.Common.{◌≡◌, ◌≢◌, inl, inr, ◌==◌, nat_lt, nat_le, ℕ, ◌+◌, ◌<◌, ◌≤◌, Bool, true, false, not, List, [], ◌∷◌, ◌++◌, Option, Ok, Err, length, take, drop, refl, sym, ap, ◌∙◌, subst, arith, rules, tests, length-append, length-take}
 use Rattle.std.specs.List.{after_first, before_first, list_any, position_or_len, prefix_len}
 use Rattle.std.proofs.lemmas.Bool.{cases_Bool, cases_lt, false≢true}
 use Rattle.std.proofs.lemmas.Bool.Decides.{nat_tests}
@@ -96,33 +96,52 @@ refuses_line s going some long =
 
 -- ---- what the calls of `inimage` make of it
 
+-- a claim follows from another
+pub told_as : {P R : List ℕ → List ℕ → Type 0} (a b : Option (List ℕ)) → Told a b P → ((x y : List ℕ) → P x y → R x y) → Told a b R
+told_as a b p as_r = record {
+  tells = p.tells;
+  claim = λ n left. let x = p.claim n left in (x.0, (x.1.0, as_r x.0 n x.1.1));
+}
+
+-- one call after another
+pub told_then : {P Q R : List ℕ → List ℕ → Type 0} (a b c : Option (List ℕ)) → Told a b P → Told b c Q → ((x y z : List ℕ) → P x y → Q y z → R x z) → Told a c R
+told_then a b c p q join = record {
+  tells = λ some. q.tells (p.tells some);
+  claim = λ n left. let y = q.claim n left in let x = p.claim y.0 y.1.0 in (x.0, (x.1.0, join x.0 y.0 n x.1.1 y.1.1));
+}
+
+-- no call
+pub told_still : {P : List ℕ → List ℕ → Type 0} (a : Option (List ℕ)) → ((x : List ℕ) → P x x) → Told a a P
+told_still a p = record {
+  tells = λ some. some;
+  claim = λ n left. (n, (left, p n));
+}
+
 -- the line is taken
 pub performs_line : (texts new : List Frame) (old now : HeldInput) (h : Held) (source left : Option (List ℕ)) → Told source left (λ b n. left_of h n ≡ left_of old.held b) → old.endfile ≡ false → now.endfile ≡ false
     → holds_line h ≡ true → h.bytes ≢ [] → length (before_first is_line_feed h.bytes) ≤ old.image.length → h.room ≡ old.image.length + 1
     → new ≡ with_characters texts old.image (padded old.image.length (before_first is_line_feed h.bytes)) → now.image ≡ at_position old.image 1
     → now.held.bytes ≡ after_first is_line_feed h.bytes → now.held.ended ≡ h.ended
     → Performs inimage WantsImage (reading texts old source) (reading new now left) (Ok tt)
-performs_line texts new old now h None left told going goes holds some short room wrote moved rest ended = tt
-performs_line texts new old now h (Some b) None told going goes holds some short room wrote moved rest ended = absurd told
-performs_line texts new old now h (Some b) (Some n) told going goes holds some short room wrote moved rest ended =
+performs_line texts new old now h source left told going goes holds some short room wrote moved rest ended =
+    told_as source left told (λ b n same.
     let s : InputState = input_state texts old b in
     let line : List ℕ = before_first is_line_feed h.bytes in
     let split = left_split h now.held n holds (omega arith) rest ended in
-    let more : 0 < length (left_of old.held b) = subst (λ (l : List ℕ). 0 < length l) told (left_some h n some) in
-    let does : inimage s ≡ answers (filled s line false (left_of now.held n)) tt = takes_line s line _ going more (ap (before_first is_line_feed) (sym told) ∙ split.0) short (ap (after_first is_line_feed) (sym told) ∙ split.1) in
-    let same : filled s line false (left_of now.held n) ≡ input_state new now n = rw (wrote, moved, goes) refl in
-    (ap (λ (t : InputStep (Unit {0})). t.answer) does, ap (λ (t : InputStep (Unit {0})). t.after) does ∙ same)
+    let more : 0 < length (left_of old.held b) = subst (λ (l : List ℕ). 0 < length l) same (left_some h n some) in
+    let does : inimage s ≡ answers (filled s line false (left_of now.held n)) tt = takes_line s line _ going more (ap (before_first is_line_feed) (sym same) ∙ split.0) short (ap (after_first is_line_feed) (sym same) ∙ split.1) in
+    let after : filled s line false (left_of now.held n) ≡ input_state new now n = rw (wrote, moved, goes) refl in
+    (ap (λ (t : InputStep (Unit {0})). t.answer) does, ap (λ (t : InputStep (Unit {0})). t.after) does ∙ after))
 
 -- the line is longer than the image, and stays
 pub performs_refusal : (texts : List Frame) (old now : HeldInput) (source left : Option (List ℕ)) → Told source left (λ b n. left_of now.held n ≡ left_of old.held b) → old.endfile ≡ false → now.endfile ≡ false
     → now.held.bytes ≢ [] → old.image.length < length (before_first is_line_feed now.held.bytes) → now.image ≡ old.image
     → Performs inimage WantsImage (reading texts old source) (reading texts now left) (Err (fault.Run InputLineTooLong))
-performs_refusal texts old now None left told going goes some long kept = tt
-performs_refusal texts old now (Some b) None told going goes some long kept = absurd told
-performs_refusal texts old now (Some b) (Some n) told going goes some long kept =
+performs_refusal texts old now source left told going goes some long kept =
+    told_as source left told (λ b n same.
     let s : InputState = input_state texts old b in
-    let more : 0 < length (left_of old.held b) = subst (λ (l : List ℕ). 0 < length l) told (left_some now.held n some) in
-    let longer : old.image.length < length (before_first is_line_feed (left_of old.held b)) = subst (λ (l : List ℕ). old.image.length < length (before_first is_line_feed l)) told (omega (arith, line_grows now.held n)) in
+    let more : 0 < length (left_of old.held b) = subst (λ (l : List ℕ). 0 < length l) same (left_some now.held n some) in
+    let longer : old.image.length < length (before_first is_line_feed (left_of old.held b)) = subst (λ (l : List ℕ). old.image.length < length (before_first is_line_feed l)) same (omega (arith, line_grows now.held n)) in
     let does : inimage s ≡ refuses s InputLineTooLong = refuses_line s going more longer in
-    let same : s ≡ input_state texts now n = cc in
-    (ap (λ (t : InputStep (Unit {0})). t.answer) does, ap (λ (t : InputStep (Unit {0})). t.after) does ∙ same)
+    let stays : s ≡ input_state texts now n = cc in
+    (ap (λ (t : InputStep (Unit {0})). t.answer) does, ap (λ (t : InputStep (Unit {0})). t.after) does ∙ stays))

@@ -1,5 +1,5 @@
 -- What `lastitem` answers, from what its loop has done.
-use Rattle.std.proofs.Common.{◌≡◌, ℕ, suc, ◌+◌, ◌<◌, Bool, true, false, List, [], length, Option, Some, None, Result, Ok, Err, sym, ap, ◌∙◌, subst, arith}
+use Rattle.std.proofs.Common.{◌≡◌, ℕ, suc, ◌+◌, ◌<◌, ◌≤◌, Bool, true, false, ◌||◌, List, [], length, Option, Result, Ok, Err, refl, sym, ap, ◌∙◌, subst, arith}
 use Rattle.std.proofs.lemmas.Bool.Decides.{nat_tests}
 use Rattle.sim_base.specs.declared.run_error.RunError.{RunError}
 use Rattle.sim_values.specs.Texts.{Frame, at_position}
@@ -7,9 +7,12 @@ use Rattle.sim_values.specs.Images.{InputState, InputStep, answers, behind_separ
 use Rattle.sim_values.specs.declared.value.TextVal.{TextVal}
 use Rattle.basic_io.specs.declared.fault.IoFault.{IoFault}
 use Rattle.basic_io.specs.declared.fault.IoFault.TheVariants as fault
-use Rattle.basic_io.specs.Input.{Answers, HeldInput, Performs, Reading, Told, WantsImage, WantsItem, input_state, needs_image, reading}
+use Rattle.basic_io.specs.Input.{Answers, DoneWithin, HeldInput, HoldsItem, Performs, Reading, Told, WantsImage, WantsItem, as_answer, held_after, holds_line, input_state, needs_no_byte, reading}
+use Rattle.basic_io.specs.Input.HoldsItem.{at_end, at_item, at_refusal, over_line}
+use Rattle.std.proofs.lemmas.Bool.{false≢true}
 use Rattle.basic_io.specs.Input.WantsItem.{at_once, behind}
-use Rattle.basic_io.proofs.ItemTurns.{image_falls, item_step, next_item_steady, rank-le}
+use Rattle.basic_io.proofs.InputLines.{told_as, told_then}
+use Rattle.basic_io.proofs.ItemTurns.{image_falls, item_at_end, item_step, next_item_steady, rank-le}
 
 -- `lastitem` comes to this state, and goes on from there
 pub record Leads (s r : InputState) : Type 0 where
@@ -40,17 +43,6 @@ last_goes_on s e u a =
 abbrev pub Led : Reading → Reading → Type 0
 Led old now = Told old.source now.source (λ before after. Leads (input_state old.frames old.input before) (input_state now.frames now.input after))
 
-pub told_as : {P R : List ℕ → List ℕ → Type 0} (a b : Option (List ℕ)) → Told a b P → ((x y : List ℕ) → P x y → R x y) → Told a b R
-told_as None b p as_r = tt
-told_as (Some x) None p as_r = absurd p
-told_as (Some x) (Some y) p as_r = as_r x y p
-
-told_then : {P Q R : List ℕ → List ℕ → Type 0} (a b c : Option (List ℕ)) → Told a b P → Told b c Q → ((x y z : List ℕ) → P x y → Q y z → R x z) → Told a c R
-told_then None b c p q join = tt
-told_then (Some x) None c p q join = absurd p
-told_then (Some x) (Some y) None p q join = absurd q
-told_then (Some x) (Some y) (Some z) p q join = join x y z p q
-
 -- the input with its image moved behind the blanks and tabs
 abbrev pub skipped : List Frame → HeldInput → HeldInput
 skipped frames i = record { image = (behind_separators (input_state frames i [])).image; endfile = i.endfile; held = i.held }
@@ -64,18 +56,50 @@ used_up frames i now y is beyond =
     let past : is_used_up now.image ≡ true = grind (arith, nat_tests) in
     ap (λ (j : HeldInput). is_used_up j.image) (sym is) ∙ past
 
-pub needs_image_then : (frames : List Frame) (i now : HeldInput) → i.endfile ≡ false → now ≡ skipped frames i → now.image.length < now.image.pos → needs_image frames i ≡ false → ⊥
-needs_image_then frames i now e is beyond none =
-    let u = used_up frames i now [] is beyond in
-    let yes : needs_image frames i ≡ true = rw (e, u) in
-    absurd (cc)
+-- What is held is enough, and the image is used up: so the next line is held, and behind it what is held is enough.
+pub line_is_held : (frames : List Frame) (i now : HeldInput) → HoldsItem frames i → i.endfile ≡ false → now ≡ skipped frames i → now.image.length < now.image.pos → needs_no_byte now ≡ true
+line_is_held frames i now holds e is beyond =
+    ap (λ (j : HeldInput). needs_no_byte j) is ∙ ap (λ (b : Bool). b || holds_line i.held) e ∙ held holds
+  where
+    held : HoldsItem frames i → holds_line i.held ≡ true
+    held (at_end end) = absurd (false≢true (sym e ∙ end))
+    held (at_item more) = absurd (false≢true (sym more ∙ used_up frames i now [] is beyond))
+    held (at_refusal line refusal) = line
+    held (over_line line rest) = line
+
+pub holds_next : (frames new : List Frame) (i now next : HeldInput) → HoldsItem frames i → i.endfile ≡ false → now ≡ skipped frames i → now.image.length < now.image.pos → DoneWithin inimage frames now new next (Ok tt) → HoldsItem new next
+holds_next frames new i now next holds e is beyond done = behind holds
+  where
+    r : InputState
+    r = behind_separators (input_state frames i [])
+
+    same : inimage (input_state frames now []) ≡ inimage r
+    same = ap (λ (j : HeldInput). inimage (input_state frames j [])) is
+
+    kept : held_after now (inimage (input_state frames now [])).after ≡ held_after i (inimage r).after
+    kept = ap (λ (step : InputStep (Unit {0})). held_after now step.after) same ∙ ap (λ (j : HeldInput). held_after j (inimage r).after) is
+
+    done_result : Result (Unit {0}) IoFault
+    done_result = Ok tt
+
+    not_both : (x : RunError) → done_result ≡ Err (fault.Run x) → ⊥
+    not_both x e = cc
+
+    behind : HoldsItem frames i → HoldsItem new next
+    behind (at_end end) = absurd (false≢true (sym e ∙ end))
+    behind (at_item more) = absurd (false≢true (sym more ∙ used_up frames i now [] is beyond))
+    behind (at_refusal {e = x} line refusal) =
+        absurd (not_both x (done.0 ∙ ap (λ (step : InputStep (Unit {0})). as_answer step.answer) same ∙ ap as_answer refusal))
+    behind (over_line line rest) =
+        let frames_are : new ≡ (inimage r).after.frames = done.1 ∙ ap (λ (step : InputStep (Unit {0})). step.after.frames) same in
+        subst (λ (n : List Frame). HoldsItem n next) (sym frames_are) (subst (HoldsItem (inimage r).after.frames) (sym (done.2 ∙ kept)) rest)
 
 -- moved twice, an image is moved to the last position
 pub moved_again : (a b c : TextVal) (p : ℕ) → b ≡ at_position a p → c ≡ at_position b c.pos → c ≡ at_position a c.pos
 moved_again a b c p first then = then ∙ ap (λ (t : TextVal). at_position t c.pos) first
 
-as_answer : (step : InputStep (Unit {0})) (q : InputState) → step.answer ≡ Ok tt → step.after ≡ q → step ≡ answers q tt
-as_answer step q a n = λ k. record { after = n k; answer = a k }
+as_answers : (step : InputStep (Unit {0})) (q : InputState) → step.answer ≡ Ok tt → step.after ≡ q → step ≡ answers q tt
+as_answers step q a n = λ k. record { after = n k; answer = a k }
 
 -- one turn of the loop, on to the next image
 pub led_to_next : (old after : Reading) (frames : List Frame) (i now : HeldInput) (source : Option (List ℕ)) → Led old (reading frames i source) → i.endfile ≡ false → now ≡ skipped frames i → now.image.length < now.image.pos → Performs inimage WantsImage (reading frames now source) after (Ok tt) → Led old after
@@ -89,7 +113,7 @@ led_to_next old after frames i now source led e is beyond done =
     let n : (inimage (behind_separators r)).after ≡ input_state after.frames after.input z = ap (λ (q : InputState). (inimage q).after) (sym at) ∙ d.1 in
     record {
       answer = l.answer ∙ last_goes_on r e u a ∙ ap lastitem n;
-      wants = λ q w. l.wants q (behind e u (as_answer _ _ a n) w);
+      wants = λ q w. l.wants q (behind e u (as_answers _ _ a n) w);
     })
 
 -- no image could be had
@@ -108,3 +132,24 @@ led_to_error old after frames i now source x led e is beyond done =
     let q = input_state after.frames after.input c in
     let at : input_state frames now b ≡ behind_separators r = ap (λ (j : HeldInput). input_state frames j b) is in
     stopped (input_state old.frames old.input a) r q x l e (used_up frames i now b is beyond) (subst (λ (m : InputState). Answers (inimage m) (WantsImage m) (Err x) q) at d))
+
+-- an item was found
+pub led_to_item : (old : Reading) (frames : List Frame) (i now : HeldInput) (source : Option (List ℕ)) → Led old (reading frames i source) → i.endfile ≡ false → now ≡ skipped frames i → now.image.pos ≤ now.image.length → Performs lastitem WantsItem old (reading frames now source) (Ok false)
+led_to_item old frames i now source led e is within =
+    told_as old.source source led
+    (λ x y l.
+    let r = input_state frames i y in
+    let at : input_state frames now y ≡ behind_separators r = ap (λ (j : HeldInput). input_state frames j y) is in
+    let here : is_used_up now.image ≡ false = grind (arith, nat_tests) in
+    let u : is_used_up (behind_separators r).image ≡ false = ap (λ (j : HeldInput). is_used_up j.image) (sym is) ∙ here in
+    let all : lastitem (input_state old.frames old.input x) ≡ answers (behind_separators r) false = l.answer ∙ last_step r false _ e u refl in
+    (ap (λ (step : InputStep Bool). step.answer) all, ap (λ (step : InputStep Bool). step.after) all ∙ sym at))
+
+-- the end was met
+pub led_to_end : (old : Reading) (frames : List Frame) (i : HeldInput) (source : Option (List ℕ)) → Led old (reading frames i source) → i.endfile ≡ true → Performs lastitem WantsItem old (reading frames i source) (Ok true)
+led_to_end old frames i source led e =
+    told_as old.source source led
+    (λ x y l.
+    let r = input_state frames i y in
+    let all : lastitem (input_state old.frames old.input x) ≡ answers r true = l.answer ∙ item_at_end (length r.left + 2) r e in
+    (ap (λ (step : InputStep Bool). step.answer) all, ap (λ (step : InputStep Bool). step.after) all))

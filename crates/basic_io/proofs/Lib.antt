@@ -9,3 +9,5 @@ pub mod OutputFields
 pub mod OutputLines
 pub mod OutputPlacing
 pub mod OutputTexts
+pub mod TextReads
+pub mod TextSteps

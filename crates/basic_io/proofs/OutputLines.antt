@@ -8,7 +8,7 @@ use Rattle.std.proofs.KnownBytes.{Appends-trans}
 use Rattle.std.specs.Result.{IsErrAnd}
 use Rattle.sim_values.specs.declared.value.TextVal.{TextVal}
 use Rattle.sim_values.specs.Images.{OutputState}
-use Rattle.sim_values.specs.Texts.{Frame, characters, content_length, frame_at, notext, part, stripped}
+use Rattle.sim_values.specs.Texts.{Frame, characters, content_length, frame_at, notext, part, strip}
 use Rattle.basic_io.specs.declared.fault.IoFault.{IoFault}
 use Rattle.basic_io.specs.declared.fault.IoFault.TheVariants as fault
 use Rattle.basic_io.specs.Image.{IsImage}
@@ -23,21 +23,21 @@ content_within (c ∷ cs) = let rest = content_within cs in grind (arith, nat_te
 part_characters : (frames : List Frame) (image : TextVal) (n : ℕ) → 1 ≤ image.start → n ≤ image.length → characters frames (part image 1 n) ≡ take n (characters frames image)
 part_characters frames image zero start within = refl
 part_characters frames image (suc n) start within =
-    let bytes : List ℕ = (frame_at frames image.frame).bytes in
+    let bytes : List ℕ = (frame_at frames image.text_frame).bytes in
     let first : image.start + 1 - 1 - 1 ≡ image.start - 1 = omega arith in
     let some : (suc n == 0) ≡ false = grind (arith, nat_tests) in
-    ap (λ (none : Bool). characters frames (cond none notext (record { frame = image.frame; start = image.start + 1 - 1; length = suc n; pos = 1 }))) some
+    ap (λ (none : Bool). characters frames (cond none notext (record { text_frame = image.text_frame; start = image.start + 1 - 1; length = suc n; pos = 1 }))) some
     ∙ ap (λ (at : ℕ). take (suc n) (drop at bytes)) first
     ∙ sym (take-take (suc n) image.length (drop (image.start - 1) bytes) within)
 
 -- the characters of an image without trailing blanks
-pub stripped_characters : (frames : List Frame) (image inside content : TextVal) (read : List ℕ) → IsImage frames image → inside ≡ image → content ≡ stripped frames inside → read ≡ characters frames content
+pub stripped_characters : (frames : List Frame) (image inside content : TextVal) (read : List ℕ) → IsImage frames image → inside ≡ image → content ≡ strip frames inside → read ≡ characters frames content
     → read ≡ take (content_length (characters frames image)) (characters frames image)
-stripped_characters frames image inside content read h same strip is =
+stripped_characters frames image inside content read h same part is =
     let cs : List ℕ = characters frames image in
-    let bytes : List ℕ = (frame_at frames image.frame).bytes in
+    let bytes : List ℕ = (frame_at frames image.text_frame).bytes in
     is
-    ∙ ap (λ (t : TextVal). characters frames t) (strip ∙ ap (λ (t : TextVal). stripped frames t) same)
+    ∙ ap (λ (t : TextVal). characters frames t) (part ∙ ap (λ (t : TextVal). strip frames t) same)
     ∙ part_characters frames image (content_length cs) (omega (arith, h.start)) (omega (arith, content_within cs, length-take image.length (drop (image.start - 1) bytes)))
 
 -- a part of the line was written

@@ -19,12 +19,12 @@ pub record Placed (old : List Frame) (image : TextVal) (cs : List ℕ) (count : 
   pub moved : now ≡ at_position image (image.pos + count)
   pub valid : IsImage frames now
   pub keeps : KeepsTexts old frames
-  pub others : SameBut image.frame old frames
+  pub others : SameBut image.text_frame old frames
 
 -- and then one more
 pub placed_one_more : (old : List Frame) (image : TextVal) (cs more : List ℕ) (count c : ℕ) (mid : List Frame) (there : TextVal) (frames : List Frame) (now : TextVal)
     → Placed old image cs count mid there → image.pos + count ≤ image.length → more ≡ cs ++ c ∷ []
-    → frames ≡ with_character mid there c → now ≡ at_position there (there.pos + 1) → KeepsTexts mid frames → SameBut there.frame mid frames
+    → frames ≡ with_character mid there c → now ≡ at_position there (there.pos + 1) → KeepsTexts mid frames → SameBut there.text_frame mid frames
     → Placed old image more (count + 1) frames now
 placed_one_more old image cs more count c mid there frames now so room is wrote moved keeps others =
     let before : OutputState = all_placed (output_state old image) cs in
@@ -36,7 +36,7 @@ placed_one_more old image cs more count c mid there frames now so room is wrote 
       moved = moved ∙ ap (λ (t : TextVal). at_position t (there.pos + 1)) so.moved ∙ ap (at_position image) next;
       valid = IsImage-put mid frames there now c so.valid (omega (arith, ap (λ (t : TextVal). t.pos) so.moved, ap (λ (t : TextVal). t.length) so.moved)) wrote moved;
       keeps = λ t h. keeps t (so.keeps t h);
-      others = λ k other. others k (λ e. other (e ∙ ap (λ (t : TextVal). t.frame) so.moved)) ∙ so.others k other;
+      others = λ k other. others k (λ e. other (e ∙ ap (λ (t : TextVal). t.text_frame) so.moved)) ∙ so.others k other;
     }
 
 -- placing writes nothing

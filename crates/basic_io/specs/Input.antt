@@ -1,9 +1,13 @@
--- Reading an input by images: what is held of it, and what a call may answer.
-use Rattle.std.specs.Prelude.{◌≡◌, ◌≤◌, ℕ, ◌+◌, Bool, true, false, ◌||◌, ◌&&◌, not, nat_le, List, [], ◌++◌, length, Option, Some, None, Result, Ok, Err, if◌then◌else◌}
+-- Reading an input by images. A call has one of three outcomes: it has done what its definition does; it is refused with the
+-- run-time error of its definition, and has left what that leaves; or the source has failed, and all stands where the definition
+-- wants another image. Which bytes are left of the source is said where it tells them; of a source that tells nothing each outcome
+-- holds for some bytes. Nothing is read while a line is held, or the end.
+use Rattle.std.specs.Prelude.{◌≡◌, ◌≢◌, ◌≤◌, ℕ, suc, ◌+◌, Bool, true, false, ◌||◌, nat_le, List, [], ◌++◌, length, Option, Some, None, IsSome, Result, Ok, Err, if◌then◌else◌}
 use Rattle.std.specs.List.{list_any}
 use Rattle.sim_ports.specs.Faults.{Rose}
-use Rattle.sim_values.specs.Images.{InputState, InputStep, answers, behind_separators, inimage, is_line_feed, is_used_up}
-use Rattle.sim_values.specs.Texts.{Frame}
+use Rattle.sim_base.specs.declared.run_error.RunError.{RunError}
+use Rattle.sim_values.specs.Images.{InputState, InputStep, answers, behind_separators, inchar, inimage, is_line_feed, is_used_up, with_frames}
+use Rattle.sim_values.specs.Texts.{Frame, IsText, at_position, frame_at, with_character}
 use Rattle.sim_values.specs.declared.value.TextVal.{TextVal}
 use Rattle.basic_io.specs.declared.fault.IoFault.{IoFault}
 use Rattle.basic_io.specs.declared.fault.IoFault.TheVariants as fault
@@ -35,15 +39,41 @@ left_of h source = if h.ended then h.bytes else h.bytes ++ source
 abbrev pub input_state : List Frame → HeldInput → List ℕ → InputState
 input_state frames i source = record { frames = frames; image = i.image; endfile = i.endfile; left = left_of i.held source }
 
--- `lastitem` comes to the end of the image, and the input has not ended
-abbrev pub needs_image : List Frame → HeldInput → Bool
-needs_image frames i = not i.endfile && is_used_up (behind_separators (input_state frames i [])).image
+-- the answer of a definition as that of a call
+abbrev pub as_answer : {A : Type 0} → Result A RunError → Result A IoFault
+as_answer (Ok a) = Ok a
+as_answer (Err e) = Err (fault.Run e)
 
--- Of bytes that are told this holds, before and after; of others nothing is claimed.
-abbrev pub Told : Option (List ℕ) → Option (List ℕ) → (List ℕ → List ℕ → Type 0) → Type 0
-Told None now claim = Unit {0}
-Told (Some before) None claim = ⊥
-Told (Some before) (Some now) claim = claim before now
+-- an input after a call on the bytes that it holds, of which those are left
+abbrev pub held_after : HeldInput → InputState → HeldInput
+held_after i s = record { image = s.image; endfile = s.endfile; held = record { bytes = s.left; room = i.held.room; ended = i.held.ended } }
+
+-- What is held was enough: the call did what the definition does where no more is left.
+abbrev pub DoneWithin : {A : Type 0} → (InputState → InputStep A) → List Frame → HeldInput → List Frame → HeldInput → Result A IoFault → Type 0
+DoneWithin step frames i new next result =
+    let done = step (input_state frames i []) in
+    (result ≡ as_answer done.answer) × (new ≡ done.after.frames) × (next ≡ held_after i done.after)
+
+-- What is held is enough for `lastitem`: with no byte more it comes to the end, to an item, or over a line that is held to a
+-- refusal or to an image of which the same holds.
+pub data HoldsItem : List Frame → HeldInput → Type 0 where
+  at_end : {frames : List Frame} {i : HeldInput} → i.endfile ≡ true → HoldsItem frames i
+  at_item : {frames : List Frame} {i : HeldInput} → is_used_up (behind_separators (input_state frames i [])).image ≡ false → HoldsItem frames i
+  at_refusal : {frames : List Frame} {i : HeldInput} {e : RunError} → holds_line i.held ≡ true → (inimage (behind_separators (input_state frames i []))).answer ≡ Err e → HoldsItem frames i
+  over_line : {frames : List Frame} {i : HeldInput} → holds_line i.held ≡ true
+      → HoldsItem (inimage (behind_separators (input_state frames i []))).after.frames (held_after i (inimage (behind_separators (input_state frames i []))).after)
+      → HoldsItem frames i
+
+-- These bytes may be left of a source: those that it tells, or any where it tells none.
+abbrev pub MayBeLeft : Option (List ℕ) → List ℕ → Type 0
+MayBeLeft None bytes = Unit {0}
+MayBeLeft (Some told) bytes = told ≡ bytes
+
+-- Of a source before and after a call: whatever may be left of it after the call, there are bytes that may have been left before,
+-- of which the claim holds. So it holds of the bytes that are told, and of some where none are. A source that told goes on to tell.
+pub record Told (old new : Option (List ℕ)) (Claim : List ℕ → List ℕ → Type 0) : Type 0 where
+  pub tells : IsSome old → IsSome new
+  pub claim : (now : List ℕ) → MayBeLeft new now → (before : List ℕ) × (MayBeLeft old before × Claim before now)
 
 -- the texts, the input, and what is left of its source, where that is told
 pub record Reading : Type 0 where
@@ -80,6 +110,19 @@ pub data WantsItem : InputState → InputState → Type 0 where
   at_once : {s : InputState} → s.endfile ≡ false → is_used_up (behind_separators s).image ≡ true → WantsItem s (behind_separators s)
   behind : {s next r : InputState} → s.endfile ≡ false → is_used_up (behind_separators s).image ≡ true
       → inimage (behind_separators s) ≡ answers next tt → WantsItem next r → WantsItem s r
+
+-- `intext` comes to a state in which another image is wanted for one of the next n characters, which go into a text.
+pub data WantsInText : ℕ → TextVal → InputState → InputState → Type 0 where
+  for_next : {n : ℕ} {t : TextVal} {s r : InputState} → WantsCharacter s r → WantsInText (suc n) t s r
+  for_later : {n : ℕ} {t : TextVal} {s q r : InputState} {c : ℕ} → inchar s ≡ answers q c → WantsInText n (at_position t (t.pos + 1)) (with_frames q (with_character q.frames t c)) r
+      → WantsInText (suc n) t s r
+
+-- a text into which characters are read: it is no constant, and lies apart from the image
+pub record IsTarget (frames : List Frame) (image t : TextVal) : Type 0 where
+  pub text : IsText frames t
+  pub some : 1 ≤ t.length
+  pub variable : (frame_at frames t.text_frame).constant ≡ false
+  pub apart : t.text_frame ≢ image.text_frame
 
 -- The count of faults of the source rose exactly where the call answered a fault of the input.
 abbrev pub InputCause : {A : Type 0} → ℕ → ℕ → Result A IoFault → Type 0

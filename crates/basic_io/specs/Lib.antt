@@ -1,3 +1,4 @@
 pub mod Image
 pub mod Input
+pub mod Intext
 pub mod Output

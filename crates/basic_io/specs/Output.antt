@@ -1,4 +1,6 @@
--- Writing an output by images: what a call may answer.
+-- Writing an output by images. A call has one of three outcomes: it has done what its definition does, and the sink got what that
+-- writes; it is refused with a run-time error, and nothing has changed; or the sink has failed, and all stands where the definition
+-- writes an image, of whose line the sink got some first bytes.
 use Rattle.std.specs.Prelude.{◌≡◌, ◌≤◌, ◌<◌, ℕ, ◌+◌, Bool, true, false, nat_lt, List, [], ◌++◌, take, Option, Result, Ok, Err, if◌then◌else◌}
 use Rattle.std.specs.Io.KnownBytes.{Appends}
 use Rattle.sim_ports.specs.Faults.{Rose}

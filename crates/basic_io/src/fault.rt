@@ -2,6 +2,7 @@
 
 use sim_base::RunError;
 use sim_ports::{Failed, WriteFailed};
+use text_objects::TextFault;
 use thiserror::Error;
 
 /// Why a call on an image is refused.
@@ -48,5 +49,38 @@ impl From<WriteFailed> for IoFault {
 
     fn from(_: WriteFailed) -> IoFault {
         IoFault::WriteFault
+    }
+}
+
+/// Why `intext` gave no text.
+#[derive(Clone, Copy, Debug, PartialEq, Eq, Drop, Error)]
+pub enum IntextFault {
+    /// No text was made, and nothing has changed.
+    #[error("{0}")]
+    NoText(TextFault),
+    /// A text was made, and not all of its characters could be read.
+    #[error("{0}")]
+    NotRead(IoFault),
+}
+
+impl From<TextFault> for IntextFault {
+    ghost use Rattle.std.specs.Prelude.{◌≡◌};
+    ghost use Rattle.basic_io.specs.declared.fault.IntextFault.TheVariants.{NoText};
+
+    ghost from_gives = { λ text fault. fault ≡ NoText text };
+
+    fn from(text: TextFault) -> IntextFault {
+        IntextFault::NoText(text)
+    }
+}
+
+impl From<IoFault> for IntextFault {
+    ghost use Rattle.std.specs.Prelude.{◌≡◌};
+    ghost use Rattle.basic_io.specs.declared.fault.IntextFault.TheVariants.{NotRead};
+
+    ghost from_gives = { λ io fault. fault ≡ NotRead io };
+
+    fn from(io: IoFault) -> IntextFault {
+        IntextFault::NotRead(io)
     }
 }

@@ -16,7 +16,7 @@ pub fn fill(texts: &mut Texts, image: &mut TextVal, characters: &[u8]) -> Result
     ensures moved { image.new ≡ at_position image.old 1 }
     ensures valid { IsImage texts.new image.new }
     ensures keeps { KeepsTexts texts.old texts.new }
-    ensures others { SameBut image.old.frame texts.old texts.new }
+    ensures others { SameBut image.old.text_frame texts.old texts.new }
 {
     image.pos = 1;
     for place in 0..image.length as usize {

@@ -1,9 +1,9 @@
 //! The image of an input.
 ghost use Rattle.std.specs.Prelude.{◌≡◌, ◌+◌, ◌≤◌, ◌<◌, ◌∷◌, [], ◌++◌, true, false, length, replicate, IfOk, OnOk, OnErr};
-ghost use Rattle.sim_values.specs.Images.{inchar, inimage, is_used_up};
+ghost use Rattle.sim_values.specs.Images.{inchar, inimage, inimage_if_used_up, is_used_up};
 ghost use Rattle.sim_values.specs.Texts.{KeepsTexts, SameBut, at_position};
 ghost use Rattle.basic_io.specs.Image.{IsImage};
-ghost use Rattle.basic_io.specs.Input.{InputCause, Performs, WantsCharacter, WantsImage, images_left, needs_no_byte, reading};
+ghost use Rattle.basic_io.specs.Input.{DoneWithin, InputCause, Performs, WantsCharacter, WantsImage, images_left, needs_no_byte, reading};
 
 use crate::fault::IoFault;
 use crate::image::fill;
@@ -44,7 +44,7 @@ impl InImage {
     pub fn new(alloc: Global, texts: &mut Texts, count: u16) -> Result<InImage, Memory>
         requires { 1 ≤ count }
         ensures made { IfOk result (λ i. i ≡ record {
-          image = record { frame = length texts.old; start = 1; length = count; pos = count + 1 };
+          image = record { text_frame = length texts.old; start = 1; length = count; pos = count + 1 };
           endfile = false;
           held = record { bytes = []; room = count + 1; ended = false };
         }) }
@@ -93,12 +93,18 @@ impl InImage {
         requires image { IsImage texts.old self.old.image }
         ensures outcome { Performs inimage WantsImage (reading texts.old self.old (I.left input.old)) (reading texts.new self.new (I.left input.new)) result }
         ensures cause { InputCause (I.faults input.old) (I.faults input.new) result }
+
+        // Nothing is read while a line is held, or the end. Where the input fails, no line is.
         ensures unread { needs_no_byte self.old ≡ true → input.new ≡ input.old }
+        ensures within { needs_no_byte self.old ≡ true → DoneWithin inimage texts.old self.old texts.new self.new result }
+        ensures wanted { result ≡ Err IoFault.InputFault → needs_no_byte self.new ≡ false }
+
+        ensures begun { OnOk result (self.new.image.pos ≡ 1) }
         ensures fewer { OnOk result (images_left self.new (I.can_give input.new) < images_left self.old (I.can_give input.old)) }
         ensures valid { IsImage texts.new self.new.image }
         ensures same { self.new.image ≡ at_position self.old.image self.new.image.pos }
         ensures keeps { KeepsTexts texts.old texts.new }
-        ensures others { SameBut self.old.image.frame texts.old texts.new }
+        ensures others { SameBut self.old.image.text_frame texts.old texts.new }
     {
         if self.endfile {
             return Err(IoFault::Run(RunError::InputAtEnd));
@@ -118,6 +124,27 @@ impl InImage {
         Ok(())
     }
 
+    // Another image, where this one is used up.
+    fn next_image<I: Source>(&mut self, texts: &mut Texts, input: &mut I) -> Result<(), IoFault>
+        requires image { IsImage texts.old self.old.image }
+        ensures outcome { Performs inimage_if_used_up WantsCharacter (reading texts.old self.old (I.left input.old)) (reading texts.new self.new (I.left input.new)) result }
+        ensures more { OnOk result (self.new.image.pos ≤ self.new.image.length) }
+        ensures cause { InputCause (I.faults input.old) (I.faults input.new) result }
+        ensures unread { is_used_up self.old.image ≡ false → input.new ≡ input.old }
+        ensures unread_line { needs_no_byte self.old ≡ true → input.new ≡ input.old }
+        ensures wanted { result ≡ Err IoFault.InputFault → needs_no_byte self.new ≡ false }
+        ensures valid { IsImage texts.new self.new.image }
+        ensures same { self.new.image ≡ at_position self.old.image self.new.image.pos }
+        ensures keeps { KeepsTexts texts.old texts.new }
+        ensures others { SameBut self.old.image.text_frame texts.old texts.new }
+    {
+        if self.image.pos > self.image.length {
+            self.inimage(texts, input)
+        } else {
+            Ok(())
+        }
+    }
+
     /// `inchar`: the character at the position, which moves one on; `inimage` first where the image is used up.
     pub fn inchar<I: Source>(&mut self, texts: &mut Texts, input: &mut I) -> Result<u8, IoFault>
         requires image { IsImage texts.old self.old.image }
@@ -125,14 +152,13 @@ impl InImage {
         ensures cause { InputCause (I.faults input.old) (I.faults input.new) result }
         ensures unread { is_used_up self.old.image ≡ false → input.new ≡ input.old }
         ensures unread_line { needs_no_byte self.old ≡ true → input.new ≡ input.old }
+        ensures wanted { result ≡ Err IoFault.InputFault → needs_no_byte self.new ≡ false }
         ensures valid { IsImage texts.new self.new.image }
         ensures same { self.new.image ≡ at_position self.old.image self.new.image.pos }
         ensures keeps { KeepsTexts texts.old texts.new }
-        ensures others { SameBut self.old.image.frame texts.old texts.new }
+        ensures others { SameBut self.old.image.text_frame texts.old texts.new }
     {
-        if self.image.pos > self.image.length {
-            self.inimage(texts, input)?;
-        }
+        self.next_image(texts, input)?;
         Ok(texts.getchar(&mut self.image)?)
     }
 }

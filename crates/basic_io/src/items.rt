@@ -3,7 +3,7 @@ ghost use Rattle.std.specs.Prelude.{◌≡◌, [], false};
 ghost use Rattle.sim_values.specs.Images.{behind_separators, inint, lastitem};
 ghost use Rattle.sim_values.specs.Texts.{KeepsTexts, SameBut, at_position};
 ghost use Rattle.basic_io.specs.Image.{IsImage};
-ghost use Rattle.basic_io.specs.Input.{InputCause, Performs, WantsItem, input_state, needs_image, reading};
+ghost use Rattle.basic_io.specs.Input.{HoldsItem, InputCause, Performs, WantsItem, input_state, needs_no_byte, reading};
 
 use crate::fault::IoFault;
 use crate::in_image::InImage;
@@ -36,11 +36,12 @@ impl InImage {
         requires image { IsImage texts.old self.old.image }
         ensures outcome { Performs lastitem WantsItem (reading texts.old self.old (I.left input.old)) (reading texts.new self.new (I.left input.new)) result }
         ensures cause { InputCause (I.faults input.old) (I.faults input.new) result }
-        ensures unread { needs_image texts.old self.old ≡ false → input.new ≡ input.old }
+        ensures unread { HoldsItem texts.old self.old → input.new ≡ input.old }
+        ensures wanted { result ≡ Err IoFault.InputFault → needs_no_byte self.new ≡ false }
         ensures valid { IsImage texts.new self.new.image }
         ensures same { self.new.image ≡ at_position self.old.image self.new.image.pos }
         ensures keeps { KeepsTexts texts.old texts.new }
-        ensures others { SameBut self.old.image.frame texts.old texts.new }
+        ensures others { SameBut self.old.image.text_frame texts.old texts.new }
     {
         while !self.endfile {
             self.skip_separators(texts);
@@ -58,11 +59,12 @@ impl InImage {
         requires image { IsImage texts.old self.old.image }
         ensures outcome { Performs inint WantsItem (reading texts.old self.old (I.left input.old)) (reading texts.new self.new (I.left input.new)) result }
         ensures cause { InputCause (I.faults input.old) (I.faults input.new) result }
-        ensures unread { needs_image texts.old self.old ≡ false → input.new ≡ input.old }
+        ensures unread { HoldsItem texts.old self.old → input.new ≡ input.old }
+        ensures wanted { result ≡ Err IoFault.InputFault → needs_no_byte self.new ≡ false }
         ensures valid { IsImage texts.new self.new.image }
         ensures same { self.new.image ≡ at_position self.old.image self.new.image.pos }
         ensures keeps { KeepsTexts texts.old texts.new }
-        ensures others { SameBut self.old.image.frame texts.old texts.new }
+        ensures others { SameBut self.old.image.text_frame texts.old texts.new }
     {
         if self.lastitem(texts, input)? {
             return Err(IoFault::Run(RunError::NoItemBeforeEnd));

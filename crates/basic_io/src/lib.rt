@@ -4,13 +4,11 @@
 mod fault;
 mod image;
 mod in_image;
+mod in_text;
 mod items;
 mod line;
 mod out_image;
 
-pub use fault::IoFault;
+pub use fault::{IntextFault, IoFault};
 pub use in_image::InImage;
 pub use out_image::OutImage;
-
-#[cfg(test)]
-mod tests;

@@ -1,6 +1,7 @@
 //! The bytes of an input that are read and not used yet.
-ghost use Rattle.std.specs.Prelude.{◌≡◌, ◌+◌, ◌↔◌, true, false, [], length, IfOk, IsTrue, OnOk, OnErr};
+ghost use Rattle.std.specs.Prelude.{◌≡◌, ◌+◌, ◌<◌, ◌↔◌, if◌then◌else◌, true, false, [], length, IfOk, IsTrue, OnOk, OnErr};
 ghost use Rattle.std.specs.List.{after_first, before_first};
+ghost use Rattle.std.specs.Io.KnownBytes.{Keeps};
 ghost use Rattle.sim_ports.specs.Faults.{HasCause};
 ghost use Rattle.sim_values.specs.Images.{is_line_feed};
 ghost use Rattle.basic_io.specs.Input.{Told, holds_line, left_of};
@@ -62,9 +63,30 @@ impl LineBuffer {
         self.ended || self.count == self.bytes.len() || self.held().contains(&b'\n')
     }
 
-    /// Reads until the next line is held, or as much of it as there is room for.
+    /// Reads one piece of the source, behind the bytes that are held. It is the only read of an input, and is never made while a
+    /// line is held, or the end.
+    fn read_piece<I: Source>(&mut self, input: &mut I) -> Result<(), Failed>
+        requires no_line { holds_line self.old ≡ false }
+        ensures err { OnErr result (self.new ≡ self.old) }
+        ensures err_left { OnErr result (Keeps (I.left input.old) (I.left input.new)) }
+        ensures room { self.new.room ≡ self.old.room }
+        ensures left { OnOk result (Told (I.left input.old) (I.left input.new) (λ before now. left_of self.new now ≡ left_of self.old before)) }
+        ensures gives { length self.new.bytes + I.can_give input.new ≡ length self.old.bytes + I.can_give input.old }
+        ensures falls { OnOk result (I.can_give input.new + (if self.new.ended then 0 else 1) < I.can_give input.old + 1) }
+        ensures cause { HasCause (I.faults input.old) (I.faults input.new) result }
+        ensures steady { OnOk result (I.faults input.new ≡ I.faults input.old) }
+    {
+        let held = self.count;
+        let count = input.read(&mut self.bytes[held..])?;
+        self.count = held + count;
+        self.ended = count == 0;
+        Ok(())
+    }
+
+    /// Reads until the next line is held, or as much of it as there is room for. Where the source fails no line is held yet.
     pub fn read_line<I: Source>(&mut self, input: &mut I) -> Result<(), Failed>
         ensures held { OnOk result (holds_line self.new ≡ true) }
+        ensures wanted { OnErr result (holds_line self.new ≡ false) }
         ensures room { self.new.room ≡ self.old.room }
         ensures left { Told (I.left input.old) (I.left input.new) (λ before now. left_of self.new now ≡ left_of self.old before) }
         ensures gives { length self.new.bytes + I.can_give input.new ≡ length self.old.bytes + I.can_give input.old }
@@ -73,10 +95,7 @@ impl LineBuffer {
         ensures steady { OnOk result (I.faults input.new ≡ I.faults input.old) }
     {
         while !self.holds_line() {
-            let held = self.count;
-            let count = input.read(&mut self.bytes[held..])?;
-            self.count = held + count;
-            self.ended = count == 0;
+            self.read_piece(input)?;
         }
         Ok(())
     }

@@ -33,7 +33,7 @@ impl OutImage {
     /// An image of blanks, at position 1.
     pub fn new(texts: &mut Texts, count: u16) -> Result<OutImage, Memory>
         requires { 1 ≤ count }
-        ensures made { IfOk result (λ o. o ≡ record { frame = length texts.old; start = 1; length = count; pos = 1 }) }
+        ensures made { IfOk result (λ o. o ≡ record { text_frame = length texts.old; start = 1; length = count; pos = 1 }) }
         ensures ok { OnOk result (texts.new ≡ texts.old ++ (record { bytes = replicate count 32; constant = false }) ∷ []) }
         ensures err { OnErr result (texts.new ≡ texts.old) }
         ensures valid { IfOk result (IsImage texts.new) }
@@ -68,7 +68,7 @@ impl OutImage {
         ensures valid { IsImage texts.new self.new }
         ensures same { self.new ≡ at_position self.old self.new.pos }
         ensures keeps { KeepsTexts texts.old texts.new }
-        ensures others { SameBut self.old.frame texts.old texts.new }
+        ensures others { SameBut self.old.text_frame texts.old texts.new }
     {
         let content = texts.strip(self.image);
         write_all(out, texts.characters(content))?;
@@ -86,7 +86,7 @@ impl OutImage {
         ensures valid { IsImage texts.new self.new }
         ensures same { self.new ≡ at_position self.old self.new.pos }
         ensures keeps { KeepsTexts texts.old texts.new }
-        ensures others { SameBut self.old.frame texts.old texts.new }
+        ensures others { SameBut self.old.text_frame texts.old texts.new }
     {
         if self.image.pos > self.image.length {
             self.outimage(texts, out)?;
@@ -109,7 +109,7 @@ impl OutImage {
         ensures valid { IsImage texts.new self.new }
         ensures same { self.new ≡ at_position self.old self.new.pos }
         ensures keeps { KeepsTexts texts.old texts.new }
-        ensures others { SameBut self.old.frame texts.old texts.new }
+        ensures others { SameBut self.old.text_frame texts.old texts.new }
     {
         if u64::from(self.image.pos) + u64::from(count) > u64::from(self.image.length) + 1 {
             self.outimage(texts, out)?;
@@ -133,7 +133,7 @@ impl OutImage {
         ensures valid { IsImage texts.new self.new }
         ensures same { self.new ≡ at_position self.old self.new.pos }
         ensures keeps { KeepsTexts texts.old texts.new }
-        ensures others { SameBut self.old.frame texts.old texts.new }
+        ensures others { SameBut self.old.text_frame texts.old texts.new }
     {
         if self.image.pos > 1 {
             self.make_room(texts, out, t.length)?;
@@ -155,7 +155,7 @@ impl OutImage {
         ensures moved { self.new ≡ at_position self.old (self.old.pos + length characters.now) }
         ensures valid { IsImage texts.new self.new }
         ensures keeps { KeepsTexts texts.old texts.new }
-        ensures others { SameBut self.old.frame texts.old texts.new }
+        ensures others { SameBut self.old.text_frame texts.old texts.new }
     {
         for character in characters {
             texts.putchar(&mut self.image, *character)?;
@@ -173,7 +173,7 @@ impl OutImage {
         ensures moved { self.new ≡ at_position self.old (self.old.pos + count) }
         ensures valid { IsImage texts.new self.new }
         ensures keeps { KeepsTexts texts.old texts.new }
-        ensures others { SameBut self.old.frame texts.old texts.new }
+        ensures others { SameBut self.old.text_frame texts.old texts.new }
     {
         for _ in 0..count {
             texts.putchar(&mut self.image, character)?;
@@ -198,7 +198,7 @@ impl OutImage {
         ensures valid { IsImage texts.new self.new }
         ensures same { self.new ≡ at_position self.old self.new.pos }
         ensures keeps { KeepsTexts texts.old texts.new }
-        ensures others { SameBut self.old.frame texts.old texts.new }
+        ensures others { SameBut self.old.text_frame texts.old texts.new }
     {
         let mut buffer = itoa::Buffer::new();
         let digits = buffer.format(i).as_bytes();
@@ -228,7 +228,7 @@ impl OutImage {
         ensures valid { IsImage texts.new self.new }
         ensures same { self.new ≡ at_position self.old self.new.pos }
         ensures keeps { KeepsTexts texts.old texts.new }
-        ensures others { SameBut self.old.frame texts.old texts.new }
+        ensures others { SameBut self.old.text_frame texts.old texts.new }
     {
         if digits.len() > places as usize {
             return self.put_repeated(texts, b'*', places);

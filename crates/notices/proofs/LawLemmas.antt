@@ -19,17 +19,17 @@ not_of x l =
     All-weaker (λ m. not (is_of x m) ≡ true) (λ m. is_of x m ≡ false) (λ m e. not-true _ e) (removed x l)
     (filter_passes (λ m. not (is_of x m)) l)
 
-pub before_first-placed : (front back : List Notice) (n : Notice) → before_first (is_of n.process) (placed_between front n back) ≡ removed n.process front
+pub before_first-placed : (front back : List Notice) (n : Notice) → before_first (is_of n.process.0) (placed_between front n back) ≡ removed n.process.0 front
 before_first-placed front back n =
-    before_first-append (is_of n.process) (removed n.process front) (removed n.process back) n (not_of n.process front) (eq-eqb _ _ refl)
+    before_first-append (is_of n.process.0) (removed n.process.0 front) (removed n.process.0 back) n (not_of n.process.0 front) (eq-eqb _ _ refl)
 
-pub after_first-placed : (front back : List Notice) (n : Notice) → after_first (is_of n.process) (placed_between front n back) ≡ removed n.process back
+pub after_first-placed : (front back : List Notice) (n : Notice) → after_first (is_of n.process.0) (placed_between front n back) ≡ removed n.process.0 back
 after_first-placed front back n =
-    after_first-append (is_of n.process) (removed n.process front) (removed n.process back) n (not_of n.process front) (eq-eqb _ _ refl)
+    after_first-append (is_of n.process.0) (removed n.process.0 front) (removed n.process.0 back) n (not_of n.process.0 front) (eq-eqb _ _ refl)
 
 pub later_behind : (l : List Notice) (x : ℕ) (t : ℤ) → All (λ m. t <ℤ m.time) (after_first (is_of x) (placed_at t false x l))
 later_behind l x t =
-    let n : Notice = record { time = t; process = x } in
+    let n : Notice = record { time = t; process = record { 0 = x } } in
     let later : All (λ m. t <ℤ m.time) (filter (is_later_than t) l) =
     All-weaker (λ m. is_later_than t m ≡ true) (λ m. t <ℤ m.time) (λ m e. grind (arith, ints)) (filter (is_later_than t) l) (filter_passes (is_later_than t) l) in
     subst (λ k. All (λ m. t <ℤ m.time) k) (sym (after_first-placed (filter (is_at_most t) l) (filter (is_later_than t) l) n))
@@ -37,7 +37,7 @@ later_behind l x t =
 
 pub earlier_in_front : (l : List Notice) (x : ℕ) (t : ℤ) → All (λ m. m.time <ℤ t) (before_first (is_of x) (placed_at t true x l))
 earlier_in_front l x t =
-    let n : Notice = record { time = t; process = x } in
+    let n : Notice = record { time = t; process = record { 0 = x } } in
     let earlier : All (λ m. m.time <ℤ t) (filter (is_earlier_than t) l) =
     All-weaker (λ m. is_earlier_than t m ≡ true) (λ m. m.time <ℤ t) (λ m e. grind (arith, ints)) (filter (is_earlier_than t) l) (filter_passes (is_earlier_than t) l) in
     subst (λ k. All (λ m. m.time <ℤ t) k) (sym (before_first-placed (filter (is_earlier_than t) l) (filter (is_at_least t) l) n))
@@ -45,7 +45,7 @@ earlier_in_front l x t =
 
 pub direct_as_prior : (n : Notice) (l : List Notice) (x : ℕ) → IsOrdered (n ∷ l) → placed_direct x (n ∷ l) ≡ placed_at n.time true x (n ∷ l)
 direct_as_prior n l x ordered =
-    let m : Notice = record { time = n.time; process = x } in
+    let m : Notice = record { time = n.time; process = record { 0 = x } } in
     let no_later : All (NoLater n) (n ∷ l) = All-cons (NoLater n) n l (same n.time) (AllPairs-head NoLater n l ordered) in
     let none : filter (is_earlier_than n.time) (n ∷ l) ≡ [] =
     filter-none (is_earlier_than n.time) (n ∷ l)
@@ -69,9 +69,9 @@ direct_as_prior n l x ordered =
 removed-removed : (x : ℕ) (l : List Notice) → removed x (removed x l) ≡ removed x l
 removed-removed x l = filter-all (λ m. not (is_of x m)) (removed x l) (filter_passes (λ m. not (is_of x m)) l)
 
-pub removed-placed : (front back l : List Notice) (n : Notice) → front ++ back ≡ l → removed n.process (placed_between front n back) ≡ removed n.process l
+pub removed-placed : (front back l : List Notice) (n : Notice) → front ++ back ≡ l → removed n.process.0 (placed_between front n back) ≡ removed n.process.0 l
 removed-placed front back l n parts =
-    let x = n.process in
+    let x = n.process.0 in
     let keep : Notice → Bool = λ m. not (is_of x m) in
     filter-append keep (removed x front) (n ∷ removed x back)
     ∙ ap (λ k. removed x (removed x front) ++ k) (filter-cons_no keep n (removed x back) (not_from_true _ (eq-eqb _ _ refl)))
@@ -81,11 +81,11 @@ removed-placed front back l n parts =
 
 pub removed-placed_at : (l : List Notice) (x : ℕ) (t : ℤ) (prior : Bool) → IsOrdered l → removed x (placed_at t prior x l) ≡ removed x l
 removed-placed_at l x t prior ordered =
-    removed-placed (front_at t prior l) (back_at t prior l) l (record { time = t; process = x }) (front_at-back_at t prior l ordered)
+    removed-placed (front_at t prior l) (back_at t prior l) l (record { time = t; process = record { 0 = x } }) (front_at-back_at t prior l ordered)
 
 pub removed-placed_direct : (l : List Notice) (x : ℕ) → removed x (placed_direct x l) ≡ removed x l
 removed-placed_direct [] x = refl
-removed-placed_direct (n ∷ l) x = removed-placed [] (n ∷ l) (n ∷ l) (record { time = n.time; process = x }) refl
+removed-placed_direct (n ∷ l) x = removed-placed [] (n ∷ l) (n ∷ l) (record { time = n.time; process = record { 0 = x } }) refl
 
 pub removed-placed_near : (l : List Notice) (x y : ℕ) (before : Bool) → removed x (placed_near before y x l) ≡ removed x l
 removed-placed_near l x y before = by_test (eqb y x) x l (placed_beside before (notice_of y l) x l) (beside before (notice_of y l) y x l refl)
@@ -97,7 +97,7 @@ removed-placed_near l x y before = by_test (eqb y x) x l (placed_beside before (
     beside : (before : Bool) (o : Option Notice) (y x : ℕ) (l : List Notice) → notice_of y l ≡ o → removed x (placed_beside before o x l) ≡ removed x l
     beside before None y x l found = removed-removed x l
     beside true (Some m) y x l found =
-        removed-placed (before_first (is_of m.process) l) (m ∷ after_first (is_of m.process) l) l (record { time = m.time; process = x }) (notice_parts y l m found)
+        removed-placed (before_first (is_of m.process.0) l) (m ∷ after_first (is_of m.process.0) l) l (record { time = m.time; process = record { 0 = x } }) (notice_parts y l m found)
     beside false (Some m) y x l found =
-        removed-placed (before_first (is_of m.process) l ++ m ∷ []) (after_first (is_of m.process) l) l (record { time = m.time; process = x })
-        (append_assoc (before_first (is_of m.process) l) (m ∷ []) (after_first (is_of m.process) l) ∙ notice_parts y l m found)
+        removed-placed (before_first (is_of m.process.0) l ++ m ∷ []) (after_first (is_of m.process.0) l) l (record { time = m.time; process = record { 0 = x } })
+        (append_assoc (before_first (is_of m.process.0) l) (m ∷ []) (after_first (is_of m.process.0) l) ∙ notice_parts y l m found)

@@ -9,10 +9,10 @@ IsOrdered l = AllPairs (λ m n. m.time ≤ℤ n.time) l
 
 -- each process has at most one notice
 abbrev pub IsOnce : List Notice → Type 0
-IsOnce l = AllPairs (λ m n. m.process ≢ n.process) l
+IsOnce l = AllPairs (λ m n. m.process.0 ≢ n.process.0) l
 
 -- ordered by time, each process at most once, and each process below the room
 pub record IsSchedule (l : List Notice) (room : ℕ) : Type 0 where
   pub ordered : IsOrdered l
   pub once : IsOnce l
-  pub within : All (λ n. n.process < room) l
+  pub within : All (λ n. n.process.0 < room) l

@@ -1,7 +1,10 @@
 //! Laws of the definitions that the contracts cite.
-ghost use Rattle.std.specs.Prelude.{◌≡◌, ℕ, ℤ, Bool, true, false, ◌<◌, ◌<ℤ◌, List, ◌∷◌};
+ghost use Rattle.std.specs.Prelude.{◌≡◌, ℕ, ℤ, pos, Bool, true, false, ◌<◌, ◌<ℤ◌, List, [], ◌∷◌, Ok, Err};
 ghost use Rattle.std.specs.List.{All, before_first, after_first};
+ghost use Rattle.sim_base.specs.declared.run_error.RunError.TheVariants.{NoNoticeLeft, TimeTooLarge};
 ghost use Rattle.notices.specs.declared.notice.Notice.{Notice};
+ghost use Rattle.notices.specs.declared.activation.Placement.TheVariants.{At, Delay, Before};
+ghost use Rattle.notices.specs.Runs.{currents_of, activation, process, Hold, Passivate};
 ghost use Rattle.notices.specs.Notices.{is_of, removed, placed_at, placed_direct, placed_near};
 ghost use Rattle.notices.specs.Schedule.{IsOrdered, IsSchedule};
 
@@ -40,4 +43,15 @@ pub fn others_keep_their_order()
         IsOrdered l → removed x (placed_at t prior x l) ≡ removed x l }
     ensures direct { (l : List Notice) (x : ℕ) → removed x (placed_direct x l) ≡ removed x l }
     ensures near { (l : List Notice) (x y : ℕ) (before : Bool) → removed x (placed_near before y x l) ≡ removed x l }
+{}
+
+/// Small schedules, as who is current, and when, after each of their calls.
+pub fn worked_schedules()
+    // Three processes at time 5, the last of them `prior`, each of which holds 0 once; then the second one is put before the third.
+    ensures equal_times { currents_of (activation false 1 (At (pos 5) false) ∷ activation false 2 (At (pos 5) false) ∷ activation false 3 (At (pos 5) true) ∷ Hold (pos 5) ∷ Hold (pos 0) ∷ Hold (pos 0) ∷ Hold (pos 0) ∷ activation true 2 (Before (process 3)) ∷ Hold (pos 0) ∷ Passivate ∷ [])
+        ≡ Ok (pos 0, 0) ∷ Ok (pos 0, 0) ∷ Ok (pos 0, 0) ∷ Ok (pos 0, 0) ∷ Ok (pos 5, 3) ∷ Ok (pos 5, 1) ∷ Ok (pos 5, 2) ∷ Ok (pos 5, 0) ∷ Ok (pos 5, 0) ∷ Ok (pos 5, 2) ∷ Ok (pos 5, 3) ∷ [] }
+    // The new place is found while the old notice of the main program still stands.
+    ensures old_notice_stands { currents_of (activation false 1 (At (pos 9) false) ∷ activation true 0 (Delay (pos 2) false) ∷ []) ≡ Ok (pos 0, 0) ∷ Ok (pos 0, 0) ∷ Ok (pos 2, 0) ∷ [] }
+    ensures no_notice_left { currents_of (Passivate ∷ []) ≡ Ok (pos 0, 0) ∷ Err NoNoticeLeft ∷ [] }
+    ensures time_too_large { currents_of (Hold (pos 9223372036854775807) ∷ Hold (pos 1) ∷ []) ≡ Ok (pos 0, 0) ∷ Ok (pos 9223372036854775807, 0) ∷ Err TimeTooLarge ∷ [] }
 {}

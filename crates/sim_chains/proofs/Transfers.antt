@@ -1,143 +1,123 @@
 -- What the transfers of control give where they are not refused.
-use Rattle.std.proofs.Common.{◌≡◌, ℕ, Bool, true, false, List, [], ◌∷◌, ◌++◌, Option, Some, None, Result, Ok, Err, refl, sym, ap, ◌∙◌, if◌then◌else◌}
-use Rattle.std.proofs.lemmas.Bool.{eqb-true}
-use Rattle.std.proofs.lemmas.List.{append_assoc}
-use Rattle.std.specs.Prelude.{◌==◌}
-use Rattle.sim_base.specs.declared.run_error.RunError.{RunError}
-use Rattle.sim_chains.specs.Chains.{Cut, cut_at, joined, outermost, stands_on}
-use Rattle.sim_chains.specs.Components.{Components, call, call_in, detach, detach_at, detach_in, finish, finish_in, kept, keeping, left_by, main_at, main_in, replaced, resume, resume_at, resume_in, resume_main, with_chain, with_main, with_operating, with_state}
-use Rattle.sim_chains.specs.declared.state.State.{State}
-use Rattle.sim_chains.specs.declared.state.State.TheVariants.{Attached, Detached, Resumed, Terminated}
-use Rattle.sim_chains.proofs.Cuts.{cuts, joins, same}
+use Rattle.std.proofs.Common.{◌≡◌, ◌≢◌, ◌<◌, ◌≤◌, ℕ, zero, suc, false, List, [], ◌∷◌, ◌++◌, Option, Some, None, Ok, refl, sym, ap, ◌∙◌, subst, arith, length, inl, inr}
+use Rattle.std.specs.Prelude.{slice_set}
+use Rattle.std.proofs.lemmas.Bool.{cases_lt}
+use Rattle.std.proofs.lemmas.List.{set-get_or, set-set, length-set}
+use Rattle.sim_chains.specs.Chains.{Cut, cut_at, joined, outermost, stands_on, times_on}
+use Rattle.sim_chains.specs.Components.{Standing, NoObject, AttachedObject, DetachedObject, ResumedObject, TerminatedObject, Components, standing_of, with_operating, with_standing, kept, kept_by, resume, resume_by, resume_at, resume_main, main_by, main_at, returned, dropped, finish, finish_by}
+use Rattle.sim_chains.specs.WellFormed.{chain_in, over_kept, IsWellFormed}
+use Rattle.sim_chains.proofs.Cuts.{cut_is, cuts}
+use Rattle.sim_chains.proofs.Counts.{at, is_set, kept-set}
+use Rattle.sim_chains.proofs.Keeps.{differ, directly, entered_one, kept_object, parted, to_set}
+use Rattle.sim_chains.proofs.Refused.{free_times, no_ok, ok_is}
 
-ok_is : {a b : Components} (r : Result Components RunError) → r ≡ Ok a → r ≡ Ok b → a ≡ b
-ok_is r first second = cc
+module _ {A : Type 0} where
+  -- two standings are set in either order
+  set_swap : (l : List (Standing A)) (i j : ℕ) (s t : Standing A) → i ≢ j → slice_set (slice_set l i s) j t ≡ slice_set (slice_set l j t) i s
+  set_swap [] i j s t apart = refl
+  set_swap (r ∷ l) zero zero s t apart = absurd (apart refl)
+  set_swap (r ∷ l) zero (suc j) s t apart = refl
+  set_swap (r ∷ l) (suc i) zero s t apart = refl
+  set_swap (r ∷ l) (suc i) (suc j) s t apart = ap (λ (m : List (Standing A)). r ∷ m) (set_swap l i j s t (λ e. apart (ap (λ (n : ℕ). suc n) e)))
 
-no_ok : {c : Components} {e : RunError} → Err e ≡ Ok c → ⊥
-no_ok e = cc
+  -- a standing that is set to what it was
+  set_same : (l : List (Standing A)) (i : ℕ) (s : Standing A) → at l i ≡ s → slice_set l i s ≡ l
+  set_same l i s is = ap (slice_set l i) (sym is) ∙ set-get_or l i (NoObject None)
 
--- a value that was set is the one that is found
-found : {A : Type 0} (x : ℕ) (a b : A) → (if x == x then a else b) ≡ a
-found x a b = ap (λ (t : Bool). if t then a else b) (same x)
+  -- the chain that one instance keeps is among all
+  chain_le : (f : List A → ℕ) (l : List (Standing A)) (i : ℕ) (chain : List A) → f [] ≡ 0 → i < length l → at l i ≡ DetachedObject chain → f chain ≤ over_kept f l
+  chain_le f l i chain none h is = omega (arith, none, kept-set f l i (NoObject None) h, ap (λ (s : Standing A). f (chain_in s)) is)
 
--- and at another place the old one is
-passed : {A : Type 0} (x y : ℕ) (a b : A) → (y ≡ x → ⊥) → (if y == x then a else b) ≡ b
-passed x y a b other = go (y == x) refl
-  where
-    go : (t : Bool) → (y == x) ≡ t → (if t then a else b) ≡ b
-    go true t = absurd (other (eqb-true y x t))
-    go false t = refl
+module _ {A : Type 0} (owner : A → Option ℕ) (head : ℕ → ℕ) where
+  resumed_to : Components A → ℕ → List A → Cut A → Components A
+  resumed_to c y chain k = with_standing y ResumedObject (with_operating (chain ++ k.here ∷ k.below) (kept owner (head y) k.above c))
 
-pub last_is : (above : List ℕ) (x : ℕ) → outermost (above ++ x ∷ []) ≡ x
-last_is [] x = refl
-last_is (y ∷ []) x = refl
-last_is (y ∷ z ∷ zs) x = last_is (z ∷ zs) x
+  -- a resumption that is not refused cuts the chain at the head
+  pub resume_cut : (c after : Components A) (y : ℕ) (chain : List A) → standing_of c y ≡ DetachedObject chain → resume owner head c (Some y) ≡ Ok after
+      → (k : Cut A) × (cut_at owner (head y) c.operating ≡ Some k) × (with_standing y ResumedObject (with_operating (chain ++ k.here ∷ k.below) (kept owner (head y) k.above c)) ≡ after)
+  resume_cut c after y chain is e = go (cut_at owner (head y) c.operating) refl (sym (ap (λ (s : Standing A). resume_by owner s c (head y) y) is) ∙ e)
+    where
+      go : (o : Option (Cut A)) → cut_at owner (head y) c.operating ≡ o → resume_at owner o chain c (head y) y ≡ Ok after
+          → (k : Cut A) × (cut_at owner (head y) c.operating ≡ Some k) × (with_standing y ResumedObject (with_operating (chain ++ k.here ∷ k.below) (kept owner (head y) k.above c)) ≡ after)
+      go None cut e = absurd (no_ok owner e)
+      go (Some k) cut e = (k, cut, ok_is owner e)
 
-called_state : (c d : Components) (y : ℕ) → call c (Some y) ≡ Ok d → c.state y ≡ Some Detached
-called_state c d y e = go (c.state y) refl e
-  where
-    go : (s : Option State) → c.state y ≡ s → call_in s c y ≡ Ok d → c.state y ≡ Some Detached
-    go (Some Detached) is e = is
-    go (Some Attached) is e = absurd (no_ok e)
-    go (Some Terminated) is e = absurd (no_ok e)
-    go (Some Resumed) is e = absurd (no_ok e)
-    go None is e = absurd (no_ok e)
+  pub resume_back : (c resumed after : Components A) (y : ℕ) (chain : List A) → IsWellFormed owner head c → standing_of c y ≡ DetachedObject chain → standing_of c (head y) ≡ NoObject None
+      → resume owner head c (Some y) ≡ Ok resumed → resume_main owner resumed (head y) ≡ Ok after → after ≡ c
+  resume_back c resumed after y chain w is at_s resumes back =
+      let s : ℕ = head y in
+      let found = resume_cut c resumed y chain is resumes in
+      let k : Cut A = found.0 in
+      let cut = cut_is owner s c.operating k found.1 in
+      let parts = parted owner head s c.operating k cut in
+      let hy : y < length c.standings = entered_one c.standings y (DetachedObject chain) is (λ e. cc) in
+      let once = w.once s in
+      let hs : s < length c.standings = elim (cases_lt s (length c.standings)) [ inl h ↦ h | inr h ↦ absurd (let none = w.made s h in omega (arith, none, parts.times s, parts.here_itself)) ] in
+      let apart : s ≢ y = differ c.standings s y _ _ at_s is (λ e. cc) in
+      let free : stands_on owner s chain ≡ false =
+      free_times owner s chain (omega (arith, once, parts.times s, parts.here_itself, chain_le (times_on owner s) c.standings y chain refl hy is)) in
+      let t : Standing A = NoObject (Some k.above) in
+      let mid : List (Standing A) = slice_set c.standings s t in
+      let hy2 : y < length mid = subst (λ n. y < n) (sym (length-set c.standings s t)) hy in
+      let l : List A = chain ++ k.here ∷ k.below in
+      let d : Components A = record { operating = l; standings = slice_set mid y ResumedObject } in
+      let d_is : d ≡ resumed = ap (λ (z : Components A). with_standing y ResumedObject (with_operating l z)) (sym (ap (λ (r : Standing A). kept_by owner r s k.above c) at_s)) ∙ found.2 in
+      let waits : standing_of d s ≡ t = to_set mid y ResumedObject s t hy2 apart ((is_set c.standings s t hs).here) in
+      let again : Cut A = record { above = chain; here = k.here; below = k.below } in
+      let m : Components A = with_standing s (NoObject None) (with_operating (k.above ++ k.here ∷ k.below) (with_standing y (DetachedObject chain) d)) in
+      let given : resume_main owner d s ≡ Ok m =
+      ap (λ (r : Standing A). main_by owner r d s) waits ∙ ap (λ (o : Option (Cut A)). main_at owner o k.above d s) (cuts owner s again cut.here free)
+      ∙ ap (λ (z : Components A). Ok (with_standing s (NoObject None) (with_operating (k.above ++ k.here ∷ k.below) z))) (kept_object owner head d s y k.above chain waits (w.detached y chain is)) in
+      let made : m ≡ after = ok_is owner (sym given ∙ ap (λ (z : Components A). resume_main owner z s) d_is ∙ back) in
+      let standings : m.standings ≡ c.standings =
+      ap (λ (z : List (Standing A)). slice_set z s (NoObject None)) (set-set mid y ResumedObject (DetachedObject chain) ∙ set_swap c.standings s y t (DetachedObject chain) apart)
+      ∙ set-set (slice_set c.standings y (DetachedObject chain)) s t (NoObject None)
+      ∙ ap (λ (z : List (Standing A)). slice_set z s (NoObject None)) (set_same c.standings y (DetachedObject chain) is)
+      ∙ set_same c.standings s (NoObject None) at_s in
+      sym made ∙ ap (λ (z : List (Standing A)). record { operating = joined k; standings = z }) standings ∙ ap (λ (z : List A). record { operating = z; standings = c.standings }) cut.chain
 
-detach_is : (d : Components) (head y : ℕ) (above below : List ℕ) → d.state y ≡ Some Attached → d.operating ≡ joined above y below → stands_on y above ≡ false
-    → detach d head y ≡ Ok (with_state (with_chain (with_operating d below) y (above ++ y ∷ [])) y Detached)
-detach_is d head y above below state operating free =
-    ap (λ (s : Option State). detach_in s d head y) state
-    ∙ ap (λ (k : Option Cut). detach_at k Attached d head y) (ap (cut_at y) operating ∙ cuts y above below free)
+  pub resume_keeps : (c after : Components A) (y z : ℕ) (chain waits : List A) (k : Cut A) → IsWellFormed owner head c → standing_of c y ≡ DetachedObject chain → standing_of c (head y) ≡ NoObject (Some waits)
+      → standing_of c z ≡ ResumedObject → head z ≡ head y → cut_at owner (head y) c.operating ≡ Some k → resume owner head c (Some y) ≡ Ok after
+      → (after.operating ≡ chain ++ k.here ∷ k.below) × (standing_of after z ≡ DetachedObject k.above) × (standing_of after y ≡ ResumedObject)
+  resume_keeps c after y z chain waits k w is at_s at_z z_head cut resumes =
+      let hy : y < length c.standings = entered_one c.standings y (DetachedObject chain) is (λ e. cc) in
+      let hz : z < length c.standings = entered_one c.standings z ResumedObject at_z (λ e. cc) in
+      let apart : z ≢ y = differ c.standings z y _ _ at_z is (λ e. cc) in
+      let last : outermost owner k.above ≡ Some z = directly owner head c (head y) k z w (cut_is owner (head y) c.operating k cut) at_z z_head in
+      let t : Standing A = DetachedObject k.above in
+      let mid : List (Standing A) = slice_set c.standings z t in
+      let hy2 : y < length mid = subst (λ n. y < n) (sym (length-set c.standings z t)) hy in
+      let l : List A = chain ++ k.here ∷ k.below in
+      let d : Components A = record { operating = l; standings = slice_set mid y ResumedObject } in
+      let made : d ≡ after = ok_is owner (
+      sym (ap (λ (s : Standing A). resume_by owner s c (head y) y) is ∙ ap (λ (o : Option (Cut A)). resume_at owner o chain c (head y) y) cut
+      ∙ ap (λ (z : Components A). Ok (with_standing y ResumedObject (with_operating l z))) (kept_object owner head c (head y) z waits k.above at_s last))
+      ∙ resumes) in (
+        ap (λ (z : Components A). z.operating) (sym made),
+        ap (λ (r : Components A). standing_of r z) (sym made) ∙ to_set mid y ResumedObject z t hy2 apart ((is_set c.standings z t hz).here),
+        ap (λ (r : Components A). standing_of r y) (sym made) ∙ (is_set mid y ResumedObject hy2).here,
+      )
 
-pub call_then_detach : (c called after : Components) (head y : ℕ) (above : List ℕ) → c.chain y ≡ above ++ y ∷ [] → stands_on y above ≡ false
-    → call c (Some y) ≡ Ok called → detach called head y ≡ Ok after
-    → (after.operating ≡ c.operating) × (after.chain y ≡ c.chain y) × (after.state y ≡ Some Detached)
-call_then_detach c called after head y above chain free calls detaches =
-    let d : Components = with_state (with_operating c (c.chain y ++ c.operating)) y Attached in
-    let is : d ≡ called = ok_is (call c (Some y)) (ap (λ (s : Option State). call_in s c y) (called_state c called y calls)) calls in
-    let operating : d.operating ≡ joined above y c.operating = ap (λ (l : List ℕ). l ++ c.operating) chain ∙ append_assoc above (y ∷ []) c.operating in
-    let left = detach_is d head y above c.operating (found y (Some Attached) (c.state y)) operating free in
-    let made : with_state (with_chain (with_operating d c.operating) y (above ++ y ∷ [])) y Detached ≡ after = ok_is (detach d head y) left (ap (λ (k : Components). detach k head y) is ∙ detaches) in (
-      ap (λ (k : Components). k.operating) (sym made),
-      ap (λ (k : Components). k.chain y) (sym made) ∙ found y (above ++ y ∷ []) (c.chain y) ∙ sym chain,
-      ap (λ (k : Components). k.state y) (sym made) ∙ found y (Some Detached) (d.state y),
-    )
+  pub ends_attached : (c : Components A) (x : ℕ) (a : A) (rest : List A) → standing_of c x ≡ AttachedObject → c.operating ≡ a ∷ rest → owner a ≡ Some x
+      → ((finish owner head c x).operating ≡ rest) × (standing_of (finish owner head c x) x ≡ TerminatedObject)
+  ends_attached c x a rest is top own =
+      let h : x < length c.standings = entered_one c.standings x AttachedObject is (λ e. cc) in
+      let k : Cut A = record { above = []; here = a; below = rest } in
+      let cut : cut_at owner x c.operating ≡ Some k = ap (cut_at owner x) top ∙ cuts owner x k own refl in
+      let made = ap (λ (r : Standing A). finish_by owner r c (head x) x) is ∙ ap (λ (o : Option (Cut A)). with_standing x TerminatedObject (returned owner o c)) cut in
+      (ap (λ (z : Components A). z.operating) made, ap (λ (z : Components A). standing_of z x) made ∙ (is_set c.standings x TerminatedObject h).here)
 
--- a resumption that is not refused cuts the chain at the head
-resume_cut : (c after : Components) (head y : ℕ) → c.state y ≡ Some Detached → resume c head (Some y) ≡ Ok after
-    → (u : Cut) × (cut_at head c.operating ≡ Some u) × (after ≡ with_state (with_operating (kept c head u.above) (c.chain y ++ head ∷ u.below)) y Resumed)
-resume_cut c after head y state e = go (cut_at head c.operating) refl (sym (ap (λ (s : Option State). resume_in s c head y) state) ∙ e)
-  where
-    go : (k : Option Cut) → cut_at head c.operating ≡ k → resume_at k c head y ≡ Ok after
-        → (u : Cut) × (cut_at head c.operating ≡ Some u) × (after ≡ with_state (with_operating (kept c head u.above) (c.chain y ++ head ∷ u.below)) y Resumed)
-    go None is e = absurd (no_ok e)
-    go (Some u) is e = (u, is, ok_is (resume_at (Some u) c head y) e refl)
-
-main_is : (d : Components) (head : ℕ) (main above below : List ℕ) → d.main head ≡ Some main → d.operating ≡ joined above head below → stands_on head above ≡ false
-    → resume_main d head ≡ Ok (with_main (with_operating (keeping (Some main) d head above) (main ++ head ∷ below)) head None)
-main_is d head main above below waits operating free =
-    ap (λ (m : Option (List ℕ)). main_in m d head) waits
-    ∙ ap (λ (k : Option Cut). main_at k d head main) (ap (cut_at head) operating ∙ cuts head above below free)
-    ∙ ap (λ (m : Option (List ℕ)). Ok (with_main (with_operating (keeping m d head above) (main ++ head ∷ below)) head None)) waits
-
--- what resuming an object and giving control back to the main component comes to
-pub resume_then_back : (c resumed after : Components) (head y : ℕ) (above : List ℕ) → c.main head ≡ None → c.chain y ≡ above ++ y ∷ [] → stands_on head (c.chain y) ≡ false → c.state y ≡ Some Detached
-    → resume c head (Some y) ≡ Ok resumed → resume_main resumed head ≡ Ok after
-    → (after.operating ≡ c.operating) × (after.chain y ≡ c.chain y) × (after.state y ≡ Some Detached) × (after.main head ≡ None)
-resume_then_back c resumed after head y above operates chain free state resumes back =
-    let cut = resume_cut c resumed head y state resumes in
-    let u : Cut = cut.0 in
-    let kept_main : kept c head u.above ≡ with_main c head (Some u.above) = ap (λ (m : Option (List ℕ)). keeping m c head u.above) operates in
-    let d : Components = with_state (with_operating (with_main c head (Some u.above)) (c.chain y ++ head ∷ u.below)) y Resumed in
-    let is : d ≡ resumed = ap (λ (k : Components). with_state (with_operating k (c.chain y ++ head ∷ u.below)) y Resumed) (sym kept_main) ∙ sym cut.2 in
-    let given = main_is d head u.above (c.chain y) u.below (found head (Some u.above) (c.main head)) refl free in
-    let made = ok_is (resume_main d head) given (ap (λ (k : Components). resume_main k head) is ∙ back) in
-    let last : outermost (c.chain y) ≡ y = ap outermost chain ∙ last_is above y in (
-      ap (λ (k : Components). k.operating) (sym made) ∙ joins head c.operating u cut.1,
-      ap (λ (k : Components). k.chain y) (sym made) ∙ ap (λ (z : ℕ). if y == z then c.chain y else c.chain y) last ∙ found y (c.chain y) (c.chain y),
-      ap (λ (k : Components). k.state y) (sym made) ∙ ap (λ (z : ℕ). if y == z then Some Detached else d.state y) last ∙ found y (Some Detached) (d.state y),
-      ap (λ (k : Components). k.main head) (sym made) ∙ found head None (d.main head),
-    )
-
-pub resume_keeps : (c after : Components) (head y z : ℕ) (above below main : List ℕ) → c.main head ≡ Some main → c.operating ≡ joined (above ++ z ∷ []) head below → stands_on head (above ++ z ∷ []) ≡ false
-    → c.state y ≡ Some Detached → (y ≡ z → ⊥) → resume c head (Some y) ≡ Ok after
-    → (after.operating ≡ joined (c.chain y) head below) × (after.chain z ≡ above ++ z ∷ []) × (after.state z ≡ Some Detached) × (after.state y ≡ Some Resumed) × (after.main head ≡ Some main)
-resume_keeps c after head y z above below main waits operating free state other resumes =
-    let up : List ℕ = above ++ z ∷ [] in
-    let last : outermost up ≡ z = last_is above z in
-    let d : Components = with_state (with_operating (with_state (with_chain c (outermost up) up) (outermost up) Detached) (c.chain y ++ head ∷ below)) y Resumed in
-    let made : d ≡ after =
-    ok_is (resume c head (Some y))
-    (
-    ap (λ (s : Option State). resume_in s c head y) state
-    ∙ ap (λ (k : Option Cut). resume_at k c head y) (ap (cut_at head) operating ∙ cuts head up below free)
-    ∙ ap (λ (m : Option (List ℕ)). Ok (with_state (with_operating (keeping m c head up) (c.chain y ++ head ∷ below)) y Resumed)) waits
-    )
-    resumes
-    in (
-      ap (λ (k : Components). k.operating) (sym made),
-      ap (λ (k : Components). k.chain z) (sym made) ∙ ap (λ (w : ℕ). if z == w then up else c.chain z) last ∙ found z up (c.chain z),
-      ap (λ (k : Components). k.state z) (sym made) ∙ passed y z (Some Resumed) (if z == outermost up then Some Detached else c.state z) (λ e. other (sym e)) ∙ ap (λ (w : ℕ). if z == w then Some Detached else c.state z) last ∙ found z (Some Detached) (c.state z),
-      ap (λ (k : Components). k.state y) (sym made) ∙ found y (Some Resumed) (if y == outermost up then Some Detached else c.state y),
-      ap (λ (k : Components). k.main head) (sym made) ∙ waits,
-    )
-
-pub ends_attached : (c : Components) (head x : ℕ) (below : List ℕ) → c.state x ≡ Some Attached → c.operating ≡ x ∷ below → ((finish c head x).operating ≡ below) × ((finish c head x).state x ≡ Some Terminated)
-ends_attached c head x below state operating =
-    let cut = ap (cut_at x) operating ∙ cuts x [] below refl in
-    let made : finish c head x ≡ with_state (with_operating c below) x Terminated = ap (λ (s : Option State). finish_in s c head x) state ∙ ap (λ (k : Option Cut). with_state (left_by k c) x Terminated) cut in
-    (ap (λ (k : Components). k.operating) made, ap (λ (k : Components). k.state x) made ∙ found x (Some Terminated) (c.state x))
-
-pub ends_resumed : (c : Components) (head x : ℕ) (above below main : List ℕ) → c.state x ≡ Some Resumed → c.operating ≡ joined above head below → stands_on head above ≡ false → c.main head ≡ Some main
-    → ((finish c head x).operating ≡ joined main head below) × ((finish c head x).main head ≡ None) × ((finish c head x).state x ≡ Some Terminated)
-ends_resumed c head x above below main state operating free waits =
-    let cut = ap (cut_at head) operating ∙ cuts head above below free in
-    let made : finish c head x ≡ with_state (with_main (with_operating c (main ++ head ∷ below)) head None) x Terminated =
-    ap (λ (s : Option State). finish_in s c head x) state
-    ∙ ap (λ (k : Option Cut). with_state (replaced k (c.main head) c head) x Terminated) cut
-    ∙ ap (λ (m : Option (List ℕ)). with_state (replaced (Some (record { above = above; below = below })) m c head) x Terminated) waits
-    in (
-      ap (λ (k : Components). k.operating) made,
-      ap (λ (k : Components). k.main head) made ∙ found head None (c.main head),
-      ap (λ (k : Components). k.state x) made ∙ found x (Some Terminated) (c.state x),
-    )
+  pub ends_resumed : (c : Components A) (x : ℕ) (waits : List A) (k : Cut A) → standing_of c x ≡ ResumedObject → standing_of c (head x) ≡ NoObject (Some waits) → cut_at owner (head x) c.operating ≡ Some k
+      → ((finish owner head c x).operating ≡ waits ++ k.here ∷ k.below) × (standing_of (finish owner head c x) (head x) ≡ NoObject None) × (standing_of (finish owner head c x) x ≡ TerminatedObject)
+  ends_resumed c x waits k is at_s cut =
+      let s : ℕ = head x in
+      let hx : x < length c.standings = entered_one c.standings x ResumedObject is (λ e. cc) in
+      let hs : s < length c.standings = entered_one c.standings s (NoObject (Some waits)) at_s (λ e. cc) in
+      let apart : s ≢ x = differ c.standings s x _ _ at_s is (λ e. cc) in
+      let mid : List (Standing A) = slice_set c.standings s (NoObject None) in
+      let hx2 : x < length mid = subst (λ n. x < n) (sym (length-set c.standings s (NoObject None))) hx in
+      let made = ap (λ (r : Standing A). finish_by owner r c s x) is ∙ ap (λ (o : Option (Cut A)). with_standing x TerminatedObject (dropped owner o (standing_of c s) s c)) cut ∙ ap (λ (r : Standing A). with_standing x TerminatedObject (dropped owner (Some k) r s c)) at_s in (
+        ap (λ (z : Components A). z.operating) made,
+        ap (λ (z : Components A). standing_of z s) made ∙ to_set mid x TerminatedObject s _ hx2 apart ((is_set c.standings s (NoObject None) hs).here),
+        ap (λ (z : Components A). standing_of z x) made ∙ (is_set mid x TerminatedObject hx2).here,
+      )

@@ -2,6 +2,8 @@
 #![tactic(auto)]
 
 pub mod laws;
+mod refusals;
 mod state;
 
+pub use refusals::{Transfer, test_call, test_detach, test_resume, test_resume_main};
 pub use state::State;

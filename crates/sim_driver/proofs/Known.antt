@@ -1,36 +1,38 @@
--- What the meaning of a source is.
-use Rattle.std.proofs.Common.{◌≡◌, ◌<◌, ℕ, List, length, Option, Result, IfOk, OnOk, Ok, Err, subst, refl, sym, ap, ◌∙◌}
-use Rattle.std.specs.Prelude.{slice_index_or}
-use Rattle.std.proofs.KnownBytes.{Appends-nil}
-use Rattle.std.proofs.lemmas.List.{get_or_read}
-use Rattle.std.specs.Io.KnownBytes.{Appends}
+-- What a command makes of a source, step by step, and that it is one thing at most.
+use Rattle.std.proofs.Common.{◌≡◌, ℕ, Bool, true, false, List, length, Option, Result, OnOk, Ok, Err, subst, refl, sym, ap, ◌∙◌}
+use Rattle.sim_base.specs.Place.{line_at}
 use Rattle.sim_base.specs.declared.numbering.Line.{Line}
-use Rattle.sim_ports.specs.Bytes.{AddsPrefix}
-use Rattle.sim_driver.specs.declared.status.Ending.{Ending}
-use Rattle.sim_driver.specs.declared.status.Ending.TheVariants as ending
 use Rattle.sim_base.specs.declared.numbering.TokenNo.{TokenNo}
 use Rattle.sim_base.specs.declared.rule.Rule.{Rule}
 use Rattle.sim_base.specs.declared.rule.Rule.TheVariants as rule
 use Rattle.sim_base.specs.declared.token.Token.{Token}
-use Rattle.sim_expr_parser.specs.declared.refusal.SyntaxRefusal.TheVariants as refusal
-use Rattle.sim_lexer.specs.Spelling.{Lexed, Reads}
+use Rattle.sim_expr_parser.specs.declared.refusal.SyntaxRefusal.TheVariants as syntax_refusal
+use Rattle.sim_lexer.specs.Spelling.{Lexed, Broken, Reads, Spelled}
+use Rattle.sim_lexer.proofs.OneAnswer as spelling
 use Rattle.sim_parser.specs.Parsing.{Parses}
 use Rattle.sim_tree.specs.Grammar as g
-use Rattle.sim_tree.specs.Reading.{Forest, TooDeep, Unexpected, done, finish, node}
+use Rattle.sim_tree.specs.Reading.{Forest, TooDeep, Unexpected, done, node}
 use Rattle.sim_tree.specs.ShownProgram.{program_shown}
-use Rattle.sim_tree.specs.Tree.{limit}
+use Rattle.sim_tree.specs.SyntaxOfProgram.{program_syntax}
+use Rattle.sim_tree.specs.Tree.{IsTree, limit}
+use Rattle.sim_tree.specs.declared.program.Program.{Program as Tree}
 use Rattle.sim_tree.proofs.Laws.{never_both, one_fault, one_reading}
-use Rattle.small_form.specs.Formed.{Formed, form_of}
-use Rattle.sim_driver.specs.SourceMeaning.{Meaning, SourceMeans, LexedMeans, TokensMean, Parsed, Tree, Bad, Deep, IsParsed, formed_meaning, parsed_meaning, refused, token_line}
+use Rattle.sim_static.specs.Check.{answer, check_of}
+use Rattle.sim_static.specs.NeedsClasses.{NeedsClasses, needs_from}
+use Rattle.small_form.specs.Formed.{form_of}
+use Rattle.sim_driver.specs.Compiling.{Answers, Bad, Compiled, Deep, IsParsed, LexedCompiles, Parsed, Rejected, SourceCompiles, SourceRejects, TokensCompile, TokensReject, Whole, check_compiled, checked, formed, parsed_compiled, run_compiled, token_line, tree_compiled, without_classes}
+use Rattle.sim_driver.specs.OutputAfter.{OutputAfter}
+use Rattle.sim_driver.specs.declared.failure.RunFailure.{RunFailure}
+use Rattle.sim_driver.specs.declared.failure.RunFailure.TheVariants.{Memory, Output}
+use Rattle.sim_driver.specs.declared.compiling.Refusal.{Refusal}
+use Rattle.sim_driver.specs.declared.compiling.Refusal.TheVariants as refusal
+use Rattle.sim_driver.specs.declared.words.Command.{Command}
+use Rattle.sim_driver.specs.declared.words.Command.TheVariants.{Run, Check}
 
 -- what holds, holds of an Ok
 pub holds_on_ok : {T E P : Type 0} (r : Result T E) → P → OnOk r P
 holds_on_ok (Ok x) p = p
 holds_on_ok (Err e) p = tt
-
--- tokens that were parsed mean something
-pub known_tokens : (tokens : List Token) (parsed : Parsed) → IsParsed tokens parsed → (meaning : Meaning) × TokensMean tokens meaning
-known_tokens tokens parsed parses = (parsed_meaning tokens parsed, record { parsed = parsed; parses = parses; means = refl })
 
 insides : (f h : Forest) → node g.Program f done ≡ node g.Program h done → f ≡ h
 insides f h e = cc
@@ -44,83 +46,104 @@ same_deep k m e = cc
 not_both : (k m : ℕ) → Unexpected k ≡ TooDeep m → ⊥
 not_both k m e = cc
 
--- tokens have one meaning at most
-pub one_meaning : (tokens : List Token) (a b : Parsed) → IsParsed tokens a → IsParsed tokens b → parsed_meaning tokens a ≡ parsed_meaning tokens b
-one_meaning tokens (Tree p) (Tree q) x y =
-    ap (λ f. formed_meaning (form_of f p.lines.items)) (insides (program_shown p) (program_shown q) (one_reading limit tokens x.reads y.reads).0)
-    ∙ ap (λ l. formed_meaning (form_of (program_shown q) l)) (x.lines ∙ sym y.lines)
-one_meaning tokens (Tree p) (Bad m) x y = absurd (never_both limit tokens x.reads y.comes)
-one_meaning tokens (Tree p) (Deep m) x y = absurd (never_both limit tokens x.reads y.comes)
-one_meaning tokens (Bad k) (Tree q) x y = absurd (never_both limit tokens y.reads x.comes)
-one_meaning tokens (Bad k) (Bad m) x y = ap (λ n. refused rule.UnexpectedToken (token_line tokens n)) (same_unexpected k m (one_fault limit tokens x.comes y.comes))
-one_meaning tokens (Bad k) (Deep m) x y = absurd (not_both k m (one_fault limit tokens x.comes y.comes))
-one_meaning tokens (Deep k) (Tree q) x y = absurd (never_both limit tokens y.reads x.comes)
-one_meaning tokens (Deep k) (Bad m) x y = absurd (not_both m k (one_fault limit tokens y.comes x.comes))
-one_meaning tokens (Deep k) (Deep m) x y = ap (λ n. refused rule.NestedTooDeeply (token_line tokens n)) (same_deep k m (one_fault limit tokens x.comes y.comes))
+-- two trees of the same tokens are run alike
+same_run : (tokens : List Token) (p q : Tree) → IsTree tokens p → IsTree tokens q → run_compiled p ≡ run_compiled q
+same_run tokens p q x y =
+    ap (λ f. formed (form_of f p.lines.items)) (insides (program_shown p) (program_shown q) (one_reading limit tokens x.reads y.reads).0)
+    ∙ ap (λ l. formed (form_of (program_shown q) l)) (x.lines ∙ sym y.lines)
 
--- what tokens mean is what they parse as means
-pub same_meaning : (tokens : List Token) (meaning : Meaning) (parsed : Parsed) → TokensMean tokens meaning → IsParsed tokens parsed → meaning ≡ parsed_meaning tokens parsed
-same_meaning tokens meaning parsed means parses = means.means ∙ one_meaning tokens means.parsed parsed means.parses parses
+-- two trees of the same tokens have one syntax
+abbrev pub OneSyntax : Type 0
+OneSyntax = (tokens : List Token) (p q : Tree) → IsTree tokens p → IsTree tokens q → program_syntax p ≡ program_syntax q
 
--- tokens that are no program, by what the parser says of them
-pub record Refused (tokens : List Token) (rule : Rule) (token : ℕ) : Type 0 where
-  pub parsed : Parsed
-  pub parses : IsParsed tokens parsed
-  pub means : parsed_meaning tokens parsed ≡ refused rule (token_line tokens token)
+same_checked : OneSyntax → (tokens : List Token) (p q : Tree) → IsTree tokens p → IsTree tokens q → check_of p ≡ check_of q
+same_checked one tokens p q x y =
+    ap (λ s. answer (length p.lines.items) s) (one tokens p q x y)
+    ∙ ap (λ (l : List Line). answer (length l) (program_syntax q)) (x.lines ∙ sym y.lines)
 
-pub refused_tokens : (tokens : List Token) (r : Rule) (token : TokenNo) → Parses tokens (Err (refusal.Broken r token)) → Refused tokens r token.0
-refused_tokens tokens rule.UnexpectedToken token says = record { parsed = Bad token.0; parses = record { comes = says.0; first = says.1 }; means = refl }
-refused_tokens tokens rule.NestedTooDeeply token says = record { parsed = Deep token.0; parses = record { comes = says.0; before = says.1 }; means = refl }
+-- a command answers two trees of the same tokens alike
+abbrev OneAnswer : Command → Type 0
+OneAnswer command = (tokens : List Token) (p q : Tree) → IsTree tokens p → IsTree tokens q → tree_compiled command tokens p ≡ tree_compiled command tokens q
+
+same_tree_checked : OneSyntax → OneAnswer Check
+same_tree_checked one tokens p q x y = ap (λ c. without_classes (needs_from false tokens) (checked tokens c)) (same_checked one tokens p q x y)
+
+-- what tokens parse as in two ways is compiled to the same
+same_parsed : (command : Command) → OneAnswer command → (tokens : List Token) (a b : Parsed) → IsParsed tokens a → IsParsed tokens b → parsed_compiled command tokens a ≡ parsed_compiled command tokens b
+same_parsed command one tokens (Whole p) (Whole q) x y = one tokens p q x y
+same_parsed command one tokens (Whole p) (Bad m) x y = absurd (never_both limit tokens x.reads y.comes)
+same_parsed command one tokens (Whole p) (Deep m) x y = absurd (never_both limit tokens x.reads y.comes)
+same_parsed command one tokens (Bad k) (Whole q) x y = absurd (never_both limit tokens y.reads x.comes)
+same_parsed command one tokens (Bad k) (Bad m) x y = ap (λ n. Rejected rule.UnexpectedToken (token_line tokens n)) (same_unexpected k m (one_fault limit tokens x.comes y.comes))
+same_parsed command one tokens (Bad k) (Deep m) x y = absurd (not_both k m (one_fault limit tokens x.comes y.comes))
+same_parsed command one tokens (Deep k) (Whole q) x y = absurd (never_both limit tokens y.reads x.comes)
+same_parsed command one tokens (Deep k) (Bad m) x y = absurd (not_both m k (one_fault limit tokens y.comes x.comes))
+same_parsed command one tokens (Deep k) (Deep m) x y = ap (λ n. Rejected rule.NestedTooDeeply (token_line tokens n)) (same_deep k m (one_fault limit tokens x.comes y.comes))
+
+one_of_tokens : (command : Command) → OneAnswer command → (tokens : List Token) (a b : Compiled) → TokensCompile command tokens a → TokensCompile command tokens b → a ≡ b
+one_of_tokens command one tokens a b x y = x.gives ∙ same_parsed command one tokens x.parsed y.parsed x.parses y.parses ∙ sym y.gives
+
+one_of_lexed : (command : Command) → OneAnswer command → (source : List ℕ) (lexed : Lexed) (a b : Compiled) → LexedCompiles command source lexed a → LexedCompiles command source lexed b → a ≡ b
+one_of_lexed command one source (Spelled tokens) a b x y = one_of_tokens command one tokens a b x y
+one_of_lexed command one source (Broken rule place) a b x y = x ∙ sym y
+
+-- a command makes one thing of a source at most
+one_compiled : (command : Command) → OneAnswer command → (source : List ℕ) (a b : Compiled) → SourceCompiles command source a → SourceCompiles command source b → a ≡ b
+one_compiled command one source a b x y =
+    let same : y.lexed ≡ x.lexed = spelling.one_reading y.reads x.reads in
+    let Goal : Lexed → Type 0 = λ lexed. LexedCompiles command source lexed b in
+    one_of_lexed command one source x.lexed a b x.compiles (subst Goal same y.compiles)
+
+pub one_run : (source : List ℕ) (a b : Compiled) → SourceCompiles Run source a → SourceCompiles Run source b → a ≡ b
+one_run source a b x y = one_compiled Run same_run source a b x y
+
+pub one_check : OneSyntax → (source : List ℕ) (a b : Compiled) → SourceCompiles Check source a → SourceCompiles Check source b → a ≡ b
+one_check one source a b x y = one_compiled Check (same_tree_checked one) source a b x y
+
+-- The steps.
+
+-- tokens that the parser refuses
+pub refused_tokens : (tokens : List Token) (r : Rule) (token : TokenNo) → Parses tokens (Err (syntax_refusal.Broken r token)) → TokensReject tokens r (token_line tokens token.0)
+refused_tokens tokens rule.UnexpectedToken token says = λ command. record { parsed = Bad token.0; parses = record { comes = says.0; first = says.1 }; gives = refl }
+refused_tokens tokens rule.NestedTooDeeply token says = λ command. record { parsed = Deep token.0; parses = record { comes = says.0; before = says.1 }; gives = refl }
 refused_tokens tokens _ token says = absurd says
 
--- a token that is there
-pub token_read : (tokens : List Token) (i : ℕ) (x : Token) → i < length tokens → x ≡ slice_index_or tokens i x → x.line ≡ token_line tokens i
-token_read tokens i x within is = ap (λ (y : Token). y.line) (get_or_read tokens i x within is finish)
+-- a command makes of tokens what it makes of their tree
+pub tree_tokens : (command : Command) (tokens : List Token) (tree : Tree) (compiled : Compiled) → IsTree tokens tree → tree_compiled command tokens tree ≡ compiled → TokensCompile command tokens compiled
+tree_tokens command tokens tree compiled is gives = record { parsed = Whole tree; parses = is; gives = sym gives }
 
--- The clauses of a run, by what the tokens mean.
+-- a command makes of a source what it makes of its tokens
+pub spelled_source : (command : Command) (source : List ℕ) (tokens : List Token) (compiled : Compiled) → Reads source (Spelled tokens) → TokensCompile command tokens compiled → SourceCompiles command source compiled
+spelled_source command source tokens compiled spells compiles = record { lexed = Spelled tokens; reads = spells; compiles = compiles }
 
-pub parsed_ends : {E : Type 0} (result : Result Ending E) (tokens : List Token) (meaning : Meaning) (parsed : Parsed) → TokensMean tokens meaning → IsParsed tokens parsed
-    → IfOk result (λ ending. ending ≡ (parsed_meaning tokens parsed).ending) → IfOk result (λ ending. ending ≡ meaning.ending)
-parsed_ends result tokens meaning parsed means parses ends =
-    subst (λ (m : Meaning). IfOk result (λ ending. ending ≡ m.ending)) (sym (same_meaning tokens meaning parsed means parses)) ends
+-- a source that breaks a rule of its spelling
+pub broken_source : (source : List ℕ) (r : Rule) (place : ℕ) → Reads source (Broken r place) → SourceRejects source r (record { 0 = line_at source place })
+broken_source source r place breaks = λ command. record { lexed = Broken r place; reads = breaks; compiles = refl }
 
-pub parsed_whole : {E : Type 0} (result : Result Ending E) (old new : Option (List ℕ)) (tokens : List Token) (meaning : Meaning) (parsed : Parsed) → TokensMean tokens meaning → IsParsed tokens parsed
-    → OnOk result (Appends old new (parsed_meaning tokens parsed).output) → OnOk result (Appends old new meaning.output)
-parsed_whole result old new tokens meaning parsed means parses whole =
-    subst (λ (m : Meaning). OnOk result (Appends old new m.output)) (sym (same_meaning tokens meaning parsed means parses)) whole
+-- the refusal of a step is one of the whole
+pub refusal_of : {A B : Type 0} (why : Refusal) (accepts : A → Type 0) (also : B → Type 0) (rejects whole : Rule → Line → Type 0)
+    → ((r : Rule) (line : Line) → rejects r line → whole r line) → Answers accepts rejects (Err why) → Answers also whole (Err why)
+refusal_of (refusal.Broken r line) accepts also rejects whole step is = step r line is
+refusal_of refusal.Memory accepts also rejects whole step is = tt
 
-pub parsed_part : (old new : Option (List ℕ)) (tokens : List Token) (meaning : Meaning) (parsed : Parsed) → TokensMean tokens meaning → IsParsed tokens parsed
-    → AddsPrefix old new (parsed_meaning tokens parsed).output → AddsPrefix old new meaning.output
-parsed_part old new tokens meaning parsed means parses part =
-    subst (λ (m : Meaning). AddsPrefix old new m.output) (sym (same_meaning tokens meaning parsed means parses)) part
+-- the same of a step that ends the whole
+pub answers_of : {A : Type 0} (r : Result A Refusal) (accepts also : A → Type 0) (rejects whole : Rule → Line → Type 0)
+    → ((x : A) → accepts x → also x) → ((r : Rule) (line : Line) → rejects r line → whole r line) → Answers accepts rejects r → Answers also whole r
+answers_of (Ok x) accepts also rejects whole good bad is = good x is
+answers_of (Err why) accepts also rejects whole good bad is = refusal_of why accepts also rejects whole bad is
 
-refused_meaning : (tokens : List Token) (meaning : Meaning) (r : Rule) (token : ℕ) → TokensMean tokens meaning → Refused tokens r token → meaning ≡ refused r (token_line tokens token)
-refused_meaning tokens meaning r token means bad = same_meaning tokens meaning bad.parsed means bad.parses ∙ bad.means
+-- a step that can't fail by the output
+pub nothing_failed : {S A : Type 0} (written : S → Option (List ℕ)) (faults : S → ℕ) (at : S) (r : Result A RunFailure) → (r ≡ Err Output → ⊥) → OutputAfter written faults at at r
+nothing_failed written faults at (Ok x) never = refl
+nothing_failed written faults at (Err Memory) never = refl
+nothing_failed written faults at (Err Output) never = absurd (never refl)
 
-pub refused_ends : (tokens : List Token) (meaning : Meaning) (r : Rule) (token : ℕ) (line : Line) → TokensMean tokens meaning → Refused tokens r token → line ≡ token_line tokens token
-    → ending.Refused r line ≡ meaning.ending
-refused_ends tokens meaning r token line means bad is = ap (ending.Refused r) is ∙ sym (ap (λ (m : Meaning). m.ending) (refused_meaning tokens meaning r token means bad))
+-- whether the source needs classes
 
-pub refused_whole : (old : Option (List ℕ)) (tokens : List Token) (meaning : Meaning) (r : Rule) (token : ℕ) → TokensMean tokens meaning → Refused tokens r token → Appends old old meaning.output
-refused_whole old tokens meaning r token means bad =
-    subst (λ (m : Meaning). Appends old old m.output) (sym (refused_meaning tokens meaning r token means bad)) (Appends-nil old)
+pub needed : (tokens : List Token) (tree : Tree) (needs : Bool) → NeedsClasses tokens needs → needs ≡ true → check_compiled tokens tree ≡ Rejected rule.FormNotBuilt (record { 0 = 1 })
+unfolding NeedsClasses
+needed tokens tree needs is so = let same : needs_from false tokens ≡ true = sym is ∙ so in rw same refl
 
-pub refused_known : (tokens : List Token) (r : Rule) (token : ℕ) → Refused tokens r token → (meaning : Meaning) × TokensMean tokens meaning
-refused_known tokens r token bad = known_tokens tokens bad.parsed bad.parses
-
--- The same of a program, by its form.
-
-pub formed_ends : {E : Type 0} (result : Result Ending E) (what formed : Formed) → what ≡ formed
-    → IfOk result (λ ending. ending ≡ (formed_meaning formed).ending) → IfOk result (λ ending. ending ≡ (formed_meaning what).ending)
-formed_ends result what formed is ends = subst (λ (w : Formed). IfOk result (λ ending. ending ≡ (formed_meaning w).ending)) (sym is) ends
-
-pub formed_whole : {E : Type 0} (result : Result Ending E) (old new : Option (List ℕ)) (what formed : Formed) → what ≡ formed
-    → OnOk result (Appends old new (formed_meaning formed).output) → OnOk result (Appends old new (formed_meaning what).output)
-formed_whole result old new what formed is whole = subst (λ (w : Formed). OnOk result (Appends old new (formed_meaning w).output)) (sym is) whole
-
-pub formed_part : (old new : Option (List ℕ)) (what formed : Formed) → what ≡ formed → AddsPrefix old new (formed_meaning formed).output → AddsPrefix old new (formed_meaning what).output
-formed_part old new what formed is part = subst (λ (w : Formed). AddsPrefix old new (formed_meaning w).output) (sym is) part
-
--- a source that was read means something
-pub known_source : (source : List ℕ) (lexed : Lexed) → Reads source lexed → (known : (meaning : Meaning) × LexedMeans source lexed meaning) → (meaning : Meaning) × SourceMeans source meaning
-known_source source lexed was_read known = (known.0, record { lexed = lexed; reads = was_read; means = known.1 })
+pub not_needed : (tokens : List Token) (tree : Tree) (needs : Bool) → NeedsClasses tokens needs → needs ≡ false → check_compiled tokens tree ≡ checked tokens (check_of tree)
+unfolding NeedsClasses
+not_needed tokens tree needs is so = let same : needs_from false tokens ≡ false = sym is ∙ so in rw same refl

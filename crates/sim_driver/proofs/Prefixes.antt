@@ -6,7 +6,7 @@ use Rattle.std.proofs.lemmas.List.{take-append-le, take_all}
 use Rattle.std.proofs.KnownBytes.{Appends-trans, Appends-nil}
 use Rattle.std.specs.Io.KnownBytes.{Appends, Keeps}
 use Rattle.sim_ports.specs.Bytes.{AddsPrefix}
-use Rattle.sim_driver.specs.Owing.{Owes}
+use Rattle.sim_driver.specs.StillToWrite.{StillToWrite}
 
 -- all of it is a prefix
 pub AddsPrefix-whole : (a b : Option (List ℕ)) (xs : List ℕ) → Appends a b xs → AddsPrefix a b xs
@@ -30,20 +30,20 @@ AddsPrefix-after a b c xs ys first (count, then) =
     (length xs + count, subst (Appends a c) (sym (take-append-add xs ys count)) (Appends-trans a b c xs _ first then))
 
 -- at first all is owed
-pub Owes-all : (old : Option (List ℕ)) (all : List ℕ) → Owes old old all all
-Owes-all old all = record { whole = λ new adds. adds; part = λ new adds. adds }
+pub StillToWrite-all : (old : Option (List ℕ)) (all : List ℕ) → StillToWrite old old all all
+StillToWrite-all old all = record { whole = λ new adds. adds; part = λ new adds. adds }
 
 -- a written piece is owed no more
-pub Owes-next : (old now new : Option (List ℕ)) (piece rest all : List ℕ) → Owes old now (piece ++ rest) all → Appends now new piece → Owes old new rest all
-Owes-next old now new piece rest all owes wrote =
+pub StillToWrite-next : (old now new : Option (List ℕ)) (piece rest all : List ℕ) → StillToWrite old now (piece ++ rest) all → Appends now new piece → StillToWrite old new rest all
+StillToWrite-next old now new piece rest all owes wrote =
     record {
       whole = λ end others. owes.whole end (Appends-trans now new end piece rest wrote others);
       part = λ end some. owes.part end (AddsPrefix-after now new end piece rest wrote some);
     }
 
 -- a part of the next piece is a part of all
-pub Owes-part : (old now new : Option (List ℕ)) (piece rest all : List ℕ) → Owes old now (piece ++ rest) all → AddsPrefix now new piece → AddsPrefix old new all
-Owes-part old now new piece rest all owes some = owes.part new (AddsPrefix-more now new piece rest some)
+pub StillToWrite-part : (old now new : Option (List ℕ)) (piece rest all : List ℕ) → StillToWrite old now (piece ++ rest) all → AddsPrefix now new piece → AddsPrefix old new all
+StillToWrite-part old now new piece rest all owes some = owes.part new (AddsPrefix-more now new piece rest some)
 
 -- what stays grows by nothing
 pub Appends-none : (a b : Option (List ℕ)) → Keeps a b → Appends a b []

@@ -1,9 +1,11 @@
 -- What a command answers, by its words and the bytes of the file.
 use Rattle.std.specs.Prelude.{◌≡◌, ℕ, List, [], Option, Some, None}
 use Rattle.std.specs.Io.KnownBytes.{Appends}
-use Rattle.sim_driver.specs.SourceMeaning.{Meaning, SourceMeans}
+use Rattle.sim_driver.specs.Compiling.{Compiled, SourceCompiles}
+use Rattle.sim_driver.specs.SourceMeaning.{Meaning, meaning_of}
 use Rattle.sim_driver.specs.Status.{status_of}
-use Rattle.sim_driver.specs.Words.{file_of}
+use Rattle.sim_driver.specs.Words.{Request, request_of}
+use Rattle.sim_driver.specs.declared.words.Command.{Command}
 use Rattle.sim_driver.specs.declared.status.Status.{Status}
 use Rattle.sim_driver.specs.declared.status.Status.TheVariants.{Usage}
 
@@ -16,19 +18,19 @@ pub record Answer : Type 0 where
 abbrev pub meant : Meaning → Answer
 meant meaning = record { status = status_of meaning.ending; output = meaning.output }
 
--- what the source of the named file means is the answer
-pub record IsSourceAnswer (source : List ℕ) (answer : Answer) : Type 0 where
-  pub meaning : Meaning
-  pub means : SourceMeans source meaning
-  pub same : answer ≡ meant meaning
+-- the answer of a command, by what it makes of the source of the named file
+pub record IsSourceAnswer (command : Command) (source : List ℕ) (answer : Answer) : Type 0 where
+  pub compiled : Compiled
+  pub compiles : SourceCompiles command source compiled
+  pub same : answer ≡ meant (meaning_of compiled)
 
-abbrev pub IsAnswerFor : Option (List ℕ) → List ℕ → Answer → Type 0
+abbrev pub IsAnswerFor : Option Request → List ℕ → Answer → Type 0
 IsAnswerFor None source answer = answer ≡ record { status = Usage; output = [] }
-IsAnswerFor (Some file) source answer = IsSourceAnswer source answer
+IsAnswerFor (Some request) source answer = IsSourceAnswer request.command source answer
 
 -- the answer to the words, where the file that they name, if they name one, holds this source
 abbrev pub IsAnswer : List (List ℕ) → List ℕ → Answer → Type 0
-IsAnswer words source answer = IsAnswerFor (file_of words) source answer
+IsAnswer words source answer = IsAnswerFor (request_of words) source answer
 
 -- the command ended as the answer says, with the whole output
 pub record Gives (answer : Answer) (status : Status) (old new : Option (List ℕ)) : Type 0 where

@@ -24,24 +24,25 @@ status_number InputFault = 7
 status_number WriteFault = 8
 status_number Memory = 9
 
--- a text and a line feed
-abbrev pub as_line : List ℕ → List ℕ
-as_line text = text ++ 10 ∷ []
-
 -- what is said of a line of the source
 abbrev pub at_line : ℕ → List ℕ → List ℕ
-at_line line text = codes "line " ++ (decimal line ++ (codes ": " ++ as_line text))
+at_line line text = codes "line " ++ (decimal line ++ (codes ": " ++ text))
 
--- the line that a status writes, with its line feed
+-- what a status says; nothing at the normal end
+abbrev pub status_text : Status → List ℕ
+status_text Normal = []
+status_text (Refused rule line) = at_line line.0 (rule_text rule)
+status_text (RunFault error line) = at_line line.0 (run_error_text error)
+status_text Usage = codes "usage: simula run|check FILE"
+status_text FileFault = codes "cannot read the file"
+status_text InputFault = codes "input fault"
+status_text WriteFault = codes "output fault"
+status_text Memory = codes "want of memory"
+
+-- the line that a status writes, with its line feed; none at the normal end
 abbrev pub line_text : Status → List ℕ
 line_text Normal = []
-line_text (Refused rule line) = at_line line.0 (rule_text rule)
-line_text (RunFault error line) = at_line line.0 (run_error_text error)
-line_text Usage = as_line (codes "usage: simula run FILE")
-line_text FileFault = as_line (codes "cannot read the file")
-line_text InputFault = as_line (codes "input fault")
-line_text WriteFault = as_line (codes "output fault")
-line_text Memory = as_line (codes "want of memory")
+line_text status = status_text status ++ 10 ∷ []
 
 -- no fault of the outside and no want of memory
 abbrev pub is_answer : Status → Bool
@@ -50,3 +51,9 @@ is_answer InputFault = false
 is_answer WriteFault = false
 is_answer Memory = false
 is_answer _ = true
+
+-- a status whose line is whole on the diagnostic output for sure
+abbrev pub is_told : Status → Bool
+is_told WriteFault = false
+is_told Memory = false
+is_told _ = true

@@ -1,32 +1,31 @@
 // Does what the words ask for, but for the line on the diagnostic output.
-ghost use Rattle.std.specs.Prelude.{◌≡◌, ◌≤◌, ◌<◌, ◌^◌, ◌-◌, length, None, Some, true, IfSome, List, ℕ};
-ghost use Rattle.std.specs.Option.{option_map};
+ghost use Rattle.std.specs.Prelude.{◌≡◌, ◌≤◌, ◌<◌, ◌+◌, ◌^◌, ◌-◌, ◌⊎◌, Err, length, None, Some, true, IfSome, IsSome, OnOk, List, Option, ℕ};
 ghost use Rattle.std.specs.Io.KnownBytes.{Keeps};
 ghost use Rattle.sim_ports.specs.Bytes.{AddsPrefix};
-ghost use Rattle.sim_ports.specs.Faults.{Rose};
+ghost use Rattle.sim_ports.specs.Faults.{Rose, StopsAt};
+ghost use Rattle.sim_ports.specs.Named.{IsOpen};
 ghost use Rattle.sim_driver.specs.Answer.{Answer, Gives, IsAnswer, IsSourceAnswer};
+ghost use Rattle.sim_driver.specs.Compiling.{Compiled, Runnable, SourceCompiles};
+ghost use Rattle.sim_driver.specs.OutputAfter.{OutputAfter};
+ghost use Rattle.sim_driver.specs.Reading.{TakesAtMost};
+ghost use Rattle.sim_driver.specs.SourceMeaning.{Does, meaning_of, run_ending};
 ghost use Rattle.sim_driver.specs.Status.{is_answer};
 ghost use Rattle.sim_driver.specs.Words.{file_of, texts, TellsFile};
 
-use crate::reading::{ReadFault, read_source};
-use crate::source::run_source;
-use crate::status::Status;
-use crate::stop::RunFailure;
+use crate::compiling::{Refusal, check_source, compile};
+use crate::evaluator::run_program;
+use crate::failure::{ErrorAt, RunFailure};
+use crate::reading::{ReadFailure, read_source};
+use crate::status::{Ending, Status};
+use crate::words::{Command, Request, request_of};
+use sim_lexer::SOURCE_LIMIT;
 use sim_ports::{Files, Sink};
+use sim_tree::grammar::one_tree;
+use small_form::Program;
 use std::alloc::Global;
 
-/// FILE of `run FILE`, and nothing where the words are no command.
-fn file_word(words: &[String]) -> Option<&str>
-    ensures { option_map (λ file. file.now) result ≡ file_of (texts words.now) }
-{
-    match words {
-        [command, file] if command.as_str() == "run" => Some(file.as_str()),
-        _ => None,
-    }
-}
-
 /// Does what the words ask for, and says how that ended.
-pub fn perform<F: Files, O: Sink>(
+pub fn run_command<F: Files, O: Sink>(
     alloc: Global,
     words: &[String],
     files: &mut F,
@@ -34,10 +33,13 @@ pub fn perform<F: Files, O: Sink>(
 ) -> Status
     requires { F.selected files.old ≡ None }
     ensures usage { result ≡ Status.Usage → file_of (texts words.now) ≡ None }
-    ensures file_fault { result ≡ Status.FileFault → Rose (F.faults files.old) (F.faults files.new) × Keeps (O.written out.old) (O.written out.new) }
+    ensures file_fault { result ≡ Status.FileFault → Rose (F.faults files.old) (F.faults files.new) × Keeps (O.written out.old) (O.written out.new) × IsSome (F.selected files.new) }
     ensures no_input_fault { result ≡ Status.InputFault → ⊥ }
     ensures write_fault { result ≡ Status.WriteFault → Rose (O.faults out.old) (O.faults out.new) }
+    ensures stops { (O.faults out.new ≡ O.faults out.old) ⊎ StopsAt O.written O.faults out.old out.new }
     ensures chosen { IfSome (F.selected files.new) (λ chosen. file_of (texts words.now) ≡ Some chosen.name) }
+    ensures read_to { (file source : List ℕ) → file_of (texts words.now) ≡ Some file → F.content files.old file ≡ Some source
+        → IsOpen (F.selected files.new) → TakesAtMost (SOURCE_LIMIT + 1) source (F.left files.new) }
     ensures files_left { file_of (texts words.now) ≡ None → (F.selected files.new ≡ F.selected files.old)
         × (F.content files.new ≡ F.content files.old) × (F.left files.new ≡ F.left files.old) × (F.faults files.new ≡ F.faults files.old) }
     ensures answered { (source : List ℕ) → TellsFile (F.content files.old) (texts words.now) source → is_answer result ≡ true
@@ -49,52 +51,134 @@ pub fn perform<F: Files, O: Sink>(
     ensures files_later { F.faults files.old ≤ F.faults files.new }
     ensures out_later { O.faults out.old ≤ O.faults out.new }
 {
-    match file_word(words) {
-        Some(file) => run_file(alloc, file, files, out),
+    match request_of(words) {
+        Some(Request { command, file }) => answer_request(alloc, command, file, files, out),
         None => Status::Usage,
     }
 }
 
-// Runs the source in a file.
-fn run_file<F: Files, O: Sink>(alloc: Global, file: &str, files: &mut F, out: &mut O) -> Status
+// Answers a request about the source in a file.
+fn answer_request<F: Files, O: Sink>(
+    alloc: Global,
+    command: Command,
+    file: &str,
+    files: &mut F,
+    out: &mut O,
+) -> Status
     requires { F.selected files.old ≡ None }
     ensures no_usage { result ≡ Status.Usage → ⊥ }
-    ensures file_fault { result ≡ Status.FileFault → Rose (F.faults files.old) (F.faults files.new) × Keeps (O.written out.old) (O.written out.new) }
+    ensures file_fault { result ≡ Status.FileFault → Rose (F.faults files.old) (F.faults files.new) × Keeps (O.written out.old) (O.written out.new) × IsSome (F.selected files.new) }
     ensures no_input_fault { result ≡ Status.InputFault → ⊥ }
     ensures write_fault { result ≡ Status.WriteFault → Rose (O.faults out.old) (O.faults out.new) }
+    ensures stops { (O.faults out.new ≡ O.faults out.old) ⊎ StopsAt O.written O.faults out.old out.new }
     ensures chosen { IfSome (F.selected files.new) (λ chosen. chosen.name ≡ file.now) }
+    ensures read_to { (source : List ℕ) → F.content files.old file.now ≡ Some source
+        → IsOpen (F.selected files.new) → TakesAtMost (SOURCE_LIMIT + 1) source (F.left files.new) }
     ensures answered { (source : List ℕ) → F.content files.old file.now ≡ Some source → is_answer result ≡ true
-        → (answer : Answer) × IsSourceAnswer source answer }
+        → (answer : Answer) × IsSourceAnswer command source answer }
     ensures answer { (source : List ℕ) (answer : Answer) → F.content files.old file.now ≡ Some source
-        → IsSourceAnswer source answer → is_answer result ≡ true → Gives answer result (O.written out.old) (O.written out.new) }
+        → IsSourceAnswer command source answer → is_answer result ≡ true → Gives answer result (O.written out.old) (O.written out.new) }
     ensures prefix { (source : List ℕ) (answer : Answer) → F.content files.old file.now ≡ Some source
-        → IsSourceAnswer source answer → AddsPrefix (O.written out.old) (O.written out.new) answer.output }
+        → IsSourceAnswer command source answer → AddsPrefix (O.written out.old) (O.written out.new) answer.output }
     ensures files_later { F.faults files.old ≤ F.faults files.new }
     ensures out_later { O.faults out.old ≤ O.faults out.new }
 {
     match read_source(alloc, files, file) {
-        Ok(source) => answer_source(alloc, &source, out),
-        Err(ReadFault::File) => Status::FileFault,
-        Err(ReadFault::Memory) => Status::Memory,
+        Ok(source) => answer_source(alloc, command, &source, out),
+        Err(ReadFailure::File) => Status::FileFault,
+        Err(ReadFailure::Memory) => Status::Memory,
     }
 }
 
-// Does what a source means, and says how that ended.
-fn answer_source<O: Sink>(alloc: Global, source: &[u8], out: &mut O) -> Status
+// Answers a request about a source.
+fn answer_source<O: Sink>(alloc: Global, command: Command, source: &[u8], out: &mut O) -> Status
     requires { length source.now < 2 ^ 32 - 1 }
     ensures no_usage { result ≡ Status.Usage → ⊥ }
     ensures no_file_fault { result ≡ Status.FileFault → ⊥ }
     ensures no_input_fault { result ≡ Status.InputFault → ⊥ }
     ensures write_fault { result ≡ Status.WriteFault → Rose (O.faults out.old) (O.faults out.new) }
-    ensures answered { is_answer result ≡ true → (answer : Answer) × IsSourceAnswer source.now answer }
-    ensures answer { (answer : Answer) → IsSourceAnswer source.now answer → is_answer result ≡ true
+    ensures stops { (O.faults out.new ≡ O.faults out.old) ⊎ StopsAt O.written O.faults out.old out.new }
+    ensures answered { is_answer result ≡ true → (answer : Answer) × IsSourceAnswer command source.now answer }
+    ensures answer { (answer : Answer) → IsSourceAnswer command source.now answer → is_answer result ≡ true
         → Gives answer result (O.written out.old) (O.written out.new) }
-    ensures prefix { (answer : Answer) → IsSourceAnswer source.now answer → AddsPrefix (O.written out.old) (O.written out.new) answer.output }
+    ensures prefix { (answer : Answer) → IsSourceAnswer command source.now answer → AddsPrefix (O.written out.old) (O.written out.new) answer.output }
     ensures later { O.faults out.old ≤ O.faults out.new }
 {
-    match run_source(alloc, source, out) {
+    match compile_and_do(alloc, command, source, out) {
         Ok(ending) => ending.status(),
         Err(RunFailure::Output) => Status::WriteFault,
         Err(RunFailure::Memory) => Status::Memory,
+    }
+}
+
+// Does with a source what the command says.
+fn compile_and_do<O: Sink>(
+    alloc: Global,
+    command: Command,
+    source: &[u8],
+    out: &mut O,
+) -> Result<Ending, RunFailure>
+    requires { length source.now < 2 ^ 32 - 1 }
+    ensures known { OnOk result ((compiled : Compiled) × SourceCompiles command source.now compiled) }
+    ensures does { (compiled : Compiled) → SourceCompiles command source.now compiled
+        → Does (meaning_of compiled) (O.written out.old) (O.written out.new) result }
+    ensures output { OutputAfter O.written O.faults out.old out.new result }
+{
+    match command {
+        Command::Run => compile_and_run(alloc, source, out),
+        Command::Check => check_only(alloc, source),
+    }
+}
+
+// Compiles a source and runs it.
+fn compile_and_run<O: Sink>(alloc: Global, source: &[u8], out: &mut O) -> Result<Ending, RunFailure>
+    requires { length source.now < 2 ^ 32 - 1 }
+    ensures known { OnOk result ((compiled : Compiled) × SourceCompiles Command.Run source.now compiled) }
+    ensures does { (compiled : Compiled) → SourceCompiles Command.Run source.now compiled
+        → Does (meaning_of compiled) (O.written out.old) (O.written out.new) result }
+    ensures output { OutputAfter O.written O.faults out.old out.new result }
+{
+    match compile(alloc, source) {
+        Ok(program) => run(alloc, &program, out),
+        Err(Refusal::Broken { rule, line }) => Ok(Ending::Refused { rule, line }),
+        Err(Refusal::Memory) => Err(RunFailure::Memory),
+    }
+}
+
+// Checks a source.
+fn check_only(alloc: Global, source: &[u8]) -> Result<Ending, RunFailure>
+    requires { length source.now < 2 ^ 32 - 1 }
+    ensures known { OnOk result ((compiled : Compiled) × SourceCompiles Command.Check source.now compiled) }
+    ensures does { (compiled : Compiled) → SourceCompiles Command.Check source.now compiled
+        → (output : Option (List ℕ)) → Does (meaning_of compiled) output output result }
+    ensures no_output_fault { result ≡ Err RunFailure.Output → ⊥ }
+{
+    // Two trees of its tokens have one syntax, so a source has one answer.
+    one_tree();
+    match check_source(alloc, source) {
+        Ok(()) => Ok(Ending::Normal),
+        Err(Refusal::Broken { rule, line }) => Ok(Ending::Refused { rule, line }),
+        Err(Refusal::Memory) => Err(RunFailure::Memory),
+    }
+}
+
+// Runs a program.
+fn run<O: Sink>(alloc: Global, program: &Program, out: &mut O) -> Result<Ending, RunFailure>
+    ensures does { Does (meaning_of (Runnable program.now)) (O.written out.old) (O.written out.new) result }
+    ensures output { OutputAfter O.written O.faults out.old out.new result }
+{
+    match run_program(alloc, program, out) {
+        Ok(error) => Ok(ending_of(error)),
+        Err(failure) => Err(failure),
+    }
+}
+
+// How a run ends that this error ends, if one does.
+fn ending_of(error: Option<ErrorAt>) -> Ending
+    ensures { result ≡ run_ending error }
+{
+    match error {
+        Some(ErrorAt { error, line }) => Ending::RunFault { error, line },
+        None => Ending::Normal,
     }
 }

@@ -1,14 +1,14 @@
 // Runs a program of the small form, and writes its output as it goes.
-ghost use Rattle.std.specs.Prelude.{◌≡◌, ◌≤◌, Ok, Err, Some, None, [], OnOk, IfOk, IfErr};
+ghost use Rattle.std.specs.Prelude.{◌≡◌, Ok, Err, Some, None, [], OnOk, IfOk, IfErr};
 ghost use Rattle.std.specs.Io.KnownBytes.{Appends, Keeps};
 ghost use Rattle.sim_ports.specs.Bytes.{AddsPrefix};
-ghost use Rattle.sim_ports.specs.Faults.{Rose};
 ghost use Rattle.sim_driver.specs.Meaning.{After, assigned, assignment_effect, bytes_of, effect_of, field_written, first_state, integer_written, line_written, outint_effect, program_run, run_from, sum_value};
 ghost use Rattle.sim_driver.specs.Image.{last_line};
 ghost use Rattle.sim_driver.specs.Evaluating.{Does, RunsTo};
+ghost use Rattle.sim_driver.specs.OutputAfter.{OutputAfter, OutputInterrupted};
 
+use crate::failure::{ErrorAt, Interruption, RunFailure};
 use crate::image::{IMAGE_LENGTH, Image, field};
-use crate::stop::{Fault, RunFailure, Stop};
 use crate::values::sum_value;
 use sim_base::{DeclNo, Line, RunError};
 use sim_ports::Sink;
@@ -18,18 +18,18 @@ use std::marker::Model;
 
 /// What stands between two statements.
 #[derive(Drop)]
-struct Machine {
+struct Evaluator {
     // The values of the variables, by the numbers of their declarations.
     variables: Vec<i64>,
     image: Image,
 }
 
-impl Model for Machine {
+impl Model for Evaluator {
     ghost use Rattle.sim_driver.specs.State.{State};
 
     ghost Value = { State };
 
-    ghost view = { λ machine. record { variables = machine.variables.items; image = machine.image } };
+    ghost view = { λ evaluator. record { variables = evaluator.variables.items; image = evaluator.image } };
 }
 
 /// Runs a program and writes its output. Answers the error that ends the run, if one does.
@@ -38,27 +38,26 @@ pub fn run_program<O: Sink>(
     alloc: Global,
     program: &Program,
     out: &mut O,
-) -> Result<Option<Fault>, RunFailure>
-    ensures fault { IfOk result (λ fault. fault ≡ (program_run program.now).fault) }
+) -> Result<Option<ErrorAt>, RunFailure>
+    ensures error { IfOk result (λ error. error ≡ (program_run program.now).error) }
     ensures whole { OnOk result (Appends (O.written out.old) (O.written out.new) (program_run program.now).output) }
     ensures part { AddsPrefix (O.written out.old) (O.written out.new) (program_run program.now).output }
-    ensures cause { result ≡ Err RunFailure.Output → Rose (O.faults out.old) (O.faults out.new) }
-    ensures later { O.faults out.old ≤ O.faults out.new }
+    ensures output { OutputAfter O.written O.faults out.old out.new result }
 {
-    let mut machine = Machine::new(alloc, program.variables)?;
-    match machine.run(alloc, program.statements.as_slice(), out) {
-        Ok(()) => machine.finish(None, out),
-        Err(Stop::Fault(fault)) => machine.finish(Some(fault), out),
-        Err(Stop::Failure(failure)) => Err(failure),
+    let mut evaluator = Evaluator::new(alloc, program.variables)?;
+    match evaluator.run(alloc, program.statements.as_slice(), out) {
+        Ok(()) => evaluator.finish(None, out),
+        Err(Interruption::Error(error)) => evaluator.finish(Some(error), out),
+        Err(Interruption::Failure(failure)) => Err(failure),
     }
 }
 
-impl Machine {
-    // The machine before the first statement.
-    fn new(alloc: Global, variables: usize) -> Result<Machine, AllocError>
-        ensures { IfOk result (λ machine. machine ≡ first_state variables) }
+impl Evaluator {
+    // The evaluator before the first statement.
+    fn new(alloc: Global, variables: usize) -> Result<Evaluator, AllocError>
+        ensures { IfOk result (λ evaluator. evaluator ≡ first_state variables) }
     {
-        Ok(Machine {
+        Ok(Evaluator {
             variables: vec![in alloc; 0; variables]?,
             image: Image::new(alloc),
         })
@@ -70,10 +69,9 @@ impl Machine {
         alloc: Global,
         statements: &[Statement],
         out: &mut O,
-    ) -> Result<(), Stop>
+    ) -> Result<(), Interruption>
         ensures run { RunsTo (run_from self.old statements.now) (O.written out.old) (O.written out.new) self.new result }
-        ensures fault { result ≡ Err (Stop.Failure RunFailure.Output) → Rose (O.faults out.old) (O.faults out.new) }
-        ensures later { O.faults out.old ≤ O.faults out.new }
+        ensures output { OutputInterrupted O.written O.faults out.old out.new result }
     {
         for statement in statements {
             self.execute(alloc, statement, out)?;
@@ -82,19 +80,22 @@ impl Machine {
     }
 
     // Writes the last line of a run that ends with this error, if with one.
-    fn finish<O: Sink>(self, fault: Option<Fault>, out: &mut O) -> Result<Option<Fault>, RunFailure>
-        ensures same { IfOk result (λ same. same ≡ fault) }
+    fn finish<O: Sink>(
+        self,
+        error: Option<ErrorAt>,
+        out: &mut O,
+    ) -> Result<Option<ErrorAt>, RunFailure>
+        ensures same { IfOk result (λ same. same ≡ error) }
         ensures whole { OnOk result (Appends (O.written out.old) (O.written out.new) (last_line self.image)) }
         ensures part { AddsPrefix (O.written out.old) (O.written out.new) (last_line self.image) }
-        ensures cause { result ≡ Err RunFailure.Output → Rose (O.faults out.old) (O.faults out.new) }
-        ensures later { O.faults out.old ≤ O.faults out.new }
+        ensures output { OutputAfter O.written O.faults out.old out.new result }
     {
-        let Machine {
+        let Evaluator {
             variables: _,
             image,
         } = self;
         image.finish(out)?;
-        Ok(fault)
+        Ok(error)
     }
 
     // Does a statement.
@@ -103,10 +104,9 @@ impl Machine {
         alloc: Global,
         statement: &Statement,
         out: &mut O,
-    ) -> Result<(), Stop>
+    ) -> Result<(), Interruption>
         ensures effect { Does (effect_of self.old statement.now) (O.written out.old) (O.written out.new) self.old self.new result }
-        ensures fault { result ≡ Err (Stop.Failure RunFailure.Output) → Rose (O.faults out.old) (O.faults out.new) }
-        ensures later { O.faults out.old ≤ O.faults out.new }
+        ensures output { OutputInterrupted O.written O.faults out.old out.new result }
     {
         match statement {
             Statement::Empty => Ok(()),
@@ -125,9 +125,9 @@ impl Machine {
     }
 
     // Gives a variable the value of a sum.
-    fn assign(&mut self, variable: DeclNo, sum: &Sum) -> Result<(), Fault>
+    fn assign(&mut self, variable: DeclNo, sum: &Sum) -> Result<(), ErrorAt>
         ensures done { OnOk result (assignment_effect self.old variable.0 sum.now ≡ Ok (record { state = self.new; bytes = [] })) }
-        ensures fault { IfErr result (λ fault. assignment_effect self.old variable.0 sum.now ≡ Err fault) }
+        ensures error { IfErr result (λ error. assignment_effect self.old variable.0 sum.now ≡ Err error) }
         ensures image { self.new.image ≡ self.old.image }
     {
         let value = sum_value(&self.variables, sum)?;
@@ -145,10 +145,9 @@ impl Machine {
         value: &Sum,
         width: &Sum,
         out: &mut O,
-    ) -> Result<(), Stop>
+    ) -> Result<(), Interruption>
         ensures effect { Does (outint_effect self.old line value.now width.now) (O.written out.old) (O.written out.new) self.old self.new result }
-        ensures fault { result ≡ Err (Stop.Failure RunFailure.Output) → Rose (O.faults out.old) (O.faults out.new) }
-        ensures later { O.faults out.old ≤ O.faults out.new }
+        ensures output { OutputInterrupted O.written O.faults out.old out.new result }
     {
         let item = sum_value(&self.variables, value)?;
         let places = sum_value(&self.variables, width)?;
@@ -163,13 +162,12 @@ impl Machine {
         value: i64,
         width: i64,
         out: &mut O,
-    ) -> Result<(), Stop>
+    ) -> Result<(), Interruption>
         ensures effect { Does (integer_written self.old line value width) (O.written out.old) (O.written out.new) self.old self.new result }
-        ensures fault { result ≡ Err (Stop.Failure RunFailure.Output) → Rose (O.faults out.old) (O.faults out.new) }
-        ensures later { O.faults out.old ≤ O.faults out.new }
+        ensures output { OutputInterrupted O.written O.faults out.old out.new result }
     {
         if width.unsigned_abs() > IMAGE_LENGTH as u64 {
-            return Err(Stop::Fault(Fault {
+            return Err(Interruption::Error(ErrorAt {
                 error: RunError::FieldTooLong,
                 line,
             }));

@@ -1,11 +1,11 @@
 // The image of the output: what stands in the line that comes next.
-ghost use Rattle.std.specs.Prelude.{◌≡◌, ◌≤◌, ◌<◌, ◌^◌, length, take, [], OnOk, IfOk, IsErrOf};
+ghost use Rattle.std.specs.Prelude.{◌≡◌, ◌<◌, ◌^◌, length, take, [], OnOk, IfOk};
 ghost use Rattle.std.specs.Io.KnownBytes.{Appends};
 ghost use Rattle.sim_ports.specs.Bytes.{AddsPrefix};
-ghost use Rattle.sim_ports.specs.Faults.{Rose};
 ghost use Rattle.sim_driver.specs.Image.{field_of, image_line, justified, last_line, left_justified, right_justified, with_field, with_room, without_last_blanks};
+ghost use Rattle.sim_driver.specs.OutputAfter.{OutputAfter};
 
-use crate::stop::RunFailure;
+use crate::failure::RunFailure;
 use sim_ports::{Sink, write_all};
 use std::alloc::{AllocError, Global};
 use std::marker::Model;
@@ -42,8 +42,7 @@ impl Image {
         ensures cleared { OnOk result (self.new ≡ []) }
         ensures whole { OnOk result (Appends (O.written out.old) (O.written out.new) (image_line self.old)) }
         ensures part { AddsPrefix (O.written out.old) (O.written out.new) (image_line self.old) }
-        ensures fault { IsErrOf result RunFailure.Output → Rose (O.faults out.old) (O.faults out.new) }
-        ensures later { O.faults out.old ≤ O.faults out.new }
+        ensures output { OutputAfter O.written O.faults out.old out.new result }
     {
         let kept = length_without_last_blanks(&self.bytes);
         self.bytes.truncate(kept);
@@ -58,8 +57,7 @@ impl Image {
         ensures image { OnOk result (self.new ≡ (with_field self.old field.now).image) }
         ensures whole { OnOk result (Appends (O.written out.old) (O.written out.new) (with_field self.old field.now).bytes) }
         ensures part { AddsPrefix (O.written out.old) (O.written out.new) (with_field self.old field.now).bytes }
-        ensures fault { IsErrOf result RunFailure.Output → Rose (O.faults out.old) (O.faults out.new) }
-        ensures later { O.faults out.old ≤ O.faults out.new }
+        ensures output { OutputAfter O.written O.faults out.old out.new result }
     {
         self.make_room(field.len(), out)?;
         self.bytes.extend_from_slice(field)?;
@@ -72,8 +70,7 @@ impl Image {
         ensures image { OnOk result (self.new ≡ (with_room self.old places).image) }
         ensures whole { OnOk result (Appends (O.written out.old) (O.written out.new) (with_room self.old places).bytes) }
         ensures part { AddsPrefix (O.written out.old) (O.written out.new) (with_room self.old places).bytes }
-        ensures fault { IsErrOf result RunFailure.Output → Rose (O.faults out.old) (O.faults out.new) }
-        ensures later { O.faults out.old ≤ O.faults out.new }
+        ensures output { OutputAfter O.written O.faults out.old out.new result }
     {
         if self.bytes.len() + places > IMAGE_LENGTH {
             return self.outimage(out);
@@ -85,8 +82,7 @@ impl Image {
     pub fn finish<O: Sink>(self, out: &mut O) -> Result<(), RunFailure>
         ensures whole { OnOk result (Appends (O.written out.old) (O.written out.new) (last_line self)) }
         ensures part { AddsPrefix (O.written out.old) (O.written out.new) (last_line self) }
-        ensures fault { IsErrOf result RunFailure.Output → Rose (O.faults out.old) (O.faults out.new) }
-        ensures later { O.faults out.old ≤ O.faults out.new }
+        ensures output { OutputAfter O.written O.faults out.old out.new result }
     {
         if self.bytes.is_empty() {
             return Ok(());
@@ -100,8 +96,7 @@ impl Image {
 fn write_line<O: Sink>(line: &[u8], out: &mut O) -> Result<(), RunFailure>
     ensures whole { OnOk result (Appends (O.written out.old) (O.written out.new) line.now) }
     ensures part { AddsPrefix (O.written out.old) (O.written out.new) line.now }
-    ensures fault { IsErrOf result RunFailure.Output → Rose (O.faults out.old) (O.faults out.new) }
-    ensures later { O.faults out.old ≤ O.faults out.new }
+    ensures output { OutputAfter O.written O.faults out.old out.new result }
 {
     match write_all(out, line) {
         Ok(()) => Ok(()),

@@ -3,19 +3,16 @@
 
 mod arithmetic;
 mod command;
+mod compiling;
 mod evaluator;
-#[cfg(test)]
-mod grammar_tests;
+mod failure;
 mod image;
 mod reading;
-mod source;
+mod speaking;
 mod status;
-mod stop;
-mod telling;
-#[cfg(test)]
-mod tests;
 mod top;
 mod values;
+mod words;
 
 pub use status::Status;
 pub use top::simula;

@@ -1,64 +1,69 @@
 // Reads a file up to the limit of a source.
-ghost use Rattle.std.specs.Prelude.{◌≡◌, ◌≤◌, None, length, take, IfOk, IfSome, IsErrOf, OnErr, Some};
+ghost use Rattle.std.specs.Prelude.{◌≡◌, ◌+◌, ◌≤◌, None, length, take, List, ℕ, IfOk, IfSome, IsSome, IsErrOf, Some};
 ghost use Rattle.sim_ports.specs.Faults.{Rose};
 ghost use Rattle.sim_ports.specs.Named.{IsOpen};
+ghost use Rattle.sim_driver.specs.Reading.{TakesAtMost};
 
+use sim_lexer::SOURCE_LIMIT;
 use sim_ports::{Failed, Files};
 use std::alloc::{AllocError, Global};
 use thiserror::Error;
 
-/// One byte more than a source may have.
-pub const SOURCE_LIMIT: usize = 1_048_577;
-
 /// Why a file wasn't read.
 #[derive(Clone, Copy, Debug, PartialEq, Eq, Error)]
-pub enum ReadFault {
+pub enum ReadFailure {
     #[error("want of memory")]
     Memory,
     #[error("cannot read the file")]
     File,
 }
 
-impl From<AllocError> for ReadFault {
+impl From<AllocError> for ReadFailure {
     ghost use Rattle.std.specs.Prelude.{◌≡◌};
-    ghost use Rattle.sim_driver.specs.declared.reading.ReadFault.TheVariants.{Memory};
+    ghost use Rattle.sim_driver.specs.declared.reading.ReadFailure.TheVariants.{Memory};
 
-    ghost from_gives = { λ _ fault. fault ≡ Memory };
+    ghost from_gives = { λ _ failure. failure ≡ Memory };
 
     fn from(_: AllocError) -> Self {
-        ReadFault::Memory
+        ReadFailure::Memory
     }
 }
 
-/// The bytes of a file, at most `SOURCE_LIMIT` of them.
-pub fn read_source<F: Files>(alloc: Global, files: &mut F, name: &str) -> Result<Vec<u8>, ReadFault>
+/// The bytes of a file, of one that is longer than `SOURCE_LIMIT` one more than so many. It reads no further.
+pub fn read_source<F: Files>(
+    alloc: Global,
+    files: &mut F,
+    name: &str,
+) -> Result<Vec<u8>, ReadFailure>
     requires { F.selected files.old ≡ None }
-    ensures bytes { IfOk result (λ bytes. IfSome (F.content files.old name.now) (λ content. bytes.items ≡ take SOURCE_LIMIT content)) }
-    ensures within { IfOk result (λ bytes. length bytes.items ≤ SOURCE_LIMIT) }
-    ensures fault { IsErrOf result ReadFault.File → Rose (F.faults files.old) (F.faults files.new) }
+    ensures bytes { (content : List ℕ) → F.content files.old name.now ≡ Some content → IfOk result (λ bytes. bytes.items ≡ take (SOURCE_LIMIT + 1) content) }
+    ensures within { IfOk result (λ bytes. length bytes.items ≤ SOURCE_LIMIT + 1) }
+    ensures fault { IsErrOf result ReadFailure.File → Rose (F.faults files.old) (F.faults files.new) × IsSome (F.selected files.new) }
     ensures chosen { IfSome (F.selected files.new) (λ chosen. chosen.name ≡ name.now) }
+    ensures read_to { (content : List ℕ) → F.content files.old name.now ≡ Some content → IsOpen (F.selected files.new) → TakesAtMost (SOURCE_LIMIT + 1) content (F.left files.new) }
     ensures later { F.faults files.old ≤ F.faults files.new }
 {
     let name = String::from_str(alloc, name)?;
-    files.select(name).map_err(|_| ReadFault::File)?;
+    files.select(name).map_err(|_| ReadFailure::File)?;
     read_open(alloc, files)
 }
 
-// The bytes of the open file, at most `SOURCE_LIMIT` of them.
-fn read_open<F: Files>(alloc: Global, files: &mut F) -> Result<Vec<u8>, ReadFault>
+// The bytes of the open file, at most one more than `SOURCE_LIMIT`.
+fn read_open<F: Files>(alloc: Global, files: &mut F) -> Result<Vec<u8>, ReadFailure>
     requires { IsOpen (F.selected files.old) }
-    ensures bytes { IfOk result (λ bytes. IfSome (F.left files.old) (λ content. bytes.items ≡ take SOURCE_LIMIT content)) }
-    ensures within { IfOk result (λ bytes. length bytes.items ≤ SOURCE_LIMIT) }
-    ensures fault { IsErrOf result ReadFault.File → Rose (F.faults files.old) (F.faults files.new) }
+    ensures bytes { (content : List ℕ) → F.left files.old ≡ Some content → IfOk result (λ bytes. bytes.items ≡ take (SOURCE_LIMIT + 1) content) }
+    ensures within { IfOk result (λ bytes. length bytes.items ≤ SOURCE_LIMIT + 1) }
+    ensures fault { IsErrOf result ReadFailure.File → Rose (F.faults files.old) (F.faults files.new) }
     ensures chosen { F.selected files.new ≡ F.selected files.old }
+    ensures read_to { (content : List ℕ) → F.left files.old ≡ Some content → TakesAtMost (SOURCE_LIMIT + 1) content (F.left files.new) }
     ensures later { F.faults files.old ≤ F.faults files.new }
 {
     let mut bytes = Vec::new(alloc);
     let mut buffer = [0u8; 4096];
-    'reading: while bytes.len() < SOURCE_LIMIT {
-        let room = buffer.len().min(SOURCE_LIMIT - bytes.len());
+    'reading: while bytes.len() <= SOURCE_LIMIT {
+        let room = buffer.len().min(SOURCE_LIMIT + 1 - bytes.len());
         let Ok(count) = files.read(&mut buffer[..room]) else {
-            return Err(ReadFault::File);
+            return Err(ReadFailure::File);
         };
         if count == 0 {
             return Ok(bytes);

@@ -1,9 +1,9 @@
 // How a command ends, and the line that it writes to the diagnostic output.
-ghost use Rattle.std.specs.Prelude.{◌≡◌, IfOk, string_bytes};
-ghost use Rattle.sim_driver.specs.Status.{line_text, status_number, status_of};
+ghost use Rattle.std.specs.Prelude.{◌≡◌, Some};
+ghost use Rattle.sim_driver.specs.Status.{status_number, status_of, status_text};
 
 use sim_base::{Line, Rule, RunError};
-use std::alloc::{AllocError, Global};
+use std::fmt;
 
 /// How a command ends.
 #[derive(Clone, Copy, Debug, PartialEq, Eq)]
@@ -66,24 +66,22 @@ impl Status {
             Status::Memory => 9,
         }
     }
+}
 
-    /// The line for the diagnostic output, with its line feed; nothing at the normal end.
-    pub fn line(&self, alloc: Global) -> Result<String, AllocError>
-        ensures { IfOk result (λ text. string_bytes text ≡ line_text self.now) }
-    {
+/// What the status says on the diagnostic output, without a line feed; nothing at the normal end.
+impl fmt::Display for Status {
+    ghost output = { λ status. Some (status_text status) };
+
+    fn fmt<W: fmt::Write>(&self, f: &mut fmt::Formatter<W>) -> fmt::Result {
         match self {
-            Status::Normal => Ok(String::new(alloc)),
-            Status::Refused { rule, line } => {
-                format!(in alloc; "line {}: {}\n", line.0, rule.text())
-            }
-            Status::RunFault { error, line } => {
-                format!(in alloc; "line {}: {}\n", line.0, error.text())
-            }
-            Status::Usage => String::from_str(alloc, "usage: simula run FILE\n"),
-            Status::FileFault => String::from_str(alloc, "cannot read the file\n"),
-            Status::InputFault => String::from_str(alloc, "input fault\n"),
-            Status::WriteFault => String::from_str(alloc, "output fault\n"),
-            Status::Memory => String::from_str(alloc, "want of memory\n"),
+            Status::Normal => Ok(()),
+            Status::Refused { rule, line } => write!(f, "line {}: {rule}", line.0),
+            Status::RunFault { error, line } => write!(f, "line {}: {error}", line.0),
+            Status::Usage => f.write_str("usage: simula run|check FILE"),
+            Status::FileFault => f.write_str("cannot read the file"),
+            Status::InputFault => f.write_str("input fault"),
+            Status::WriteFault => f.write_str("output fault"),
+            Status::Memory => f.write_str("want of memory"),
         }
     }
 }

@@ -1,21 +1,25 @@
 // The top call.
-ghost use Rattle.std.specs.Prelude.{◌≡◌, ◌⊎◌, List, ℕ, None, Some, true, IfSome};
+ghost use Rattle.std.specs.Prelude.{◌≡◌, ◌+◌, ◌⊎◌, List, ℕ, None, Some, true, IfSome, IsSome};
 ghost use Rattle.std.specs.Io.KnownBytes.{Appends, Keeps};
 ghost use Rattle.sim_ports.specs.Bytes.{AddsPrefix};
-ghost use Rattle.sim_ports.specs.Faults.{Rose, Steady};
+ghost use Rattle.sim_ports.specs.Faults.{Rose, Steady, StopsAt};
+ghost use Rattle.sim_ports.specs.Named.{IsOpen};
 ghost use Rattle.sim_driver.specs.Answer.{Answer, Gives, IsAnswer};
-ghost use Rattle.sim_driver.specs.Status.{is_answer, line_text};
+ghost use Rattle.sim_driver.specs.Reading.{TakesAtMost};
+ghost use Rattle.sim_driver.specs.Speaking.{HasItsCause, Says};
+ghost use Rattle.sim_driver.specs.Status.{is_answer, is_told, line_text};
 ghost use Rattle.sim_driver.specs.Words.{file_of, texts, TellsFile};
 ghost use Rattle.sim_driver.specs.declared.status.Status.{Status as AnyStatus};
 
-use crate::command::perform;
+use crate::command::run_command;
+use crate::speaking::write_status_line;
 use crate::status::Status;
-use crate::telling::tell;
+use sim_lexer::SOURCE_LIMIT;
 use sim_ports::{Files, Sink, Source};
 use std::alloc::Global;
 
-/// Does what the words of the command line ask for. The one command is `run FILE`: the source in the file is run, its
-/// output goes to `out`, and one line to `diag` says how it ended, but for a normal end.
+/// Does what the words of the command line ask for. `run FILE` runs the source in the file, and its output goes to `out`;
+/// `check FILE` runs nothing. One line to `diag` says how it ended, but for a normal end.
 pub fn simula<F: Files, I: Source, O: Sink, D: Sink>(
     alloc: Global,
     words: &[String],
@@ -37,12 +41,18 @@ pub fn simula<F: Files, I: Source, O: Sink, D: Sink>(
 
     // The cause of each status that the answer doesn't give.
     ensures usage { result ≡ Status.Usage → file_of (texts words.now) ≡ None }
-    ensures file_fault { result ≡ Status.FileFault → Rose (F.faults files.old) (F.faults files.new) × Keeps (O.written out.old) (O.written out.new) }
+    ensures file_fault { result ≡ Status.FileFault → Rose (F.faults files.old) (F.faults files.new) × Keeps (O.written out.old) (O.written out.new) × IsSome (F.selected files.new) }
     ensures input_fault { result ≡ Status.InputFault → Rose (I.faults input.old) (I.faults input.new) }
     ensures write_fault { result ≡ Status.WriteFault → Rose (O.faults out.old) (O.faults out.new) ⊎ Rose (D.faults diag.old) (D.faults diag.new) }
 
+    // After a failed write nothing more goes to the output.
+    ensures stops { (O.faults out.new ≡ O.faults out.old) ⊎ StopsAt O.written O.faults out.old out.new }
+
     // No other file is selected than the one that the words name.
     ensures chosen { IfSome (F.selected files.new) (λ chosen. file_of (texts words.now) ≡ Some chosen.name) }
+    // It is read no further than one byte past the limit of a source.
+    ensures read_to { (file source : List ℕ) → file_of (texts words.now) ≡ Some file → F.content files.old file ≡ Some source
+        → IsOpen (F.selected files.new) → TakesAtMost (SOURCE_LIMIT + 1) source (F.left files.new) }
     ensures files_left { file_of (texts words.now) ≡ None → (F.selected files.new ≡ F.selected files.old)
         × (F.content files.new ≡ F.content files.old) × (F.left files.new ≡ F.left files.old) × (F.faults files.new ≡ F.faults files.old) }
 
@@ -55,13 +65,17 @@ pub fn simula<F: Files, I: Source, O: Sink, D: Sink>(
     ensures prefix { (source : List ℕ) (answer : Answer) → TellsFile (F.content files.old) (texts words.now) source
         → IsAnswer (texts words.now) source answer → AddsPrefix (O.written out.old) (O.written out.new) answer.output }
 
-    // The line of the status, whole where its output did not fail.
+    // The line of the status, whole where its output did not fail. A status that is neither an output fault nor want of
+    // memory has its whole line, and no write of it failed.
     ensures line { Steady (D.faults diag.old) (D.faults diag.new) → Appends (D.written diag.old) (D.written diag.new) (line_text result) }
-    // Of a line that was cut short: it is the answer's, or that of a fault or of want of memory.
-    ensures line_part { (status : AnyStatus)
-        × (is_answer status ≡ true → (source : List ℕ) (answer : Answer) → TellsFile (F.content files.old) (texts words.now) source
-        → IsAnswer (texts words.now) source answer → status ≡ answer.status)
-        × AddsPrefix (D.written diag.old) (D.written diag.new) (line_text status) }
+    ensures told { is_told result ≡ true → Appends (D.written diag.old) (D.written diag.new) (line_text result) × (D.faults diag.new ≡ D.faults diag.old) }
+    // What is said there, whole or cut short, is the line of a status that its cause allows. A line that was cut short makes
+    // the status an output fault, but after want of memory.
+    ensures line_part { (said : AnyStatus)
+        × (is_answer said ≡ true → (source : List ℕ) (answer : Answer) → TellsFile (F.content files.old) (texts words.now) source
+        → IsAnswer (texts words.now) source answer → said ≡ answer.status)
+        × HasItsCause (texts words.now) said (Rose (F.faults files.old) (F.faults files.new)) (Rose (I.faults input.old) (I.faults input.new)) (Rose (O.faults out.old) (O.faults out.new))
+        × Says said result (D.written diag.old) (D.written diag.new) (D.faults diag.old) (D.faults diag.new) }
 
     // Input is not read.
     ensures input_left { I.left input.new ≡ I.left input.old }
@@ -69,6 +83,6 @@ pub fn simula<F: Files, I: Source, O: Sink, D: Sink>(
     ensures input_faults { I.faults input.new ≡ I.faults input.old }
 {
     let _ = input;
-    let status = perform(alloc, words, files, out);
-    tell(alloc, status, diag)
+    let status = run_command(alloc, words, files, out);
+    write_status_line(alloc, status, diag)
 }

@@ -3,12 +3,12 @@ ghost use Rattle.std.specs.Prelude.{◌≡◌};
 ghost use Rattle.sim_driver.specs.Meaning.{factor_value, next_sum, sum_value, term_value};
 
 use crate::arithmetic::{add, multiply};
-use crate::stop::Fault;
+use crate::failure::ErrorAt;
 use small_form::{Addition, Factor, Sum, Term};
 
 /// The value of a sum, from left to right, at these values of the variables.
 #[tactic(auto, unfolding(crate::specs::Meaning::sum_value))]
-pub fn sum_value(variables: &[i64], sum: &Sum) -> Result<i64, Fault>
+pub fn sum_value(variables: &[i64], sum: &Sum) -> Result<i64, ErrorAt>
     ensures { result ≡ sum_value variables.now sum.now }
 {
     let mut value = term_value(variables, &sum.first)?;
@@ -19,7 +19,7 @@ pub fn sum_value(variables: &[i64], sum: &Sum) -> Result<i64, Fault>
 }
 
 // A sum with one more term.
-fn next_sum(variables: &[i64], sum: i64, next: &Addition) -> Result<i64, Fault>
+fn next_sum(variables: &[i64], sum: i64, next: &Addition) -> Result<i64, ErrorAt>
     ensures { result ≡ next_sum variables.now sum next.now }
 {
     let term = term_value(variables, &next.term)?;
@@ -27,7 +27,7 @@ fn next_sum(variables: &[i64], sum: i64, next: &Addition) -> Result<i64, Fault>
 }
 
 // The value of a term.
-fn term_value(variables: &[i64], term: &Term) -> Result<i64, Fault>
+fn term_value(variables: &[i64], term: &Term) -> Result<i64, ErrorAt>
     ensures { result ≡ term_value variables.now term.now }
 {
     let mut product = factor_value(variables, term.first);

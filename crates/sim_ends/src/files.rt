@@ -1,5 +1,6 @@
 //! Files of the system.
 ghost use Rattle.std.specs.Prelude.{◌≡◌, None, is_some};
+ghost use Rattle.sim_ends.specs.OpenFile.{left_of};
 ghost use Rattle.sim_ports.specs.Named.{selected_of};
 
 use crate::calls::read_once;
@@ -7,7 +8,8 @@ use sim_ports::{Failed, Files};
 use std::fs;
 use std::rt::Files as FileSystem;
 
-/// Files of the system, of which one is opened. A name that can't be opened is a fault, and so is a read that fails.
+/// Files of the system, of which one is opened by its whole name, blanks included. What is left of it is told where the
+/// opened file tells it. A name that can't be opened is a fault, and so is a read that fails.
 #[derive(Drop)]
 pub struct RealFiles<'a, R: FileSystem> {
     rt: &'a R,
@@ -34,7 +36,7 @@ impl<'a, R: FileSystem> RealFiles<'a, R> {
 impl<R: FileSystem> Files for RealFiles<'_, R> {
     ghost content = { λ files name. None };
 
-    ghost left = { λ files. None };
+    ghost left = { λ files. left_of R.File.remaining files.file };
 
     ghost selected = { λ files. selected_of files.chosen (is_some files.file) };
 

@@ -1,13 +1,12 @@
-//! The real outside: files of the system, and any reader and writer as an input and an output. They tell no content, so
-//! what leaves or enters the process by them is trusted, and each fault is counted.
+//! The real outside: files of the system, and any reader and writer as an input and an output. Each tells its bytes where
+//! the file, the reader or the writer below it does. Those of the process tell none, so what enters or leaves it is
+//! trusted. A call that fails is counted as a fault; one that a signal interrupts is made again.
 #![tactic(auto)]
 
 mod calls;
 mod files;
 mod input;
 mod output;
-#[cfg(test)]
-mod tests;
 
 pub use files::RealFiles;
 pub use input::Input;

@@ -3,3 +3,4 @@ pub mod Steps
 pub mod Tables
 pub mod Shapes
 pub mod Ranges
+pub mod Climbing

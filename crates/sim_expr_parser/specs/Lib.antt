@@ -1,3 +1,4 @@
 pub mod Level
+pub mod Operators
 pub mod Parsing
 pub mod Recursion

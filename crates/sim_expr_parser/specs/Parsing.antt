@@ -1,6 +1,7 @@
 -- What the parser's functions promise.
 use Rattle.std.specs.Prelude.{◌≡◌, ◌≤◌, ◌<◌, ℕ, ◌+◌, ◌^◌, List, [], ◌∷◌, map, length, Option, Some, None, Result, Ok, Err, true, false}
 use Rattle.std.specs.declared.alloc.Global.{Global}
+use Rattle.std.specs.declared.boxed.Box.{Box}
 use Rattle.std.specs.declared.vec.Vec.{Vec}
 use Rattle.sim_base.specs.declared.token.Token.{Token}
 use Rattle.sim_base.specs.declared.token.TokenKind.{TokenKind}
@@ -20,8 +21,8 @@ use Rattle.sim_expr_parser.specs.declared.refusal.Stop.TheVariants as stop
 use Rattle.sim_expr_parser.specs.declared.refusal.SyntaxRefusal.{SyntaxRefusal}
 use Rattle.sim_expr_parser.specs.declared.refusal.SyntaxRefusal.TheVariants as refusal
 
-abbrev pub operators : List Terminal
-operators = t.Times ∷ t.Divide ∷ []
+abbrev pub multiplications : List Terminal
+multiplications = t.Times ∷ t.Divide ∷ []
 
 abbrev pub tests : List Terminal
 tests = t.Is ∷ t.In ∷ []
@@ -77,6 +78,11 @@ abbrev pub GivesLevel : List Token → ℕ → ℕ → ℕ → Result (Expr × �
 GivesLevel ws d level i (Ok r) = ((shown r.0).level ≤ level) × ReadsPart ws d (level_part level) i (raise level (shown r.0)) r.1
 GivesLevel ws d level i (Err e) = Stops ws d (one (level_part level)) i e
 
+-- the same in a box
+abbrev pub GivesBoxed : List Token → ℕ → ℕ → ℕ → Result (Box Expr Global × ℕ) Stop → Type 0
+GivesBoxed ws d level i (Ok r) = ((shown r.0.value).level ≤ level) × ReadsPart ws d (level_part level) i (raise level (shown r.0.value)) r.1
+GivesBoxed ws d level i (Err e) = Stops ws d (one (level_part level)) i e
+
 -- one more of a repeated part: whether it begins, and if so what is inside it
 abbrev pub GivesNext : {A : Type 0} → List Token → ℕ → Part → ℕ → (A → Forest) → Result (Option (A × ℕ)) Stop → Type 0
 GivesNext ws d n i view (Ok None) = g.right_side n (terminal_at ws i) ≡ None
@@ -88,11 +94,12 @@ abbrev pub GivesList : List Token → ℕ → ℕ → Result (Vec Expr Global ×
 GivesList ws d i (Ok r) = (0 < length r.0.items) × ReadsList ws d i (map shown r.0.items) r.1
 GivesList ws d i (Err e) = (s : List Symbol) → Stops ws d (Of Once g.Expression ∷ Of Many g.NextArgument ∷ s) i e
 
--- a constant, where one stands there
-abbrev pub GivesConstant : List Token → ℕ → Result (Option (Expr × ℕ)) Stop → Type 0
-GivesConstant ws i (Ok None) = one_of g.literals (terminal_at ws i) ≡ false
-GivesConstant ws i (Ok (Some r)) = Took ws i g.literals (kind_at ws i) r.1 × (shown r.0 ≡ record { level = 0; inside = leaf i (kind_at ws i) done })
-GivesConstant ws i (Err e) = e ≡ stop.Memory
+-- a constant, or no other token
+abbrev pub GivesConstant : List Token → ℕ → Result (Expr × ℕ) Stop → Type 0
+GivesConstant ws i (Ok r) = Took ws i g.literals (kind_at ws i) r.1 × (shown r.0 ≡ record { level = 0; inside = leaf i (kind_at ws i) done })
+GivesConstant ws i (Err (stop.Unexpected k)) = (k ≡ i) × (one_of g.literals (terminal_at ws i) ≡ false)
+GivesConstant ws i (Err (stop.TooDeep k)) = ⊥
+GivesConstant ws i (Err stop.Memory) = Unit {0}
 
 -- the sign in front of a sum, if there is one
 abbrev pub GivesSign : List Token → ℕ → Option LeadingSign → ℕ → Type 0
@@ -102,7 +109,7 @@ GivesSign ws i (Some s) j = Took ws i signs (sign_kind s.sign) j × (s.token.0 �
 -- What parse_expr answers: the expression that the grammar gives, or the first bad token, or the first that nests too deeply, before which none is bad.
 abbrev pub Answers : List Token → ℕ → ℕ → Result (Expr × ℕ) SyntaxRefusal → Type 0
 Answers ws d i (Ok r) = IsExpr ws d i r.0 r.1
-Answers ws d i (Err (refusal.Broken rule.UnexpectedToken k)) = IsFirstBad ws (one g.Expression) i k.0
+Answers ws d i (Err (refusal.Broken rule.UnexpectedToken k)) = Fails limit ws d (one g.Expression) i (Unexpected k.0) × IsFirstBad ws (one g.Expression) i k.0
 Answers ws d i (Err (refusal.Broken rule.NestedTooDeeply k)) = Fails limit ws d (one g.Expression) i (TooDeep k.0) × Begins ws (one g.Expression) i k.0
 Answers ws d i (Err (refusal.Broken _ k)) = ⊥
 Answers ws d i (Err refusal.Memory) = Unit {0}

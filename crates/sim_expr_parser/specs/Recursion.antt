@@ -6,6 +6,6 @@ use Rattle.sim_tree.specs.Tree.{limit}
 abbrev pub calls_left : ℕ → ℕ → ℕ → ℕ
 calls_left each depth rest = (suc limit - depth) * each + rest
 
--- how many calls an expression takes, its own included, until the next one inside it
+-- how many calls an expression takes at most, its own included, until the next one inside it: as many where operators of every level stand inside each other
 abbrev pub calls : ℕ
-calls = 42
+calls = 69

@@ -76,11 +76,8 @@ pub fn identifier_at(
 }
 
 /// The constant at a token, and the index after it.
-pub fn constant_at(
-    alloc: Global,
-    tokens: &[Token],
-    at: usize,
-) -> Result<Option<(Expr, usize)>, Stop>
+#[inline(never)]
+pub fn constant_at(alloc: Global, tokens: &[Token], at: usize) -> Result<(Expr, usize), Stop>
     requires source { IsSource tokens.now }
     requires within { at < length tokens.now }
     ensures { GivesConstant tokens.now at result }
@@ -103,7 +100,7 @@ pub fn constant_at(
         TokenKind::False => Expr::False { token },
         TokenKind::None => Expr::NoObject { token },
         TokenKind::Notext => Expr::Notext { token },
-        _ => return Ok(None),
+        _ => return Err(Stop::Unexpected(at)),
     };
-    Ok(Some((constant, at + 1)))
+    Ok((constant, at + 1))
 }

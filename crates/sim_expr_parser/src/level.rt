@@ -1,6 +1,6 @@
 //! The levels of operators that have one operator each.
 
-ghost use Rattle.std.specs.Prelude.{◌≡◌, map};
+ghost use Rattle.std.specs.Prelude.{◌≡◌, ◌<◌, ◌≤◌, map};
 ghost use Rattle.sim_tree.specs.Shown.{operated, operand_shown, shown};
 ghost use Rattle.sim_expr_parser.specs.Level.{many, under, word, word_kind};
 
@@ -41,6 +41,24 @@ impl Level {
             Level::And => Terminal::And,
             Level::Concatenation => Terminal::Ampersand,
             Level::Power => Terminal::Power,
+        }
+    }
+
+    /// The level of its operands.
+    pub fn operand(self) -> u32
+        ensures number { result ≡ under self }
+        ensures some { 1 ≤ result }
+        ensures low { result < 13 }
+    {
+        match self {
+            Level::OrElse => 12,
+            Level::AndThen => 11,
+            Level::Eqv => 10,
+            Level::Imp => 9,
+            Level::Or => 8,
+            Level::And => 7,
+            Level::Concatenation => 4,
+            Level::Power => 1,
         }
     }
 

@@ -3,14 +3,15 @@
 
 mod cursor;
 mod level;
+mod lists;
+mod operators;
 mod parser;
 mod refusal;
 mod signs;
-#[cfg(test)]
-mod tests;
 
 pub use cursor::{eat, expect, identifier_at, terminal_at_token, token_no};
 pub use level::Level;
+pub use lists::add;
 pub use parser::{LIMIT, arguments, expression, parse_expr, postfix, selectors};
 pub use refusal::{Stop, SyntaxRefusal};
 pub use signs::leading_sign;

@@ -6,7 +6,7 @@ ghost use Rattle.sim_tree.specs.Grammar.{one_of, relations, signs};
 ghost use Rattle.sim_tree.specs.Reading.{terminal_at};
 ghost use Rattle.sim_tree.specs.Terminal.{terminal_of};
 ghost use Rattle.sim_tree.specs.Shown.{sign_kind, multiplication_kind, relation_kind, membership_kind};
-ghost use Rattle.sim_expr_parser.specs.Parsing.{IsSource, Took, GivesSign, operators, tests};
+ghost use Rattle.sim_expr_parser.specs.Parsing.{IsSource, Took, GivesSign, multiplications, tests};
 
 use crate::cursor::{eat, terminal_at_token, token_no};
 use sim_base::Token;
@@ -42,7 +42,7 @@ pub fn leading_sign(tokens: &[Token], at: usize) -> (Option<LeadingSign>, usize)
 pub fn multiplication_at(tokens: &[Token], at: usize) -> Option<(Multiplication, usize)>
     requires source { IsSource tokens.now }
     requires within { at < length tokens.now }
-    ensures { MatchOption result (one_of operators (terminal_at tokens.now at) ≡ false) (λ r. Took tokens.now at operators (multiplication_kind r.0) r.1) }
+    ensures { MatchOption result (one_of multiplications (terminal_at tokens.now at) ≡ false) (λ r. Took tokens.now at multiplications (multiplication_kind r.0) r.1) }
 {
     if let Some(next) = eat(tokens, at, Terminal::Times) {
         return Some((Multiplication::Times, next));

@@ -10,8 +10,6 @@ mod position;
 mod refusal;
 mod signs;
 mod spelling;
-#[cfg(test)]
-mod tests;
 mod texts;
 mod words;
 

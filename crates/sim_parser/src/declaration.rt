@@ -12,7 +12,7 @@ ghost use Rattle.sim_parser.specs.Parsing.{GivesAll, GivesPart};
 use crate::names::identifiers;
 use sim_base::{Token, TokenKind};
 use sim_expr_parser::{
-    LIMIT, Stop, eat, expect, expression, identifier_at, leading_sign, token_no,
+    LIMIT, Stop, add, eat, expect, expression, identifier_at, leading_sign, token_no,
 };
 use sim_tree::{ArraySegment, Bounds, Constant, Terminal, Variable};
 use std::alloc::Global;
@@ -29,10 +29,10 @@ pub fn variables(
 {
     let mut list = Vec::new(alloc);
     let (first, mut at) = variable(alloc, tokens, start)?;
-    list.push(first)?;
+    add(&mut list, first)?;
     while let Some(next) = eat(tokens, at, Terminal::Comma) {
         let (variable, end) = variable(alloc, tokens, next)?;
-        list.push(variable)?;
+        add(&mut list, variable)?;
         at = end;
     }
     Ok((list, at))
@@ -98,10 +98,10 @@ pub fn segments(
 {
     let mut list = Vec::new(alloc);
     let (first, mut at) = segment(alloc, tokens, start, depth)?;
-    list.push(first)?;
+    add(&mut list, first)?;
     while let Some(next) = eat(tokens, at, Terminal::Comma) {
         let (segment, end) = segment(alloc, tokens, next, depth)?;
-        list.push(segment)?;
+        add(&mut list, segment)?;
         at = end;
     }
     Ok((list, at))
@@ -140,10 +140,10 @@ fn bounds_list(
 {
     let mut list = Vec::new(alloc);
     let (first, mut at) = bounds(alloc, tokens, start, depth)?;
-    list.push(first)?;
+    add(&mut list, first)?;
     while let Some(next) = eat(tokens, at, Terminal::Comma) {
         let (bounds, end) = bounds(alloc, tokens, next, depth)?;
-        list.push(bounds)?;
+        add(&mut list, bounds)?;
         at = end;
     }
     Ok((list, at))

@@ -10,7 +10,7 @@ ghost use Rattle.sim_parser.specs.Parsing.{GivesAll, GivesPart};
 ghost use Rattle.sim_parser.specs.Elements.{for_list_shown};
 
 use sim_base::{Token, TokenNo};
-use sim_expr_parser::{LIMIT, Stop, eat, expect, expression, token_no};
+use sim_expr_parser::{LIMIT, Stop, add, eat, expect, expression, token_no};
 use sim_tree::{ForElement, ReferenceElement, Terminal};
 use std::alloc::Global;
 
@@ -65,10 +65,10 @@ fn for_elements(
 {
     let mut list = Vec::new(alloc);
     let (first, mut at) = for_element(alloc, tokens, start, depth)?;
-    list.push(first)?;
+    add(&mut list, first)?;
     while let Some(next) = eat(tokens, at, Terminal::Comma) {
         let (element, end) = for_element(alloc, tokens, next, depth)?;
-        list.push(element)?;
+        add(&mut list, element)?;
         at = end;
     }
     Ok((list, at))
@@ -131,10 +131,10 @@ fn reference_elements(
 {
     let mut list = Vec::new(alloc);
     let (first, mut at) = reference_element(alloc, tokens, start, depth)?;
-    list.push(first)?;
+    add(&mut list, first)?;
     while let Some(next) = eat(tokens, at, Terminal::Comma) {
         let (element, end) = reference_element(alloc, tokens, next, depth)?;
-        list.push(element)?;
+        add(&mut list, element)?;
         at = end;
     }
     Ok((list, at))

@@ -10,7 +10,7 @@ ghost use Rattle.sim_expr_parser.specs.Parsing.{IsSource, GivesTo};
 ghost use Rattle.sim_parser.specs.Parsing.{GivesPart};
 
 use sim_base::Token;
-use sim_expr_parser::{Stop, eat, expect, identifier_at, token_no};
+use sim_expr_parser::{Stop, add, eat, expect, identifier_at, token_no};
 use sim_tree::{Identifier, Terminal, TypeName};
 use std::alloc::Global;
 
@@ -52,10 +52,10 @@ pub fn identifiers(
 {
     let mut list = Vec::new(alloc);
     let (first, mut at) = identifier_at(alloc, tokens, start)?;
-    list.push(first)?;
+    add(&mut list, first)?;
     while let Some(next) = eat(tokens, at, Terminal::Comma) {
         let (identifier, end) = identifier_at(alloc, tokens, next)?;
-        list.push(identifier)?;
+        add(&mut list, identifier)?;
         at = end;
     }
     Ok((list, at))

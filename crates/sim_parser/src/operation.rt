@@ -12,7 +12,7 @@ ghost use Rattle.sim_expr_parser.specs.Parsing.{GivesRow, GivesTo, IsSource, Too
 ghost use Rattle.sim_parser.specs.Parsing.{GivesAll, ReadsAll, activation_row, activation_words, operation_row};
 
 use sim_base::{Token, TokenNo};
-use sim_expr_parser::{LIMIT, Stop, eat, expect, expression, postfix, token_no};
+use sim_expr_parser::{LIMIT, Stop, add, eat, expect, expression, postfix, token_no};
 use sim_tree::{Activation, Assigned, Assignment, Expr, Selector, Stmt, Terminal, Timing};
 use std::alloc::{AllocError, Global};
 
@@ -33,7 +33,7 @@ pub fn assigned(
     while let Some((sign, next)) = assignment_at(tokens, at) {
         let (value, end) = expression(alloc, tokens, next, depth)?;
         let token = token_no(tokens, at);
-        rest.push(Assigned { token, sign, value })?;
+        add(&mut rest, Assigned { token, sign, value })?;
         at = end;
     }
     Ok((rest, at))
@@ -78,6 +78,7 @@ pub fn operation(left: Expr, rest: Vec<Assigned>) -> Stmt
 }
 
 /// The statement that begins with `this`, `new` or a parenthesis, and the index after it.
+#[inline(never)]
 pub fn operation_statement(
     alloc: Global,
     tokens: &[Token],
@@ -96,6 +97,7 @@ pub fn operation_statement(
 }
 
 /// The statement that begins with `activate` or `reactivate`, and the index after it.
+#[inline(never)]
 pub fn activation_statement(
     alloc: Global,
     tokens: &[Token],

@@ -119,6 +119,7 @@ fn begun_statement(
     }
 }
 
+#[inline(never)]
 fn inner_statement(tokens: &[Token], at: usize) -> Result<(Stmt, usize), Stop>
     requires source { IsSource tokens.now }
     requires within { at < length tokens.now }
@@ -206,6 +207,7 @@ fn if_statement(
 
 // A branch behind its word, where the word stands there.
 #[cycle(statement)]
+#[inline(never)]
 fn optional_branch(
     alloc: Global,
     tokens: &[Token],
@@ -348,6 +350,7 @@ fn inspect_statement(
 
 // The arms of `inspect`, at least one.
 #[cycle(statement)]
+#[inline(never)]
 fn when_arms(
     alloc: Global,
     tokens: &[Token],
@@ -372,6 +375,7 @@ fn when_arms(
 }
 
 #[cycle(statement)]
+#[inline(never)]
 fn when_arm(alloc: Global, tokens: &[Token], at: usize, depth: u32) -> Result<(When, usize), Stop>
     requires source { IsSource tokens.now }
     requires within { at < length tokens.now }
@@ -397,6 +401,7 @@ fn when_arm(alloc: Global, tokens: &[Token], at: usize, depth: u32) -> Result<(W
 
 // A connection from its `do` on.
 #[cycle(statement)]
+#[inline(never)]
 fn connected_at(
     alloc: Global,
     tokens: &[Token],
@@ -446,6 +451,7 @@ pub fn compound(
 
 // The declarations of a block, and the index at which its statements begin.
 #[cycle(statement)]
+#[inline(never)]
 fn declarations(
     alloc: Global,
     tokens: &[Token],
@@ -468,6 +474,7 @@ fn declarations(
 
 // The declaration at a token with the semicolons behind it, if one begins there.
 #[cycle(statement)]
+#[inline(never)]
 fn declaration(
     alloc: Global,
     tokens: &[Token],
@@ -505,6 +512,7 @@ fn declaration(
 
 // A declaration without a prefix.
 #[cycle(statement)]
+#[inline(never)]
 fn plain_declaration(
     alloc: Global,
     tokens: &[Token],
@@ -545,6 +553,7 @@ fn plain_declaration(
 
 // What is declared behind a type.
 #[cycle(statement)]
+#[inline(never)]
 fn typed_declaration(
     alloc: Global,
     tokens: &[Token],
@@ -665,6 +674,7 @@ fn class(alloc: Global, tokens: &[Token], at: usize, depth: u32) -> Result<(Clas
 
 // The statements of a block and its `end`, where no declaration begins.
 #[cycle(statement)]
+#[inline(never)]
 fn sequence_at(
     alloc: Global,
     tokens: &[Token],
@@ -693,6 +703,7 @@ fn sequence_at(
 
 // Statements with semicolons between them, at least one.
 #[cycle(statement)]
+#[inline(never)]
 fn statements(
     alloc: Global,
     tokens: &[Token],

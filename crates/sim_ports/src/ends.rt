@@ -1,5 +1,5 @@
 //! What the product asks of files, input and output. Each counts its faults.
-ghost use Rattle.std.specs.Prelude.{◌≡◌, ◌+◌, ◌<◌, ◌≤◌, ℕ, List, Option, Some, None, length, is_ok, string_bytes, IfOk, OnOk, OnErr, Ok, IsOk, IsSome};
+ghost use Rattle.std.specs.Prelude.{◌≡◌, ◌+◌, ◌<◌, ◌≤◌, ℕ, List, Option, Some, None, length, is_ok, string_bytes, IfOk, IfSome, OnOk, OnErr, Ok, IsOk, IsSome};
 ghost use Rattle.std.specs.Io.{ReadsAtMost};
 ghost use Rattle.std.specs.Io.KnownBytes.{ReadConsumes, WriteAppends};
 ghost use Rattle.sim_ports.specs.Faults.{HasCause};
@@ -17,7 +17,7 @@ pub trait Files {
     /// The bytes of each name, where they are told.
     ghost content: { Self → List ℕ → Option (List ℕ) };
 
-    /// The bytes left of the selected file, where they are told.
+    /// The bytes left of the selected file, where they are told: a file's whole bytes need not be told for that.
     ghost left: { Self → Option (List ℕ) };
 
     /// The name that was selected, and whether that call answered Ok.
@@ -33,7 +33,7 @@ pub trait Files {
     fn select(&mut self, name: String) -> Result<(), Failed>
         requires { selected self.old ≡ None }
         ensures chosen { selected self.new ≡ Some (record { name = string_bytes name; is_open = is_ok result }) }
-        ensures content { OnOk result (left self.new ≡ content self.old (string_bytes name)) }
+        ensures content { OnOk result (IfSome (content self.old (string_bytes name)) (λ bytes. left self.new ≡ Some bytes)) }
         ensures cause { HasCause (faults self.old) (faults self.new) result }
         ensures steady { OnOk result (faults self.new ≡ faults self.old) }
         ensures sound { is_sound self.old → is_sound self.new × (IsSome (content self.old (string_bytes name)) → IsOk result) };

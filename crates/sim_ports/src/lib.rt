@@ -14,6 +14,3 @@ pub use mem_files::MemFiles;
 pub use mem_sink::MemSink;
 pub use mem_source::MemSource;
 pub use writing::{WriteFailed, write_all};
-
-#[cfg(test)]
-mod tests;

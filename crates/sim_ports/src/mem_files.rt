@@ -111,7 +111,8 @@ impl Files for MemFiles {
     fn select(&mut self, name: String) -> Result<(), Failed>
         requires { self.old.selected ≡ None }
         ensures chosen { self.new.selected ≡ Some (record { name = string_bytes name; is_open = is_ok result }) }
-        ensures content { OnOk result (self.new.left ≡ bytes_named self.old.files (string_bytes name)) }
+        ensures content { OnOk result (IfSome (bytes_named self.old.files (string_bytes name)) (λ bytes. self.new.left ≡ Some bytes)) }
+        ensures opened { OnOk result (self.new.left ≡ bytes_named self.old.files (string_bytes name)) }
         ensures cause { HasCause self.old.calls.faults self.new.calls.faults result }
         ensures steady { OnOk result (self.new.calls.faults ≡ self.old.calls.faults) }
         ensures sound { self.old.calls.failing ≡ [] → (self.new.calls.failing ≡ [])

@@ -1,7 +1,7 @@
 //! Writing a piece whole.
-ghost use Rattle.std.specs.Prelude.{◌≡◌, ◌+◌, ◌≤◌, length, take, IsOk, OnOk, IfErr};
+ghost use Rattle.std.specs.Prelude.{◌≡◌, ◌+◌, ◌≤◌, length, take, IsOk, OnOk, OnErr, IfErr};
 ghost use Rattle.std.specs.Io.KnownBytes.{Appends};
-ghost use Rattle.sim_ports.specs.Faults.{HasCause};
+ghost use Rattle.sim_ports.specs.Faults.{HasCause, StopsAt};
 
 use crate::{Failed, Sink};
 use thiserror::Error;
@@ -21,6 +21,7 @@ pub fn write_all<S: Sink>(sink: &mut S, piece: &[u8]) -> Result<(), WriteFailed>
     ensures part { IfErr result (λ failed.
         Appends (S.written sink.old) (S.written sink.new) (take failed.written piece.now)) }
     ensures cause { HasCause (S.faults sink.old) (S.faults sink.new) result }
+    ensures stops { OnErr result (StopsAt S.written S.faults sink.old sink.new) }
     ensures steady { OnOk result (S.faults sink.new ≡ S.faults sink.old) }
     ensures sound { length piece.now ≤ S.room sink.old → IsOk result }
     ensures room { OnOk result (S.room sink.old ≤ S.room sink.new + length piece.now) }

@@ -16,3 +16,13 @@ pub mod Steps
 pub mod ProgramSyntaxLemmas
 pub mod SyntaxLemmas
 pub mod FirstTokens
+mod ReadBack
+mod ReadExpressions
+mod ReadStatements
+mod ReadPrograms
+mod NamedExpressions
+mod NamedPrograms
+mod NamingTokens
+mod Ends
+mod OwnNames
+mod Induction

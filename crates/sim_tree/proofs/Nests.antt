@@ -100,7 +100,7 @@ counted {n} {f} {a} e bare h = record {
 }
 
 -- A level inside of a higher one.
-level_plain : (m : ℕ) → m < 14 → (is_counted (level_part m) ≡ false) × ((f : Forest) → has_token (level_part m) f ≡ not (is_bare f))
+pub level_plain : (m : ℕ) → m < 14 → (is_counted (level_part m) ≡ false) × ((f : Forest) → has_token (level_part m) f ≡ not (is_bare f))
 level_plain zero le = (refl, λ f. refl)
 level_plain (suc zero) le = (refl, λ f. refl)
 level_plain (suc (suc zero)) le = (refl, λ f. refl)

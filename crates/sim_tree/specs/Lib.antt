@@ -10,3 +10,6 @@ pub mod Tree
 pub mod Syntax
 pub mod SyntaxOf
 pub mod SyntaxOfProgram
+pub mod Named
+pub mod SyntaxExamples
+pub mod Ends

@@ -1,4 +1,5 @@
--- What the grammar makes of tokens.
+-- What the grammar makes of tokens. `Reads` gives the derivation of symbols, `Fails` the fault that reading them comes to. That the token which
+-- `Fails` names is the first bad one, in words that know no reading, is the law `first_bad_token` of `src/grammar.rt`.
 use Rattle.std.specs.Prelude.{◌≡◌, ℕ, ◌+◌, ◌-◌, Bool, true, false, not, ◌&&◌, nat_le, List, [], ◌∷◌, Some, None, slice_index_or, if◌then◌else◌}
 use Rattle.sim_base.specs.declared.token.Token.{Token}
 use Rattle.sim_base.specs.declared.token.TokenKind.{TokenKind}

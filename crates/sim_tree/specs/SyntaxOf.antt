@@ -113,3 +113,11 @@ FirstIs i e = i.0 ≡ first_of (syntax_of e)
 -- a token is the one that names an expression
 unfoldable pub NamingIs : TokenNo → Expr → Type 0
 NamingIs i e = i.0 ≡ naming (syntax_of e)
+
+-- the token of what is taken of an object
+abbrev pub selecting : Selection → ℕ
+selecting (Take i name args) = i
+selecting (Cast i class) = i
+
+unfoldable pub SelectorIs : TokenNo → Selector → Type 0
+SelectorIs i x = i.0 ≡ selecting (selector_syntax x)

@@ -1,21 +1,42 @@
 //! Laws of the grammar, which hold of every token list. Each is a function that does nothing; its clause is the law.
 
+ghost use Rattle.std.specs.List.{Contains};
 ghost use Rattle.std.specs.Prelude.{List, [], ◌∷◌, ℕ, ◌≡◌, ◌≤◌, ◌<◌, ◌+◌};
 ghost use Rattle.sim_base.specs.declared.token.TokenKind.TheVariants as k;
 ghost use Rattle.sim_base.specs.declared.token.Token.{Token};
 ghost use Rattle.sim_tree.specs.declared.program.Program.{Program as Tree};
 ghost use Rattle.sim_tree.specs.Grammar.{Part, Symbol};
 ghost use Rattle.sim_tree.specs.Grammar as g;
+ghost use Rattle.sim_tree.specs.Ends.{EndsBehind};
 ghost use Rattle.sim_tree.specs.Examples.{IsProgram, IsBadAt, IsDeepAt, x, y, operand, call, block, end};
+ghost use Rattle.sim_tree.specs.Named.{named, named_tokens, IsAscending};
 ghost use Rattle.sim_tree.specs.Reading.{done, leaf, node, place, Fails, Fault, Forest, Reads, TooDeep, Unexpected};
 ghost use Rattle.sim_tree.specs.Claim.{Begins, IsFirstBad, SameBelow, one};
 ghost use Rattle.sim_tree.specs.Shown.{expression};
 ghost use Rattle.sim_tree.specs.ShownProgram.{program_shown};
+ghost use Rattle.sim_tree.specs.Syntax.{Expression, naming};
+ghost use Rattle.sim_tree.specs.SyntaxExamples.{HasSyntax, chain_source, chain_syntax, connection_source, connection_syntax, prefixed_source, prefixed_syntax, procedure_source, procedure_syntax, sum_source, sum_syntax};
+ghost use Rattle.sim_tree.specs.SyntaxOfProgram.{program_syntax};
 ghost use Rattle.sim_tree.specs.Tree.{IsTree, deepest, depth_of, limit};
 
-/// A token list has at most one tree.
+/// A token list has at most one program: its trees have the same syntax, which no layer above looks behind, and the same
+/// derivation and lines.
 pub fn one_tree()
-    ensures { (ws : List Token) (p q : Tree) → IsTree ws p → IsTree ws q → (program_shown p ≡ program_shown q) × (p.lines.items ≡ q.lines.items) }
+    ensures syntax { (ws : List Token) (p q : Tree) → IsTree ws p → IsTree ws q → program_syntax p ≡ program_syntax q }
+    ensures derivation { (ws : List Token) (p q : Tree) → IsTree ws p → IsTree ws q → (program_shown p ≡ program_shown q) × (p.lines.items ≡ q.lines.items) }
+{}
+
+/// The tokens that name the expressions of a program ascend in the order of its text. So each expression has a token of its
+/// own: the operator's, the sign's, the word's, the dot's, the constant's, the identifier's or the parenthesis's.
+pub fn naming_tokens()
+    ensures own { (e : Expression) (l : List ℕ) → Contains (named e l) (naming e) }
+    ensures ascend { (ws : List Token) (p : Tree) → IsTree ws p → IsAscending (named_tokens (program_syntax p)) }
+{}
+
+/// Each block of a program ends behind its `begin`, each procedure and class behind the word that declares it, each connection
+/// behind its `do`. So what lies between the two tokens is a range.
+pub fn ends()
+    ensures { (ws : List Token) (p : Tree) → IsTree ws p → EndsBehind (program_syntax p) }
 {}
 
 /// From a token on, symbols of the grammar have at most one derivation, with one end.
@@ -45,6 +66,20 @@ pub fn first_bad_token()
 pub fn bounded_depth()
     ensures derivation { (most : ℕ) (ws : List Token) (d i j : ℕ) (s : List Symbol) (f : Forest) → d ≤ most → Reads most ws d s i f j → d + deepest f ≤ most }
     ensures program { (ws : List Token) (p : Tree) → IsTree ws p → depth_of p ≤ limit }
+{}
+
+/// The abstract syntax of some small sources.
+pub fn syntax_examples()
+    // begin x := - x * y + y - x end
+    ensures sum { HasSyntax sum_source sum_syntax }
+    // begin x := y := 'x' end
+    ensures chain { HasSyntax chain_source chain_syntax }
+    // begin integer procedure x(y); value y; integer y; x := y; end
+    ensures procedure { HasSyntax procedure_source procedure_syntax }
+    // begin inspect x when y do y otherwise x end
+    ensures connection { HasSyntax connection_source connection_syntax }
+    // x (y) begin end
+    ensures prefixed { HasSyntax prefixed_source prefixed_syntax }
 {}
 
 /// The grammar at work: trees of some small sources, and the first bad token of others.

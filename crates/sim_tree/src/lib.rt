@@ -9,14 +9,12 @@ mod operator;
 mod program;
 mod stmt;
 mod terminal;
-#[cfg(test)]
-mod tests;
 
 pub use expr::{
     Expr, Factor, Identifier, LeadingSign, Membership, Multiplication, Operand, Relation, Selector,
     Sign, Term,
 };
-pub use measure::first_token;
+pub use measure::{first_token, naming_token};
 pub use nesting::depth;
 pub use operator::Operator;
 pub use program::{BlockPrefix, Program};

@@ -1,6 +1,6 @@
 -- Arithmetic on the language's integers, which run from -2^63 to 2^63 - 1: the value over the unbounded integers where it
 -- lies in that range, else integer overflow.
-use Rattle.std.specs.Prelude.{zero, suc, Bool, ◌+◌, ◌^◌, ℤ, pos, negsuc, neg_ℤ, ◌+ℤ◌, ◌-ℤ◌, ◌*ℤ◌, nat_lt, ◌==◌, Result, Ok, Err, if◌then◌else◌, unsigned_abs, int_div}
+use Rattle.std.specs.Prelude.{zero, suc, Bool, ◌+◌, ◌-◌, ◌^◌, ℤ, pos, negsuc, neg_ℤ, ◌+ℤ◌, ◌-ℤ◌, ◌*ℤ◌, int_lt, nat_lt, ◌==◌, Result, Ok, Err, if◌then◌else◌, unsigned_abs, int_div}
 use Rattle.std.specs.Int.{int_pow}
 use Rattle.sim_base.specs.declared.run_error.RunError.{RunError}
 use Rattle.sim_base.specs.declared.run_error.RunError.TheVariants.{IntegerOverflow, ZeroDivisor, BadExponent}
@@ -55,3 +55,23 @@ modulus_of a b = if unsigned_abs b == 0 then Err ZeroDivisor else Ok (with_sign_
 abbrev pub power_of : ℤ → ℤ → Result ℤ RunError
 power_of a (negsuc n) = Err BadExponent
 power_of a (pos n) = if unsigned_abs a + n == 0 then Err BadExponent else in_range (int_pow a n)
+
+-- `maxint` and `minint`
+abbrev pub greatest : ℤ
+greatest = pos (2 ^ 63 - 1)
+
+abbrev pub least : ℤ
+least = negsuc (2 ^ 63 - 1)
+
+-- `sign(a)`: -1, 0 or 1
+abbrev pub sign_of : ℤ → ℤ
+sign_of (pos zero) = pos 0
+sign_of (pos (suc n)) = pos 1
+sign_of (negsuc n) = negsuc 0
+
+-- `min(a, b)` and `max(a, b)`
+abbrev pub smaller_of : ℤ → ℤ → ℤ
+smaller_of a b = if int_lt b a then b else a
+
+abbrev pub greater_of : ℤ → ℤ → ℤ
+greater_of a b = if int_lt b a then a else b

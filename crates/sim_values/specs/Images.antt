@@ -3,9 +3,10 @@ use Rattle.std.specs.Prelude.{ℕ, zero, suc, ◌+◌, ◌-◌, Bool, true, fals
 use Rattle.std.specs.List.{before_first, after_first}
 use Rattle.std.specs.Fmt.{signed_decimal}
 use Rattle.sim_base.specs.declared.run_error.RunError.{RunError}
-use Rattle.sim_base.specs.declared.run_error.RunError.TheVariants.{FieldTooLong, InputLineTooLong, InputAtEnd, NoItemBeforeEnd}
+use Rattle.sim_base.specs.declared.run_error.RunError.TheVariants.{NegativeLength, FieldTooLong, InputLineTooLong, InputAtEnd, NoItemBeforeEnd}
 use Rattle.sim_values.specs.declared.value.TextVal.{TextVal}
-use Rattle.sim_values.specs.Texts.{Frame, characters, with_characters, with_character, next_character, padded, content_length, at_position, after_separators, integer_item, right_justified}
+use Rattle.sim_values.specs.Words.{text_words}
+use Rattle.sim_values.specs.Texts.{Frame, characters, with_characters, with_character, new_text, next_character, padded, content_length, at_position, after_separators, integer_item, right_justified, with_new}
 
 -- whether the position is behind the last character of the image
 abbrev pub is_used_up : TextVal → Bool
@@ -46,6 +47,10 @@ and_then first next = go_on first.after first.answer next
 -- the image moved to another position
 abbrev pub with_position : InputState → ℕ → InputState
 with_position s p = record { frames = s.frames; image = at_position s.image p; endfile = s.endfile; left = s.left }
+
+-- other texts
+abbrev pub with_frames : InputState → List Frame → InputState
+with_frames s frames = record { frames = frames; image = s.image; endfile = s.endfile; left = s.left }
 
 abbrev pub is_line_feed : ℕ → Bool
 is_line_feed c = c == 10
@@ -105,6 +110,27 @@ item_taken s (Err e) = refuses s e
 -- `inint`: E34 where `lastitem` is true, else the integer from the position on, as `getint` reads it
 abbrev pub inint : InputState → InputStep ℤ
 inint s = and_then (lastitem s) (λ (r : InputState) (last : Bool). if last then refuses r NoItemBeforeEnd else item_taken r (integer_item (characters_left r.frames r.image)))
+
+-- the next n characters, each as `inchar` reads it, are put into a text from its position on
+abbrev pub characters_read : ℕ → TextVal → InputState → InputStep (Unit {0})
+characters_read zero t s = answers s tt
+characters_read (suc n) t s = and_then (inchar s) (λ (r : InputState) (c : ℕ). characters_read n (at_position t (t.pos + 1)) (with_frames r (with_character r.frames t c)))
+
+-- What `intext(n)` does: the words that it asks for first, and where it gets them what it leaves and its text, or its error.
+pub record TextReading : Type 0 where
+  pub wanted : ℕ
+  pub step : InputStep TextVal
+
+-- a new text of n characters, with its words, and then they are read into it
+abbrev pub text_read : ℕ → InputState → InputStep TextVal
+text_read n s =
+    let t = new_text s.frames n in
+    and_then (characters_read n t (with_frames s (with_new s.frames (replicate n 32)))) (λ (r : InputState) (done : Unit {0}). answers r t)
+
+-- `intext(n)`: E27 where n is negative
+abbrev pub intext : InputState → ℤ → TextReading
+intext s (pos n) = record { wanted = text_words n; step = text_read n s }
+intext s (negsuc n) = record { wanted = 0; step = refuses s NegativeLength }
 
 -- ---- output
 

@@ -1,5 +1,9 @@
 pub mod Arithmetic
+pub mod Characters
 pub mod Images
+pub mod Operators
+pub mod Plain
+pub mod Standard
+pub mod Store
 pub mod Texts
-pub mod Values
 pub mod Words

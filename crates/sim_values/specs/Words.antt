@@ -31,3 +31,7 @@ array_words dimensions =
     if nat_lt (2 ^ 31) (element_count dimensions)
     then Err ArrayTooLarge
     else Ok (3 + element_count dimensions + 2 * length dimensions)
+
+-- these words are not left in the budget
+abbrev pub is_exhausted : (budget used wanted : ℕ) → Bool
+is_exhausted budget used wanted = nat_lt budget (used + wanted)

@@ -1,6 +1,7 @@
 //! Integer arithmetic with its run-time errors.
 ghost use Rattle.std.specs.Prelude.{◌≡◌, ◌≢◌, ◌-ℤ◌, ◌*ℤ◌, int_div, ◌<◌, ◌^◌, SomeIff, IsTrue, if◌then◌else◌, neg_ℤ, pos};
-ghost use Rattle.sim_values.specs.Arithmetic.{is_integer, sum_of, difference_of, product_of, negation_of, absolute_of, quotient_of, remainder_of, with_sign_of, modulus_of, power_of};
+ghost use Rattle.sim_values.specs.Arithmetic.{is_integer, sum_of, difference_of, product_of, negation_of, absolute_of, quotient_of, remainder_of, with_sign_of, modulus_of, power_of, sign_of, smaller_of, greater_of};
+ghost use Rattle.sim_values.specs.Operators.{step_goes_on};
 
 use sim_base::RunError;
 
@@ -99,6 +100,41 @@ pub fn pow(base: i64, exponent: i64) -> Result<i64, RunError>
     let negative = base < 0 && exponent % 2 == 1;
     let size = natural_power(base.unsigned_abs(), exponent).ok_or(RunError::IntegerOverflow)?;
     with_sign(negative, size).ok_or(RunError::IntegerOverflow)
+}
+
+/// `sign(a)`: -1, 0 or 1.
+pub fn sign(a: i64) -> i64
+    ensures sign { result ≡ sign_of a }
+{
+    a.signum()
+}
+
+/// `min(a, b)`.
+pub fn smaller(a: i64, b: i64) -> i64
+    ensures smaller { result ≡ smaller_of a b }
+{
+    a.min(b)
+}
+
+/// `max(a, b)`.
+pub fn greater(a: i64, b: i64) -> i64
+    ensures greater { result ≡ greater_of a b }
+{
+    a.max(b)
+}
+
+/// The test of a step element, on unbounded numbers: whether `delta * (c - limit) <= 0`.
+#[tactic(auto, using(crate::proofs::Steps::above_limit))]
+pub fn step_goes_on(delta: i64, c: i64, limit: i64) -> bool
+    ensures test { result ≡ step_goes_on delta c limit }
+{
+    if c > limit {
+        delta <= 0
+    } else if c < limit {
+        delta >= 0
+    } else {
+        true
+    }
 }
 
 /// The integer of this size and sign, if it is in the range.

@@ -4,8 +4,8 @@
 /// from 1; `pos` is at most one more than `length`.
 #[derive(Clone, Copy, Debug, PartialEq, Eq)]
 pub struct TextVal {
-    /// The frame's number.
-    pub frame: u32,
+    /// The number of its frame among the frames of texts.
+    pub text_frame: u32,
     /// The place of the first character in its frame.
     pub start: u32,
     /// The number of characters.

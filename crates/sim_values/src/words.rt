@@ -1,6 +1,6 @@
 //! The words of storage that instances, arrays and texts take.
 ghost use Rattle.std.specs.Prelude.{◌≡◌, ◌+◌, ◌^◌, min};
-ghost use Rattle.sim_values.specs.Words.{extent_of, element_count, instance_words, array_words, text_words};
+ghost use Rattle.sim_values.specs.Words.{extent_of, element_count, instance_words, array_words, is_exhausted, text_words};
 
 use sim_base::RunError;
 
@@ -35,6 +35,16 @@ pub fn words_text(length: u64) -> u64
         0
     } else {
         2 + length.div_ceil(8)
+    }
+}
+
+/// Whether so many words more than those used exceed the budget.
+pub fn is_exhausted(budget: u64, used: u64, wanted: u64) -> bool
+    ensures exhausted { result ≡ is_exhausted budget used wanted }
+{
+    match used.checked_add(wanted) {
+        Some(sum) => sum > budget,
+        None => true,
     }
 }
 

@@ -8,3 +8,4 @@ pub mod Neighbours
 pub mod Closings
 pub mod Effects
 pub mod Placing
+pub mod Becomes

@@ -91,7 +91,7 @@ precede-outside sets x p link nowhere = put_before-nowhere x p 0 (out sets x) (u
 
 -- ---- at the ends
 
-links_of-put : (sets : List Linkage) (change : ℕ → List ℕ → List ℕ) (x h : ℕ) → is_head_at sets h ≡ true
+pub links_of-put : (sets : List Linkage) (change : ℕ → List ℕ → List ℕ) (x h : ℕ) → is_head_at sets h ≡ true
     → links_of (each_from change 0 (out sets x)) h ≡ change h (links_of (out sets x) h)
 links_of-put sets change x h head =
     ap links_in (get-each_from change 0 (out sets x) h h (omega arith) ∙ ap (changed (change h)) (list_of_head (out sets x) h (rw is_head_at-out head)))

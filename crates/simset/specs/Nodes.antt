@@ -1,4 +1,4 @@
--- The sets that a vector of nodes stands for.
+-- An inner page: the sets that a vector of nodes stands for.
 use Rattle.std.specs.Prelude.{◌≡◌, ◌≢◌, ℕ, zero, suc, ◌+◌, ◌<◌, Bool, true, false, if◌then◌else◌, ◌==◌, List, [], ◌∷◌, length, Option, Some, None, slice_get}
 use Rattle.simset.specs.declared.rings.Node.{Node}
 use Rattle.simset.specs.Sets.{Linkage, Link, Head, IsProper, is_link_at, times_in}

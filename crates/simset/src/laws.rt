@@ -1,6 +1,23 @@
 //! What follows from the definitions of sets alone: functions without a body, each with its law as its contract.
-ghost use Rattle.std.specs.Prelude.{◌≡◌, ◌≢◌, ℕ, ◌<◌, Option, Some, List};
-ghost use Rattle.simset.specs.Sets.{Linkage, IsLinkAt, IsHeadAt, IsProper, times_in, suc_of, pred_of, cardinal_of, out, follow, precede, into, clear};
+ghost use Rattle.std.specs.Prelude.{◌≡◌, ◌≢◌, ℕ, ◌<◌, Option, Some, None, List};
+ghost use Rattle.simset.specs.Sets.{Linkage, IsLinkAt, IsHeadAt, IsProper, times_in, suc_of, pred_of, cardinal_of, links_of, without, put_after, put_before, put_last, emptied, out, follow, precede, into, clear};
+
+/// What each procedure makes of the list of each head: the link leaves every list, and is then put beside the other linkage, which
+/// is the head itself or stands in the list, or last in the list of the head.
+pub fn the_list_of_a_head_becomes()
+    ensures out { (sets : List Linkage) (x h : ℕ) → IsHeadAt sets h → links_of (out sets x) h ≡ without x (links_of sets h) }
+    ensures follow { (sets : List Linkage) (x p h : ℕ) → IsHeadAt sets h
+        → links_of (follow sets x (Some p)) h ≡ put_after x p h (without x (links_of sets h)) }
+    ensures precede { (sets : List Linkage) (x p h : ℕ) → IsHeadAt sets h
+        → links_of (precede sets x (Some p)) h ≡ put_before x p h (without x (links_of sets h)) }
+    ensures into { (sets : List Linkage) (x p h : ℕ) → IsHeadAt sets h
+        → links_of (into sets x (Some p)) h ≡ put_last x p h (without x (links_of sets h)) }
+    ensures clear { (sets : List Linkage) (p h : ℕ) → IsHeadAt sets h → links_of (clear sets p) h ≡ emptied p h (links_of sets h) }
+    ensures before_a_head { (sets : List Linkage) (x h : ℕ) → IsProper sets → IsHeadAt sets h → precede sets x (Some h) ≡ into sets x (Some h) }
+    ensures follow_none { (sets : List Linkage) (x : ℕ) → follow sets x None ≡ out sets x }
+    ensures precede_none { (sets : List Linkage) (x : ℕ) → precede sets x None ≡ out sets x }
+    ensures into_none { (sets : List Linkage) (x : ℕ) → into sets x None ≡ out sets x }
+{}
 
 /// A link is in at most one set, and there once, after each change: whatever stands in a set before is a link that
 /// was made, and in no other place.

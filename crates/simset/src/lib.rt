@@ -4,7 +4,4 @@
 pub mod laws;
 mod rings;
 
-pub use rings::Rings;
-
-#[cfg(test)]
-mod tests;
+pub use rings::{LinkageNo, Rings};

@@ -3,11 +3,16 @@ ghost use Rattle.std.specs.Prelude.{◌≡◌, ◌≢◌, ◌+◌, ◌<◌, ◌�
 ghost use Rattle.std.specs.Bool.{OnTrue, OnFalse};
 ghost use Rattle.std.specs.Option.{ForSome};
 ghost use Rattle.simset.specs.Sets.{Link, Head, fresh, IsLinkAt, IsHeadAt, IsProper, is_link_at, is_head_at, times_in, places_from, each_from, put_after, put_before, suc_of, pred_of, prev_of, cardinal_of, out, follow, precede, into, clear};
+ghost use Rattle.simset.specs.Instances.{number_of};
 ghost use Rattle.simset.specs.Nodes.{IsTied, IsJoined, IsNext, IsTakenOut, IsPutBehind, link_beside, linkage_beside, is_in_ring};
 
 use sim_base::Memory;
 use std::alloc::Global;
 use std::marker::Model;
+
+/// The number of a link or a head: they are numbered together from 0, in the order in which they are made.
+#[derive(Clone, Copy, Debug, PartialEq, Eq)]
+pub struct LinkageNo(pub u32);
 
 /// A link or a head. A link that is in no set, and the head of an empty set, is its own neighbour.
 #[derive(Clone, Copy)]
@@ -17,7 +22,7 @@ struct Node {
     previous: u32,
 }
 
-/// The sets of a program: its links and heads, numbered together from 0 in the order in which they are made.
+/// The sets of a program: its links and heads.
 ///
 /// Each head keeps its links in a ring, from the head to the first link, from each link to the next one, and
 /// from the last link to the head, and the other way round. No call but `reserve` takes memory, and none lowers
@@ -34,6 +39,7 @@ impl Model for Rings {
 
     ghost use Rattle.std.specs.Prelude.{min};
     ghost use Rattle.std.specs.Vec.{vec_capacity};
+    ghost use Rattle.simset.specs.Instances.{number_of};
     ghost use Rattle.simset.specs.Nodes.{sets_of, KeepsSets};
 
     ghost view = { λ rings. record { sets = sets_of rings.nodes.items; room = min (vec_capacity rings.nodes) 4294967295 } };
@@ -96,41 +102,150 @@ impl Rings {
     }
 
     /// Makes a link, which is in no set, and answers its number.
-    pub fn add_link(&mut self) -> u32
+    pub fn add_link(&mut self) -> LinkageNo
         requires { length self.old.sets < self.old.room }
-        ensures number { result ≡ length self.old.sets }
+        ensures number { result.0 ≡ length self.old.sets }
         ensures sets { self.new.sets ≡ self.old.sets ++ Link ∷ [] }
         ensures room { self.new.room ≡ self.old.room }
     {
-        self.add(false)
+        LinkageNo(self.add(false))
     }
 
     /// Makes a head, whose set is empty, and answers its number.
-    pub fn add_head(&mut self) -> u32
+    pub fn add_head(&mut self) -> LinkageNo
         requires { length self.old.sets < self.old.room }
-        ensures number { result ≡ length self.old.sets }
+        ensures number { result.0 ≡ length self.old.sets }
         ensures sets { self.new.sets ≡ self.old.sets ++ Head [] ∷ [] }
         ensures room { self.new.room ≡ self.old.room }
     {
-        self.add(true)
+        LinkageNo(self.add(true))
     }
 
     /// Whether the number is that of a link.
-    pub fn is_link(&self, x: u32) -> bool
-        ensures { result ≡ is_link_at self.now.sets x }
+    pub fn is_link(&self, x: LinkageNo) -> bool
+        ensures { result ≡ is_link_at self.now.sets x.0 }
     {
-        (x as usize) < self.nodes.len() && !self.nodes[x as usize].head
+        (x.0 as usize) < self.nodes.len() && !self.nodes[x.0 as usize].head
     }
 
     /// Whether the number is that of a head.
-    pub fn is_head(&self, x: u32) -> bool
-        ensures { result ≡ is_head_at self.now.sets x }
+    pub fn is_head(&self, x: LinkageNo) -> bool
+        ensures { result ≡ is_head_at self.now.sets x.0 }
     {
-        (x as usize) < self.nodes.len() && self.nodes[x as usize].head
+        (x.0 as usize) < self.nodes.len() && self.nodes[x.0 as usize].head
     }
 
     /// Takes the link out of its set. One that is in no set stays outside.
-    pub fn out(&mut self, link: u32)
+    pub fn out(&mut self, link: LinkageNo)
+        requires { IsLinkAt self.old.sets link.0 }
+        ensures sets { self.new.sets ≡ out self.old.sets link.0 }
+        ensures room { self.new.room ≡ self.old.room }
+    {
+        self.leave(link.0);
+    }
+
+    /// Takes the link out, and then puts it directly after `x`: after a head, in the first place of its set.
+    /// With none, and where `x` is then a link in no set, the link stays outside.
+    pub fn follow(&mut self, link: LinkageNo, x: Option<LinkageNo>)
+        requires link { IsLinkAt self.old.sets link.0 }
+        requires made { ForSome x (λ p. p.0 < length self.old.sets) }
+        ensures sets { self.new.sets ≡ follow self.old.sets link.0 (number_of x) }
+        ensures room { self.new.room ≡ self.old.room }
+    {
+        self.leave(link.0);
+        if let Some(place) = x {
+            if self.is_placed(place.0) {
+                self.insert_after(link.0, place.0);
+            }
+        }
+    }
+
+    /// Takes the link out, and then puts it directly before `x`: before a head, in the last place of its set.
+    /// With none, and where `x` is then a link in no set, the link stays outside.
+    pub fn precede(&mut self, link: LinkageNo, x: Option<LinkageNo>)
+        requires link { IsLinkAt self.old.sets link.0 }
+        requires made { ForSome x (λ p. p.0 < length self.old.sets) }
+        ensures sets { self.new.sets ≡ precede self.old.sets link.0 (number_of x) }
+        ensures room { self.new.room ≡ self.old.room }
+    {
+        self.leave(link.0);
+        if let Some(place) = x {
+            if self.is_placed(place.0) {
+                self.insert_before(link.0, place.0);
+            }
+        }
+    }
+
+    /// Takes the link out, and then puts it in the last place of the head's set. With none it stays outside.
+    pub fn into(&mut self, link: LinkageNo, head: Option<LinkageNo>)
+        requires link { IsLinkAt self.old.sets link.0 }
+        requires head { ForSome head (λ h. IsHeadAt self.old.sets h.0) }
+        ensures sets { self.new.sets ≡ into self.old.sets link.0 (number_of head) }
+        ensures room { self.new.room ≡ self.old.room }
+    {
+        // What the nodes keep is known from here on: a head stands in no set.
+        let _ = &self.nodes;
+        self.leave(link.0);
+        if let Some(place) = head {
+            self.insert_before(link.0, place.0);
+        }
+    }
+
+    /// Of a link the next link in its set, of a head its first link; `None` where there is none.
+    pub fn suc(&self, x: LinkageNo) -> Option<LinkageNo>
+        requires { x.0 < length self.now.sets }
+        ensures { number_of result ≡ suc_of self.now.sets x.0 }
+    {
+        numbered(self.next_link(x.0))
+    }
+
+    /// Of a link the link before it in its set, of a head its last link; `None` where there is none.
+    pub fn pred(&self, x: LinkageNo) -> Option<LinkageNo>
+        requires { x.0 < length self.now.sets }
+        ensures { number_of result ≡ pred_of self.now.sets x.0 }
+    {
+        numbered(link_of(&self.nodes, x.0, self.nodes[x.0 as usize].previous))
+    }
+
+    /// As `pred`, but the head of its set for a first link, and the head itself for one whose set is empty.
+    pub fn prev(&self, x: LinkageNo) -> Option<LinkageNo>
+        requires { x.0 < length self.now.sets }
+        ensures { number_of result ≡ prev_of self.now.sets x.0 }
+    {
+        numbered(linkage_of(&self.nodes, x.0))
+    }
+
+    /// How many links the head's set has.
+    pub fn cardinal(&self, head: LinkageNo) -> u32
+        requires { IsHeadAt self.now.sets head.0 }
+        ensures { result ≡ cardinal_of self.now.sets head.0 }
+    {
+        // What the nodes keep is known from here on: no link stands twice in the set.
+        let _ = &self.nodes;
+        let mut count = 0;
+        let mut next = self.next_link(head.0);
+        while let Some(link) = next {
+            count += 1;
+            next = self.next_link(link);
+        }
+        count
+    }
+
+    /// Takes every link of the head's set out.
+    pub fn clear(&mut self, head: LinkageNo)
+        requires { IsHeadAt self.old.sets head.0 }
+        ensures sets { self.new.sets ≡ clear self.old.sets head.0 }
+        ensures room { self.new.room ≡ self.old.room }
+    {
+        // What the nodes keep is known from here on: no link of the set stands in another one.
+        let _ = &self.nodes;
+        while let Some(link) = self.next_link(head.0) {
+            self.leave(link);
+        }
+    }
+
+    // Takes a link out of its set.
+    fn leave(&mut self, link: u32)
         requires { IsLinkAt self.old.sets link }
         ensures sets { self.new.sets ≡ out self.old.sets link }
         ensures room { self.new.room ≡ self.old.room }
@@ -138,104 +253,12 @@ impl Rings {
         take_out(&mut self.nodes, link);
     }
 
-    /// Takes the link out, and then puts it directly after `x`: after a head, in the first place of its set.
-    /// With none, and where `x` is then a link in no set, the link stays outside.
-    pub fn follow(&mut self, link: u32, x: Option<u32>)
-        requires link { IsLinkAt self.old.sets link }
-        requires made { ForSome x (λ p. p < length self.old.sets) }
-        ensures sets { self.new.sets ≡ follow self.old.sets link x }
-        ensures room { self.new.room ≡ self.old.room }
-    {
-        self.out(link);
-        if let Some(place) = x {
-            if self.is_placed(place) {
-                self.insert_after(link, place);
-            }
-        }
-    }
-
-    /// Takes the link out, and then puts it directly before `x`: before a head, in the last place of its set.
-    /// With none, and where `x` is then a link in no set, the link stays outside.
-    pub fn precede(&mut self, link: u32, x: Option<u32>)
-        requires link { IsLinkAt self.old.sets link }
-        requires made { ForSome x (λ p. p < length self.old.sets) }
-        ensures sets { self.new.sets ≡ precede self.old.sets link x }
-        ensures room { self.new.room ≡ self.old.room }
-    {
-        self.out(link);
-        if let Some(place) = x {
-            if self.is_placed(place) {
-                self.insert_before(link, place);
-            }
-        }
-    }
-
-    /// Takes the link out, and then puts it in the last place of the head's set. With none it stays outside.
-    pub fn into(&mut self, link: u32, head: Option<u32>)
-        requires link { IsLinkAt self.old.sets link }
-        requires head { ForSome head (IsHeadAt self.old.sets) }
-        ensures sets { self.new.sets ≡ into self.old.sets link head }
-        ensures room { self.new.room ≡ self.old.room }
-    {
-        // What the nodes keep is known from here on: a head stands in no set.
-        let _ = &self.nodes;
-        self.out(link);
-        if let Some(place) = head {
-            self.insert_before(link, place);
-        }
-    }
-
-    /// Of a link the next link in its set, of a head its first link; `None` where there is none.
-    pub fn suc(&self, x: u32) -> Option<u32>
+    // Of a link the next link in its set, of a head its first link.
+    fn next_link(&self, x: u32) -> Option<u32>
         requires { x < length self.now.sets }
         ensures { result ≡ suc_of self.now.sets x }
     {
         link_of(&self.nodes, x, self.nodes[x as usize].next)
-    }
-
-    /// Of a link the link before it in its set, of a head its last link; `None` where there is none.
-    pub fn pred(&self, x: u32) -> Option<u32>
-        requires { x < length self.now.sets }
-        ensures { result ≡ pred_of self.now.sets x }
-    {
-        link_of(&self.nodes, x, self.nodes[x as usize].previous)
-    }
-
-    /// As `pred`, but the head of its set for a first link, and the head itself for one whose set is empty.
-    pub fn prev(&self, x: u32) -> Option<u32>
-        requires { x < length self.now.sets }
-        ensures { result ≡ prev_of self.now.sets x }
-    {
-        linkage_of(&self.nodes, x)
-    }
-
-    /// How many links the head's set has.
-    pub fn cardinal(&self, head: u32) -> u32
-        requires { IsHeadAt self.now.sets head }
-        ensures { result ≡ cardinal_of self.now.sets head }
-    {
-        // What the nodes keep is known from here on: no link stands twice in the set.
-        let _ = &self.nodes;
-        let mut count = 0;
-        let mut next = self.suc(head);
-        while let Some(link) = next {
-            count += 1;
-            next = self.suc(link);
-        }
-        count
-    }
-
-    /// Takes every link of the head's set out.
-    pub fn clear(&mut self, head: u32)
-        requires { IsHeadAt self.old.sets head }
-        ensures sets { self.new.sets ≡ clear self.old.sets head }
-        ensures room { self.new.room ≡ self.old.room }
-    {
-        // What the nodes keep is known from here on: no link of the set stands in another one.
-        let _ = &self.nodes;
-        while let Some(link) = self.suc(head) {
-            self.out(link);
-        }
     }
 
     // Makes a node of one kind, and answers its number.
@@ -286,6 +309,16 @@ impl Rings {
     {
         let before = self.nodes[place as usize].previous;
         put_behind(&mut self.nodes, before, link);
+    }
+}
+
+/// The linkage of a number, if there is one.
+fn numbered(number: Option<u32>) -> Option<LinkageNo>
+    ensures { number_of result ≡ number }
+{
+    match number {
+        None => None,
+        Some(number) => Some(LinkageNo(number)),
     }
 }
 

@@ -1,16 +1,12 @@
 //! Scheduling: the procedures of SIMULATION on the event notices of one simulation block.
 #![tactic(auto)]
 
-mod activation;
 mod laws;
-mod next;
 mod sim;
 mod steps;
 
-pub use activation::{Activation, Form};
-pub use laws::{answers_tell_the_list, cancel_of_the_current_is_passivate, time_never_goes_back};
-pub use next::Next;
+pub use laws::{
+    answers_tell_the_list, cancel_of_the_current_is_passivate, references_are_tested_first,
+    time_never_goes_back,
+};
 pub use sim::Sim;
-
-#[cfg(test)]
-mod tests;

@@ -1,20 +1,20 @@
 //! The scheduling of one simulation block.
-ghost use Rattle.std.specs.Prelude.{◌≡◌, ◌≢◌, ◌<◌, ◌≤◌, pos, List, [], ◌∷◌, OnOk};
+ghost use Rattle.std.specs.Prelude.{◌≡◌, ◌≢◌, ◌<◌, ◌≤◌, pos, List, [], ◌∷◌, Some, OnOk};
 ghost use Rattle.std.specs.Option.{ForSome};
+ghost use Rattle.simset.specs.Instances.{number_of};
 ghost use Rattle.simset.specs.Sets.{IsLinkAt, IsHeadAt, into};
-ghost use Rattle.simulation.specs.Scheduling.{held, passivated, cancelled, activated, list_after, next_of, answer_of};
+ghost use Rattle.notices.specs.Scheduling.{time, current, main, idle, evtime, nextev, HasRoom, held, passivated, cancelled, activated, list_after, next_of, answer_of};
 
-use crate::steps::{activate, next_after, present, put_later};
-use crate::{Activation, Next};
-use notices::NoticeSet;
+use crate::steps::{activate, next_after, number_of, present, put_later, test_references};
+use notices::{Activation, Next, NoticeSet, ProcessNo, ProcessRef};
 use sim_base::{Memory, RunError};
-use simset::Rings;
+use simset::{LinkageNo, Rings};
 use std::marker::Model;
 
 /// The scheduling of one simulation block (SIMULA Standard, SIMULATION), over any set of event notices.
 ///
-/// The processes of the block are numbered from 0 in the order in which they are made; its `main` is 0. The
-/// first notice is that of the process that operates, at the present time. No procedure takes memory.
+/// The first notice is that of the current process, at the present time. A process that the program itself calls or resumes operates
+/// without being current. No procedure takes memory.
 #[derive(Drop)]
 pub struct Sim<N: NoticeSet> {
     set: N,
@@ -34,11 +34,11 @@ impl<N: NoticeSet> Sim<N> {
     pub fn new(notices: N) -> Sim<N>
         requires empty { N.notices notices ≡ [] }
         requires room { 0 < N.room notices }
-        ensures begun { result.notices ≡ record { time = pos 0; process = 0 } ∷ [] }
+        ensures begun { result.notices ≡ record { time = pos 0; process = record { 0 = main } } ∷ [] }
         ensures not_lower { N.room notices ≤ result.room }
     {
         let mut set = notices;
-        set.put_at(0, false, 0);
+        set.put_at(0, false, ProcessNo(0));
         Sim { set }
     }
 
@@ -63,7 +63,7 @@ impl<N: NoticeSet> Sim<N> {
         &self.set
     }
 
-    /// `hold`: the process that operates goes on `t` time units later, after all events of that time or less;
+    /// `hold`: the current process goes on `t` time units later, after all events of that time or less;
     /// where `t` is not above 0, after those of the present time.
     ///
     /// # Errors
@@ -80,7 +80,7 @@ impl<N: NoticeSet> Sim<N> {
         next_after(&self.set, current)
     }
 
-    /// `passivate`: the process that operates loses its notice.
+    /// `passivate`: the current process loses its notice.
     ///
     /// # Errors
     ///
@@ -96,7 +96,7 @@ impl<N: NoticeSet> Sim<N> {
         next_after(&self.set, current)
     }
 
-    /// `wait`: the process that operates, whose link this is, goes last into the set of the head, or with
+    /// `wait`: the current process, whose link this is, goes last into the set of the head, or with
     /// none out of its set, and then loses its notice as by `passivate`.
     ///
     /// # Errors
@@ -105,13 +105,13 @@ impl<N: NoticeSet> Sim<N> {
     pub fn wait(
         &mut self,
         rings: &mut Rings,
-        link: u32,
-        head: Option<u32>,
+        link: LinkageNo,
+        head: Option<LinkageNo>,
     ) -> Result<Next, RunError>
         requires begun { self.old.notices ≢ [] }
-        requires link { IsLinkAt rings.old.sets link }
-        requires head { ForSome head (IsHeadAt rings.old.sets) }
-        ensures sets { rings.new.sets ≡ into rings.old.sets link head }
+        requires link { IsLinkAt rings.old.sets link.0 }
+        requires head { ForSome head (λ h. IsHeadAt rings.old.sets h.0) }
+        ensures sets { rings.new.sets ≡ into rings.old.sets link.0 (number_of head) }
         ensures links { rings.new.room ≡ rings.old.room }
         ensures list { self.new.notices ≡ passivated self.old.notices }
         ensures answer { result ≡ next_of self.old.notices (passivated self.old.notices) }
@@ -125,34 +125,81 @@ impl<N: NoticeSet> Sim<N> {
     ///
     /// # Errors
     ///
-    /// `E50` where no notice is left.
-    pub fn cancel(&mut self, x: Option<u32>) -> Result<Next, RunError>
+    /// `E53` of a process of another block; then nothing changes. `E50` where no notice is left.
+    pub fn cancel(&mut self, x: Option<ProcessRef>) -> Result<Next, RunError>
         requires { self.old.notices ≢ [] }
-        ensures list { self.new.notices ≡ cancelled x self.old.notices }
-        ensures answer { result ≡ next_of self.old.notices (cancelled x self.old.notices) }
+        ensures list { self.new.notices ≡ list_after self.old.notices (cancelled x self.old.notices) }
+        ensures answer { result ≡ answer_of self.old.notices (cancelled x self.old.notices) }
         ensures not_lower { self.old.room ≤ self.new.room }
     {
         let (_, current) = present(&self.set);
-        if let Some(process) = x {
+        let operand: Option<ProcessRef> = None;
+        test_references(&x, &operand)?;
+        if let Some(process) = number_of(&x) {
             self.set.take_out(process);
         }
         next_after(&self.set, current)
     }
 
-    /// An activation statement. The process, if there is one, is of this block, and not terminated.
+    /// An activation statement.
     ///
     /// # Errors
     ///
-    /// `E51` where the time of a `delay` is too large; then nothing changes. `E50` where no notice is left.
+    /// `E7` where the process, or that after `before` or `after`, is an object that is no process; `E53` where one of them is of
+    /// another block; where something is done, `E51` where the time of a `delay` is too large. Then nothing changes. `E50` where no
+    /// notice is left.
     pub fn activate(&mut self, activation: Activation) -> Result<Next, RunError>
         requires begun { self.old.notices ≢ [] }
-        requires within { ForSome activation.process (λ x. x < self.old.room) }
+        requires within { ForSome activation.process (HasRoom self.old.room) }
         ensures list { self.new.notices ≡ list_after self.old.notices (activated activation self.old.notices) }
         ensures answer { result ≡ answer_of self.old.notices (activated activation self.old.notices) }
         ensures not_lower { self.old.room ≤ self.new.room }
     {
         let (now, current) = present(&self.set);
-        activate(&mut self.set, now, activation)?;
+        if let Err(error) = activate(&mut self.set, now, &activation) {
+            return Err(error);
+        }
         next_after(&self.set, current)
+    }
+
+    /// `time`: the present time.
+    pub fn time(&self) -> i64
+        requires { self.now.notices ≢ [] }
+        ensures { result ≡ time self.now.notices }
+    {
+        present(&self.set).0
+    }
+
+    /// `current`: the process of the first notice.
+    pub fn current(&self) -> ProcessNo
+        requires { self.now.notices ≢ [] }
+        ensures { current self.now.notices ≡ Some result }
+    {
+        present(&self.set).1
+    }
+
+    /// `idle`: whether the process has no notice.
+    pub fn idle(&self, process: ProcessNo) -> bool
+        ensures { result ≡ idle process.0 self.now.notices }
+    {
+        self.set.time_of(process).is_none()
+    }
+
+    /// `evtime`: the time of the notice of the process.
+    ///
+    /// # Errors
+    ///
+    /// `E52` where it has none.
+    pub fn evtime(&self, process: ProcessNo) -> Result<i64, RunError>
+        ensures { result ≡ evtime process.0 self.now.notices }
+    {
+        self.set.time_of(process).ok_or(RunError::NoEventTime)
+    }
+
+    /// `nextev`: the process of the next notice after that of the process, or `None`.
+    pub fn nextev(&self, process: ProcessNo) -> Option<ProcessNo>
+        ensures { result ≡ nextev process.0 self.now.notices }
+    {
+        self.set.next(process)
     }
 }

@@ -17,6 +17,3 @@ pub use block::form;
 pub use items::{Boxed, Items};
 pub use refusal::FormRefusal;
 pub use tree::{Addition, Factor, Multiplication, Program, Sign, Statement, Sum, Term};
-
-#[cfg(test)]
-mod tests;

@@ -27,9 +27,9 @@ written_nothing frames n at =
     ∙ set-get_or frames n (record { bytes = []; constant = true })
 
 -- a text in another frame than the changed one has its characters
-pub characters-set_other : (frames : List Frame) (n : ℕ) (x : Frame) (t : TextVal) → t.frame ≢ n → characters (set frames n x) t ≡ characters frames t
+pub characters-set_other : (frames : List Frame) (n : ℕ) (x : Frame) (t : TextVal) → t.text_frame ≢ n → characters (set frames n x) t ≡ characters frames t
 characters-set_other frames n x t other =
-    ap (λ (f : Frame). take t.length (drop (t.start - 1) f.bytes)) (get_or-set_other frames n t.frame x (record { bytes = []; constant = true }) other)
+    ap (λ (f : Frame). take t.length (drop (t.start - 1) f.bytes)) (get_or-set_other frames n t.text_frame x (record { bytes = []; constant = true }) other)
 
 -- characters written, and then blanks behind them
 abbrev pub twice_written : Frame → ℕ → List ℕ → ℕ → ℕ → Frame

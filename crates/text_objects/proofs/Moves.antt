@@ -1,37 +1,7 @@
--- Copies within a list of bytes, and bytes put in place of others.
-use Rattle.std.proofs.Common.{◌≡◌, ℕ, suc, ◌+◌, ◌-◌, ◌<◌, ◌≤◌, List, [], ◌∷◌, ◌++◌, length, take, drop, get_or, set, sym, ap, ◌∙◌, arith}
-use lib.Seq.{paste}
-use Rattle.std.proofs.lemmas.List.{append_assoc, length-append, length-take, length-drop, length-take-le, take_more, get_or-append_right, get_or_append_left, get_or-take, get_or-drop, set_at, set_split, take_at, drop_at, drop-drop, take-append-drop}
+-- Bytes put in place of others.
+use Rattle.std.proofs.Common.{◌≡◌, ℕ, suc, ◌+◌, ◌<◌, ◌≤◌, List, [], ◌∷◌, ◌++◌, length, take, drop, set, sym, ap, ◌∙◌, arith}
+use Rattle.std.proofs.lemmas.List.{append_assoc, length-append, length-take-le, set_split, take_at, drop_at, drop-drop, take-append-drop}
 use Rattle.sim_values.specs.Texts.{replaced}
-
--- a byte behind what was copied so far is as before
-pub get_or-paste : (d s : List ℕ) (at n j e : ℕ) → at + n ≤ length d → n ≤ length s → at + n ≤ j → get_or (paste d at s n) j e ≡ get_or d j e
-get_or-paste d s at n j e room enough behind =
-    let front : length (take at d ++ take n s) ≡ at + n = length-append (take at d) (take n s) ∙ omega (arith, length-take at d, length-take n s) in
-    get_or-append_right (take at d ++ take n s) (drop (at + n) d) (at + n) j e front behind
-    ∙ get_or-drop (at + n) d (j - (at + n)) e
-    ∙ ap (λ (k : ℕ). get_or d k e) (omega arith)
-
--- so is one before what was put
-pub get_or-replaced_below : (b xs : List ℕ) (at j e : ℕ) → j < at → at ≤ length b → get_or (replaced b at xs) j e ≡ get_or b j e
-get_or-replaced_below b xs at j e below room =
-    let front : length (take at b) ≡ at = length-take-le at b room in
-    get_or_append_left (take at b) (xs ++ drop (at + length xs) b) e j (omega arith) ∙ get_or-take at b j e below
-
--- what was copied is in place of what was there
-pub paste-replaced : (d s : List ℕ) (at n : ℕ) → n ≤ length s → paste d at s n ≡ replaced d at (take n s)
-paste-replaced d s at n enough =
-    append_assoc (take at d) (take n s) (drop (at + n) d)
-    ∙ ap (λ (k : ℕ). take at d ++ (take n s ++ drop (at + k) d)) (sym (length-take-le n s enough))
-
--- one more byte in front of what is in place
-pub set-replaced : (b xs : List ℕ) (at y : ℕ) → at < length b → set (replaced b (at + 1) xs) at y ≡ replaced b at (y ∷ xs)
-set-replaced b xs at y below =
-    let rest : List ℕ = xs ++ drop (at + 1 + length xs) b in
-    ap (λ (front : List ℕ). set (front ++ rest) at y) (take_more b at 0 below)
-    ∙ ap (λ (whole : List ℕ). set whole at y) (append_assoc (take at b) (get_or b at 0 ∷ []) rest)
-    ∙ set_at (take at b) (get_or b at 0) rest y at (length-take-le at b (omega arith))
-    ∙ ap (λ (k : ℕ). take at b ++ (y ∷ (xs ++ drop k b))) (omega arith)
 
 -- one byte in place of another
 pub set_is_replaced : (b : List ℕ) (at y : ℕ) → at < length b → set b at y ≡ replaced b at (y ∷ [])
@@ -42,12 +12,6 @@ set_is_replaced b at y below =
 -- nothing in place of nothing
 pub replaced-nil : (b : List ℕ) (at : ℕ) → replaced b at [] ≡ b
 replaced-nil b at = ap (λ (k : ℕ). take at b ++ drop k b) (omega arith) ∙ take-append-drop at b
-
-pub length-replaced : (b xs : List ℕ) (at : ℕ) → at + length xs ≤ length b → length (replaced b at xs) ≡ length b
-length-replaced b xs at room =
-    length-append (take at b) (xs ++ drop (at + length xs) b)
-    ∙ ap (λ (k : ℕ). length (take at b) + k) (length-append xs (drop (at + length xs) b))
-    ∙ omega (arith, length-take at b, length-drop (at + length xs) b)
 
 -- bytes put behind others that were put
 pub replaced-replaced : (b xs ys : List ℕ) (at : ℕ) → at + length xs ≤ length b → replaced (replaced b at xs) (at + length xs) ys ≡ replaced b at (xs ++ ys)

@@ -1,14 +1,15 @@
 -- How a call that makes a text answers.
-use Rattle.std.specs.Prelude.{◌≡◌, ℕ, ◌<◌, ◌≤◌, Option, Some, None, Result, Ok, Err}
-use Rattle.sim_base.specs.declared.run_error.RunError.{RunError}
+use Rattle.std.specs.Prelude.{◌≡◌, ℕ, ◌<◌, ◌≤◌, List, Result, Ok, Err}
 use Rattle.sim_values.specs.declared.value.TextVal.{TextVal}
+use Rattle.sim_values.specs.Texts.{Frame, Making}
 use Rattle.text_objects.specs.declared.fault.TextFault.{TextFault}
 use Rattle.text_objects.specs.declared.fault.TextFault.TheVariants.{Run, Full, Memory}
 
--- a text that takes these words, with this room: the text exactly where nothing is refused and its words fit, `Full` exactly
--- where they do not. Want of memory may come always
-abbrev pub Answers : Option RunError → ℕ → ℕ → TextVal → Result TextVal TextFault → Type 0
-Answers refusal words room made (Ok t) = (refusal ≡ None) × (words ≤ room) × (t ≡ made)
-Answers refusal words room made (Err (Run e)) = refusal ≡ Some e
-Answers refusal words room made (Err (Full wanted)) = (refusal ≡ None) × (room < words) × (wanted ≡ words)
-Answers refusal words room made (Err Memory) = Unit {0}
+-- With this room, of these frames before and after: it is refused as the definition says; it is `Full` exactly where the words that
+-- it asks for exceed the room; else it leaves the frames and gives the text of the definition. Want of memory may come always. What
+-- is not answered by a text changes nothing.
+abbrev pub Makes : Making → (room : ℕ) → (old new : List Frame) → Result TextVal TextFault → Type 0
+Makes making room old new (Ok t) = (making.wanted ≤ room) × (making.answer ≡ Ok t) × (new ≡ making.frames)
+Makes making room old new (Err (Run e)) = (making.answer ≡ Err e) × (new ≡ old)
+Makes making room old new (Err (Full wanted)) = (room < making.wanted) × (wanted ≡ making.wanted) × (new ≡ old)
+Makes making room old new (Err Memory) = new ≡ old

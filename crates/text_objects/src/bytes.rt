@@ -51,35 +51,7 @@ pub fn move_within(bytes: &mut [u8], from: usize, to: usize, count: usize)
     requires target { to + count ≤ length bytes.old }
     ensures { bytes.new ≡ replaced bytes.old to (take count (drop from bytes.old)) }
 {
-    if to <= from {
-        move_down(bytes, from, to, count);
-    } else {
-        move_up(bytes, from, to, count);
-    }
-}
-
-/// Copies to lower places, the first byte first.
-fn move_down(bytes: &mut [u8], from: usize, to: usize, count: usize)
-    requires source { from + count ≤ length bytes.old }
-    requires down { to ≤ from }
-    ensures { bytes.new ≡ replaced bytes.old to (take count (drop from bytes.old)) }
-{
-    for k in 0..count {
-        bytes[to + k] = bytes[from + k];
-    }
-}
-
-/// Copies to higher places, the last byte first.
-fn move_up(bytes: &mut [u8], from: usize, to: usize, count: usize)
-    requires target { to + count ≤ length bytes.old }
-    requires up { from ≤ to }
-    ensures { bytes.new ≡ replaced bytes.old to (take count (drop from bytes.old)) }
-{
-    let mut left = count;
-    while left > 0 {
-        left -= 1;
-        bytes[to + left] = bytes[from + left];
-    }
+    bytes.copy_within(from..from + count, to);
 }
 
 /// How many bytes there are without trailing blanks.

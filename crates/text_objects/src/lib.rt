@@ -9,6 +9,3 @@ mod texts;
 
 pub use fault::TextFault;
 pub use texts::Texts;
-
-#[cfg(test)]
-mod tests;

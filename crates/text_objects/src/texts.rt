@@ -4,7 +4,7 @@ ghost use Rattle.std.specs.Result.{result_err};
 ghost use Rattle.std.specs.Ordering.{nat_cmp};
 ghost use Rattle.std.specs.Cmp.{IsTotalOrder};
 ghost use Rattle.std.specs.Cmp.Lexicographic.{slice_cmp};
-ghost use Rattle.sim_values.specs.Texts.{IsText, LiesIn, frame_at, characters, is_constant, constant_refusal, compare_texts, part, sub_outcome, stripped, main_text, moved, at_position, getchar_refusal, next_character, integer_item, item_value, after_item};
+ghost use Rattle.sim_values.specs.Texts.{IsText, LiesIn, frame_at, characters, is_constant, constant_refusal, compare_texts, part, sub, strip, main_text, at_position, done, outcome, setpos, getchar, getint};
 
 mod change;
 mod make;
@@ -20,7 +20,7 @@ use std::marker::Model;
 
 /// The text of no characters.
 const NOTEXT: TextVal = TextVal {
-    frame: 0,
+    text_frame: 0,
     start: 1,
     length: 0,
     pos: 1,
@@ -54,9 +54,9 @@ impl Texts {
     /// The frame in which a text lies.
     fn frame(&self, t: TextVal) -> &TextFrame
         requires { LiesIn self.now t }
-        ensures { result.now ≡ frame_at self.now t.frame }
+        ensures { result.now ≡ frame_at self.now t.text_frame }
     {
-        &self.frames[t.frame as usize]
+        &self.frames[t.text_frame as usize]
     }
 
     /// The characters of a text.
@@ -143,7 +143,7 @@ impl Texts {
             return NOTEXT;
         }
         TextVal {
-            frame: t.frame,
+            text_frame: t.text_frame,
             start: 1,
             length: self.frame(t).len(),
             pos: 1,
@@ -153,7 +153,8 @@ impl Texts {
     /// `t.setpos(i)`: moves the position to `i`, or behind the last character where `i` is the place of none.
     pub fn setpos(&self, t: &mut TextVal, i: i64)
         requires { IsText self.now t.old }
-        ensures moved { t.new ≡ moved t.old i }
+        ensures step { setpos self.now t.old i ≡ done self.now t.new tt }
+        ensures same { t.new ≡ at_position t.old t.new.pos }
         ensures valid { IsText self.now t.new }
     {
         let end = self.end(*t);
@@ -166,10 +167,8 @@ impl Texts {
     /// `t.getchar`: the character at the position, which moves one on; E23 where the position is behind the last character.
     pub fn getchar(&self, t: &mut TextVal) -> Result<u8, RunError>
         requires { IsText self.now t.old }
-        ensures refusal { result_err result ≡ getchar_refusal t.old }
-        ensures character { IfOk result (λ c. c ≡ next_character self.now t.old) }
-        ensures ok { OnOk result (t.new ≡ at_position t.old (t.old.pos + 1)) }
-        ensures err { OnErr result (t.new ≡ t.old) }
+        ensures step { getchar self.now t.old ≡ outcome self.now t.new result }
+        ensures same { t.new ≡ at_position t.old t.new.pos }
         ensures valid { IsText self.now t.new }
     {
         let text = *t;
@@ -184,7 +183,7 @@ impl Texts {
     /// `t.sub(i, n)`: `n` characters from the place `i` on; E20 where they are no part of the text.
     pub fn sub(&self, t: TextVal, i: i64, n: i64) -> Result<TextVal, RunError>
         requires { IsText self.now t }
-        ensures part { result ≡ sub_outcome t i n }
+        ensures part { result ≡ sub t i n }
         ensures valid { IfOk result (IsText self.now) }
     {
         let end = i64::from(self.end(t));
@@ -197,7 +196,7 @@ impl Texts {
     /// `t.strip`: the text without trailing blanks.
     pub fn strip(&self, t: TextVal) -> TextVal
         requires { IsText self.now t }
-        ensures stripped { result ≡ stripped self.now t }
+        ensures stripped { result ≡ strip self.now t }
         ensures valid { IsText self.now result }
     {
         let length = content_length(self.characters(t));
@@ -209,8 +208,8 @@ impl Texts {
     /// there, E28 where it is outside the range.
     pub fn getint(&self, t: &mut TextVal) -> Result<i64, RunError>
         requires { IsText self.now t.old }
-        ensures value { result ≡ item_value (integer_item (characters self.now t.old)) }
-        ensures position { t.new ≡ after_item t.old (integer_item (characters self.now t.old)) }
+        ensures step { getint self.now t.old ≡ outcome self.now t.new result }
+        ensures same { t.new ≡ at_position t.old t.new.pos }
         ensures valid { IsText self.now t.new }
     {
         let text = *t;
@@ -246,7 +245,7 @@ fn part(t: TextVal, place: u32, length: u32) -> TextVal
         return NOTEXT;
     }
     TextVal {
-        frame: t.frame,
+        text_frame: t.text_frame,
         start: t.start + (place - 1),
         length,
         pos: 1,

@@ -1,7 +1,7 @@
 //! The calls that change the characters of a text in place.
 ghost use Rattle.std.specs.Prelude.{◌≡◌, ◌+◌, ◌-◌, ◌^◌, ◌<◌, ◌≤◌, ◌≢◌, length, map, OnOk, OnErr, IfOk};
 ghost use Rattle.std.specs.Result.{result_err};
-ghost use Rattle.sim_values.specs.Texts.{IsText, LiesIn, KeepsTexts, SameBut, characters, at_position, constant_refusal, with_characters, padded, assign_refusal, assigned, putchar_refusal, with_character, upcased, lowcased, putint_refusal, with_integer};
+ghost use Rattle.sim_values.specs.Texts.{IsText, LiesIn, KeepsTexts, SameBut, assign, at_position, assigned, characters, lowcase, outcome, putchar, putint, upcase, with_characters};
 
 use super::Texts;
 use crate::frame::TextFrame;
@@ -17,11 +17,9 @@ impl Texts {
     pub fn assign(&mut self, left: TextVal, right: TextVal) -> Result<(), RunError>
         requires left { IsText self.old left }
         requires right { IsText self.old right }
-        ensures refusal { result_err result ≡ assign_refusal self.old left right }
-        ensures ok { OnOk result (self.new ≡ assigned self.old left right) }
-        ensures err { OnErr result (self.new ≡ self.old) }
+        ensures step { assign self.old left right ≡ outcome self.new left result }
         ensures keeps { KeepsTexts self.old self.new }
-        ensures others { SameBut left.frame self.old self.new }
+        ensures others { SameBut left.text_frame self.old self.new }
     {
         if right.length > left.length {
             return Err(RunError::TextTooLong);
@@ -44,15 +42,15 @@ impl Texts {
         let at = left.start as usize - 1;
         let count = right.length as usize;
         if count == 0 {
-            let target = &mut self.frames[left.frame as usize];
+            let target = &mut self.frames[left.text_frame as usize];
             target.blank(at, left.length as usize);
-        } else if left.frame == right.frame {
-            let target = &mut self.frames[left.frame as usize];
+        } else if left.text_frame == right.text_frame {
+            let target = &mut self.frames[left.text_frame as usize];
             target.move_within(right.start as usize - 1, at, count);
             target.blank(at + count, left.length as usize - count);
         } else {
             self.copy_between(left, right);
-            let target = &mut self.frames[left.frame as usize];
+            let target = &mut self.frames[left.text_frame as usize];
             target.blank(at + count, left.length as usize - count);
         }
     }
@@ -63,10 +61,10 @@ impl Texts {
         requires start { 1 ≤ left.start }
         requires right { IsText self.old right }
         requires fits { right.length ≤ left.length }
-        requires apart { left.frame ≢ right.frame }
+        requires apart { left.text_frame ≢ right.text_frame }
         ensures { self.new ≡ with_characters self.old left (characters self.old right) }
     {
-        let place = left.frame as usize;
+        let place = left.text_frame as usize;
         let empty = TextFrame::new(Vec::new(*self.frames.allocator()), false);
         let mut target = mem::replace(&mut self.frames[place], empty);
         target.write(left.start as usize - 1, self.characters(right));
@@ -76,17 +74,14 @@ impl Texts {
     /// `upcase(t)`: makes its small letters capitals; the text at position 1. E22 for a constant of positive length.
     pub fn upcase(&mut self, t: TextVal) -> Result<TextVal, RunError>
         requires { IsText self.old t }
-        ensures refusal { result_err result ≡ constant_refusal self.old t }
-        ensures text { IfOk result (λ r. r ≡ at_position t 1) }
-        ensures ok { OnOk result (self.new ≡ upcased self.old t) }
-        ensures err { OnErr result (self.new ≡ self.old) }
+        ensures step { upcase self.old t ≡ outcome self.new t result }
         ensures valid { IfOk result (IsText self.new) }
         ensures keeps { KeepsTexts self.old self.new }
-        ensures others { SameBut t.frame self.old self.new }
+        ensures others { SameBut t.text_frame self.old self.new }
     {
         self.check_variable(t)?;
         if t.length > 0 {
-            let frame = &mut self.frames[t.frame as usize];
+            let frame = &mut self.frames[t.text_frame as usize];
             frame.upcase(t.start as usize - 1, t.length as usize);
         }
         Ok(TextVal { pos: 1, ..t })
@@ -95,17 +90,14 @@ impl Texts {
     /// `lowcase(t)`: makes its capital letters small; the text at position 1. E22 for a constant of positive length.
     pub fn lowcase(&mut self, t: TextVal) -> Result<TextVal, RunError>
         requires { IsText self.old t }
-        ensures refusal { result_err result ≡ constant_refusal self.old t }
-        ensures text { IfOk result (λ r. r ≡ at_position t 1) }
-        ensures ok { OnOk result (self.new ≡ lowcased self.old t) }
-        ensures err { OnErr result (self.new ≡ self.old) }
+        ensures step { lowcase self.old t ≡ outcome self.new t result }
         ensures valid { IfOk result (IsText self.new) }
         ensures keeps { KeepsTexts self.old self.new }
-        ensures others { SameBut t.frame self.old self.new }
+        ensures others { SameBut t.text_frame self.old self.new }
     {
         self.check_variable(t)?;
         if t.length > 0 {
-            let frame = &mut self.frames[t.frame as usize];
+            let frame = &mut self.frames[t.text_frame as usize];
             frame.lowcase(t.start as usize - 1, t.length as usize);
         }
         Ok(TextVal { pos: 1, ..t })
@@ -116,21 +108,18 @@ impl Texts {
     #[tactic(auto, using(crate::proofs::FrameLemmas::same_but_set))]
     pub fn putchar(&mut self, t: &mut TextVal, c: u8) -> Result<(), RunError>
         requires { IsText self.old t.old }
-        ensures refusal { result_err result ≡ putchar_refusal self.old t.old }
-        ensures ok { OnOk result (self.new ≡ with_character self.old t.old c) }
-        ensures moved { OnOk result (t.new ≡ at_position t.old (t.old.pos + 1)) }
-        ensures err { OnErr result (self.new ≡ self.old) }
-        ensures err_text { OnErr result (t.new ≡ t.old) }
+        ensures step { putchar self.old t.old c ≡ outcome self.new t.new result }
+        ensures same { t.new ≡ at_position t.old t.new.pos }
         ensures valid { IsText self.new t.new }
         ensures keeps { KeepsTexts self.old self.new }
-        ensures others { SameBut t.old.frame self.old self.new }
+        ensures others { SameBut t.old.text_frame self.old self.new }
     {
         let text = *t;
         if text.pos >= self.end(text) {
             return Err(RunError::PutcharPastEnd);
         }
         self.check_variable(text)?;
-        let frame = &mut self.frames[text.frame as usize];
+        let frame = &mut self.frames[text.text_frame as usize];
         frame.set(text.start as usize + text.pos as usize - 2, c);
         t.pos = text.pos + 1;
         Ok(())
@@ -142,14 +131,11 @@ impl Texts {
     #[tactic(auto, using(crate::proofs::FrameLemmas::same_but_set), unfolding(crate::specs::Frames::field))]
     pub fn putint(&mut self, t: &mut TextVal, i: i64) -> Result<(), RunError>
         requires { IsText self.old t.old }
-        ensures refusal { result_err result ≡ putint_refusal self.old t.old }
-        ensures ok { OnOk result (self.new ≡ with_integer self.old t.old i) }
-        ensures moved { OnOk result (t.new ≡ at_position t.old (t.old.length + 1)) }
-        ensures err { OnErr result (self.new ≡ self.old) }
-        ensures err_text { OnErr result (t.new ≡ t.old) }
+        ensures step { putint self.old t.old i ≡ outcome self.new t.new result }
+        ensures same { t.new ≡ at_position t.old t.new.pos }
         ensures valid { IsText self.new t.new }
         ensures keeps { KeepsTexts self.old self.new }
-        ensures others { SameBut t.old.frame self.old self.new }
+        ensures others { SameBut t.old.text_frame self.old self.new }
     {
         let text = *t;
         if text.length == 0 {
@@ -157,7 +143,7 @@ impl Texts {
         }
         self.check_variable(text)?;
         let end = self.end(text);
-        let frame = &mut self.frames[text.frame as usize];
+        let frame = &mut self.frames[text.text_frame as usize];
         frame.put_integer(text.start as usize - 1, text.length as usize, i);
         t.pos = end;
         Ok(())

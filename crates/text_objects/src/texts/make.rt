@@ -1,8 +1,8 @@
 //! The calls that make a text.
 ghost use Rattle.std.specs.Prelude.{◌≡◌, ◌+◌, ◌-◌, ◌^◌, ◌<◌, ◌≤◌, ◌∷◌, [], ◌++◌, length, true, false, replicate, None, OnOk, OnErr, IfOk, IfErr};
-ghost use Rattle.sim_values.specs.Texts.{IsText, KeepsTexts, SameBut, characters, new_text, with_new, blanks_refusal, blank_characters};
+ghost use Rattle.sim_values.specs.Texts.{IsText, KeepsTexts, SameBut, characters, new_text, with_new, blanks, copy, join};
 ghost use Rattle.sim_values.specs.Words.{text_words};
-ghost use Rattle.text_objects.specs.Making.{Answers};
+ghost use Rattle.text_objects.specs.Making.{Makes};
 
 use super::{NOTEXT, Texts};
 use crate::fault::TextFault;
@@ -14,15 +14,15 @@ impl Texts {
     /// Makes a frame of these bytes, and the text that is all of it.
     fn add(&mut self, bytes: Vec<u8>, constant: bool) -> Result<TextVal, Memory>
         requires { length bytes.items < 2 ^ 32 - 1 }
-        ensures made { IfOk result (λ t. t ≡ record { frame = length self.old; start = 1; length = length bytes.items; pos = 1 }) }
+        ensures made { IfOk result (λ t. t ≡ record { text_frame = length self.old; start = 1; length = length bytes.items; pos = 1 }) }
         ensures ok { OnOk result (self.new ≡ self.old ++ (record { bytes = bytes.items; constant = constant }) ∷ []) }
         ensures err { OnErr result (self.new ≡ self.old) }
     {
-        let frame = u32::try_from(self.frames.len()).map_err(|_| Memory)?;
+        let text_frame = u32::try_from(self.frames.len()).map_err(|_| Memory)?;
         let length = bytes.len() as u32;
         self.frames.push(TextFrame::new(bytes, constant))?;
         Ok(TextVal {
-            frame,
+            text_frame,
             start: 1,
             length,
             pos: 1,
@@ -32,7 +32,7 @@ impl Texts {
     /// Makes a constant text of these characters.
     pub fn constant(&mut self, bytes: &[u8]) -> Result<TextVal, Memory>
         requires { length bytes.now < 2 ^ 32 - 1 }
-        ensures made { IfOk result (λ t. t ≡ record { frame = length self.old; start = 1; length = length bytes.now; pos = 1 }) }
+        ensures made { IfOk result (λ t. t ≡ record { text_frame = length self.old; start = 1; length = length bytes.now; pos = 1 }) }
         ensures ok { OnOk result (self.new ≡ self.old ++ (record { bytes = bytes.now; constant = true }) ∷ []) }
         ensures err { OnErr result (self.new ≡ self.old) }
         ensures valid { IfOk result (IsText self.new) }
@@ -45,7 +45,7 @@ impl Texts {
 
     /// Makes a text of `count` blanks for an image.
     pub fn image(&mut self, count: u16) -> Result<TextVal, Memory>
-        ensures made { IfOk result (λ t. t ≡ record { frame = length self.old; start = 1; length = count; pos = 1 }) }
+        ensures made { IfOk result (λ t. t ≡ record { text_frame = length self.old; start = 1; length = count; pos = 1 }) }
         ensures ok { OnOk result (self.new ≡ self.old ++ (record { bytes = replicate count 32; constant = false }) ∷ []) }
         ensures err { OnErr result (self.new ≡ self.old) }
         ensures valid { IfOk result (IsText self.new) }
@@ -59,9 +59,7 @@ impl Texts {
     /// `blanks(n)`: a new text of `n` blanks; E27 where `n` is negative.
     pub fn blanks(&mut self, n: i64, room: u64) -> Result<TextVal, TextFault>
         requires { room ≤ 50000000 }
-        ensures answer { let characters = blank_characters n in Answers (blanks_refusal n) (text_words (length characters)) room (new_text self.old (length characters)) result }
-        ensures ok { OnOk result (self.new ≡ with_new self.old (blank_characters n)) }
-        ensures err { OnErr result (self.new ≡ self.old) }
+        ensures making { Makes (blanks self.old n) room self.old self.new result }
         ensures valid { IfOk result (IsText self.new) }
         ensures keeps { KeepsTexts self.old self.new }
         ensures others { SameBut (length self.old) self.old self.new }
@@ -79,9 +77,7 @@ impl Texts {
     pub fn copy(&mut self, t: TextVal, room: u64) -> Result<TextVal, TextFault>
         requires text { IsText self.old t }
         requires room { room ≤ 50000000 }
-        ensures answer { let characters = characters self.old t in Answers None (text_words (length characters)) room (new_text self.old (length characters)) result }
-        ensures ok { OnOk result (self.new ≡ with_new self.old (characters self.old t)) }
-        ensures err { OnErr result (self.new ≡ self.old) }
+        ensures making { Makes (copy self.old t) room self.old self.new result }
         ensures valid { IfOk result (IsText self.new) }
         ensures keeps { KeepsTexts self.old self.new }
         ensures others { SameBut (length self.old) self.old self.new }
@@ -96,9 +92,7 @@ impl Texts {
         requires left { IsText self.old a }
         requires right { IsText self.old b }
         requires room { room ≤ 50000000 }
-        ensures answer { let characters = characters self.old a ++ characters self.old b in Answers None (text_words (length characters)) room (new_text self.old (length characters)) result }
-        ensures ok { OnOk result (self.new ≡ with_new self.old (characters self.old a ++ characters self.old b)) }
-        ensures err { OnErr result (self.new ≡ self.old) }
+        ensures making { Makes (join self.old a b) room self.old self.new result }
         ensures valid { IfOk result (IsText self.new) }
         ensures keeps { KeepsTexts self.old self.new }
         ensures others { SameBut (length self.old) self.old self.new }

@@ -11,5 +11,5 @@ invariant-loop-place l =
       image : l.image ≡ at_position l.fn.image (l.place + 1);
       valid : IsImage l.texts l.image;
       keeps : KeepsTexts l.fn.texts l.texts;
-      others : SameBut l.fn.image.frame l.fn.texts l.texts;
+      others : SameBut l.fn.image.text_frame l.fn.texts l.texts;
     }

@@ -1,5 +1,5 @@
-use Rattle.sim_chains.proofs.Transfers.{call_then_detach}
+use Rattle.sim_chains.proofs.Refused.{call_then_detach}
 use Rattle.sim_chains.proofs.laws.call_and_detach.Goals as goal
 
 pub returns : goal.returns
-returns c = call_then_detach
+returns g c = call_then_detach

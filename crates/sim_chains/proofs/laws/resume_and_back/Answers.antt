@@ -1,5 +1,5 @@
-use Rattle.sim_chains.proofs.Transfers.{resume_then_back}
+use Rattle.sim_chains.proofs.Transfers.{resume_back}
 use Rattle.sim_chains.proofs.laws.resume_and_back.Goals as goal
 
 pub returns : goal.returns
-returns c = resume_then_back
+returns g c = resume_back

@@ -4,7 +4,28 @@ use Rattle.sim_driver.proofs.top.simula.Goals as goal
 
 pub returns-clause-line_part : goal.returns-clause-line_part
 returns-clause-line_part g c =
-    elim c.tell.ensures.part [
-      | inl own ↦ (c.perform-status.result, (λ is source answer tells means. (c.perform-status.ensures.answer source answer tells means is).ends), own)
-      | inr memory ↦ (Memory, (λ is source answer tells means. let no : false ≡ true = is in cc no), memory)
+    let ran = c.run_command-status.ensures in
+    elim c.write_status_line.ensures.says [
+      | inl own ↦ (
+        c.run_command-status.result,
+        (λ is source answer tells means. (ran.answer source answer tells means is).ends),
+        record {
+          usage = ran.usage;
+          file = λ is. (ran.file_fault is).0;
+          read = λ is. absurd (ran.no_input_fault is);
+          write = ran.write_fault;
+        },
+        own,
+      )
+      | inr memory ↦ (
+        Memory,
+        (λ is source answer tells means. let no : false ≡ true = is in cc no),
+        record {
+          usage = λ is. cc;
+          file = λ is. cc;
+          read = λ is. cc;
+          write = λ is. cc;
+        },
+        memory,
+      )
     ]

@@ -40,8 +40,9 @@ returns-in_default c =
     let i = c.args.at in
     let x = c.index-tokens-at.result in
     let n = c.in_default in
-    at_terminal ws i (slice_index_or ws i x).kind (ap (λ y. y.kind) (sym c.index-tokens-at.is) ∙ kind_read ws i x c.requires.within c.index-tokens-at.is)
-    (no_literal (slice_index_or ws i x).kind n.not-Integer n.not-Character n.not-Text n.not-True n.not-False n.not-None n.not-Notext)
+    let other = at_terminal ws i (slice_index_or ws i x).kind (ap (λ y. y.kind) (sym c.index-tokens-at.is) ∙ kind_read ws i x c.requires.within c.index-tokens-at.is)
+    (no_literal (slice_index_or ws i x).kind n.not-Integer n.not-Character n.not-Text n.not-True n.not-False n.not-None n.not-Notext) in
+    (refl, other)
 
 pub returns : goal.returns
 unfolding is

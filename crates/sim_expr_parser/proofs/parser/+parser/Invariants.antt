@@ -1,61 +1,91 @@
-use Rattle.std.proofs.Common.{◌+◌, ◌*◌, ◌-◌, ◌<◌, ◌≤◌, length, map, List, ◌∷◌}
+use Rattle.std.proofs.Common.{ℕ, ◌+◌, ◌*◌, ◌-◌, ◌<◌, ◌≤◌, length, map, List, ◌∷◌}
 use Rattle.sim_tree.specs.Grammar as g
 use Rattle.sim_tree.specs.Grammar.{Symbol, Once, Many, Of}
 use Rattle.sim_tree.specs.Shown.{shown, item, operand_shown, term_shown, factor_shown, selector_shown}
 use Rattle.sim_tree.proofs.Steps.{Leads}
-use Rattle.sim_expr_parser.specs.Level.{under, word_kind, many}
+use Rattle.sim_expr_parser.specs.Level.{under, below_of, word_kind, many}
+use Rattle.sim_expr_parser.specs.Operators.{IsRead}
 use Rattle.sim_expr_parser.specs.Parsing.{listed}
 use Rattle.sim_expr_parser.specs.Recursion.{calls_left, calls}
 use Rattle.sim_expr_parser.proofs.Steps.{Row}
 use Rattle.sim_expr_parser.proofs.parser.+parser.Given as goal
 
 abbrev pub decreases-expression : goal.decreases-expression
-decreases-expression l = calls_left calls l.depth 0
+decreases-expression l = calls_left calls l.depth 1
 
-abbrev pub decreases-negation : goal.decreases-negation
-decreases-negation l = calls_left calls l.depth 19
+abbrev pub decreases-conditional : goal.decreases-conditional
+decreases-conditional l = calls_left calls l.depth 0
 
-abbrev pub decreases-relation : goal.decreases-relation
-decreases-relation l = calls_left calls l.depth 18
-
-abbrev pub decreases-sum : goal.decreases-sum
-decreases-sum l = calls_left calls l.depth 12
-
-abbrev pub decreases-product : goal.decreases-product
-decreases-product l = calls_left calls l.depth 10
-
-abbrev pub decreases-postfix : goal.decreases-postfix
-decreases-postfix l = calls_left calls l.depth 5
-
-abbrev pub decreases-selector : goal.decreases-selector
-decreases-selector l = calls_left calls l.depth 3
-
-abbrev pub decreases-primary : goal.decreases-primary
-decreases-primary l = calls_left calls l.depth 3
-
-abbrev pub decreases-arguments : goal.decreases-arguments
-decreases-arguments l = calls_left calls l.depth 2
-
-abbrev pub decreases-operated : goal.decreases-operated
-decreases-operated l = calls_left calls l.depth (under l.level * 3 + 5)
-
-abbrev pub decreases-operand : goal.decreases-operand
-decreases-operand l = calls_left calls l.depth (under l.level * 3 + 3)
-
-abbrev pub decreases-operands : goal.decreases-operands
-decreases-operands l = calls_left calls l.depth (under l.level * 3 + 4)
-
-abbrev pub decreases-terms : goal.decreases-terms
-decreases-terms l = calls_left calls l.depth 11
-
-abbrev pub decreases-factors : goal.decreases-factors
-decreases-factors l = calls_left calls l.depth 9
-
-abbrev pub decreases-selectors : goal.decreases-selectors
-decreases-selectors l = calls_left calls l.depth 4
+abbrev pub decreases-boxed : goal.decreases-boxed
+decreases-boxed l = calls_left calls l.depth 2
 
 abbrev pub decreases-argument_list : goal.decreases-argument_list
-decreases-argument_list l = calls_left calls l.depth 1
+decreases-argument_list l = calls_left calls l.depth 2
+
+abbrev pub decreases-arguments : goal.decreases-arguments
+decreases-arguments l = calls_left calls l.depth 3
+
+abbrev pub decreases-named : goal.decreases-named
+decreases-named l = calls_left calls l.depth 4
+
+abbrev pub decreases-generator : goal.decreases-generator
+decreases-generator l = calls_left calls l.depth 4
+
+abbrev pub decreases-parentheses : goal.decreases-parentheses
+decreases-parentheses l = calls_left calls l.depth 3
+
+abbrev pub decreases-primary : goal.decreases-primary
+decreases-primary l = calls_left calls l.depth 5
+
+abbrev pub decreases-selector : goal.decreases-selector
+decreases-selector l = calls_left calls l.depth 4
+
+abbrev pub decreases-selectors : goal.decreases-selectors
+decreases-selectors l = calls_left calls l.depth 5
+
+abbrev pub decreases-postfix : goal.decreases-postfix
+decreases-postfix l = calls_left calls l.depth 6
+
+abbrev pub decreases-up_to_level : goal.decreases-up_to_level
+decreases-up_to_level l = calls_left calls l.depth (l.top * 5 + 2)
+
+abbrev pub decreases-boxed_up_to_level : goal.decreases-boxed_up_to_level
+decreases-boxed_up_to_level l = calls_left calls l.depth (l.top * 5 + 3)
+
+abbrev pub decreases-raised : goal.decreases-raised
+decreases-raised l = calls_left calls l.depth (l.top * 5 + 1)
+
+abbrev pub decreases-extended : goal.decreases-extended
+decreases-extended l = calls_left calls l.depth (below_of l.operators * 5 + 5)
+
+abbrev pub decreases-operands : goal.decreases-operands
+decreases-operands l = calls_left calls l.depth (under l.level * 5 + 3)
+
+abbrev pub decreases-terms : goal.decreases-terms
+decreases-terms l = calls_left calls l.depth 18
+
+abbrev pub decreases-factors : goal.decreases-factors
+decreases-factors l = calls_left calls l.depth 13
+
+abbrev pub decreases-relation : goal.decreases-relation
+decreases-relation l = calls_left calls l.depth 29
+
+abbrev pub decreases-negation : goal.decreases-negation
+decreases-negation l = calls_left calls l.depth 34
+
+abbrev pub decreases-signed_sum : goal.decreases-signed_sum
+decreases-signed_sum l = calls_left calls l.depth 19
+
+abbrev pub invariant-raised-loop-operators : goal.invariant-raised-loop-operators
+invariant-raised-loop-operators l = record {
+  goes : (i : ℕ) → IsRead l.tokens l.depth i l.level l.top l.fn.operand l.start → IsRead l.tokens l.depth i l.reached l.top l.first l.at;
+  within : l.at < length l.tokens;
+  some : 1 ≤ l.reached;
+  low : l.reached ≤ l.top;
+}
+
+abbrev pub decreases-raised-loop-operators : goal.decreases-raised-loop-operators
+decreases-raised-loop-operators l = 14 - l.reached
 
 abbrev pub invariant-operands-loop-next : goal.invariant-operands-loop-next
 invariant-operands-loop-next l = record {

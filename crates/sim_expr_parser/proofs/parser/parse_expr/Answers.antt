@@ -1,6 +1,6 @@
 use Rattle.std.proofs.Common.{refl, sym, subst}
 use Rattle.sim_tree.specs.Grammar as g
-use Rattle.sim_tree.specs.Reading.{Fails, TooDeep}
+use Rattle.sim_tree.specs.Reading.{Fails, Unexpected, TooDeep}
 use Rattle.sim_tree.specs.Claim.{Begins, IsFirstBad, one}
 use Rattle.sim_tree.specs.Tree.{limit}
 use Rattle.sim_tree.proofs.Completion.{begun, first_bad}
@@ -16,8 +16,12 @@ token_no-requires-in-Err-TooDeep-clause-within c = fails_within c.requires.sourc
 
 pub returns-in-Err-Unexpected : goal.returns-in-Err-Unexpected
 returns-in-Err-Unexpected c =
-    subst (λ z. IsFirstBad c.args.tokens.now (one g.Expression) c.args.at z) (sym c.token_no.ensures)
-    (first_bad limit c.args.depth c.args.tokens.now g.Expression c.args.at c.in-Err-Unexpected.bad (subst (λ z. Stops c.args.tokens.now c.args.depth (one g.Expression) c.args.at z) c.in-Err-Unexpected.field-0-is c.in-Err-Unexpected.ensures))
+    let ws = c.args.tokens.now in
+    let d = c.args.depth in
+    let i = c.args.at in
+    let stops = subst (λ z. Stops ws d (one g.Expression) i z) c.in-Err-Unexpected.field-0-is c.in-Err-Unexpected.ensures in
+    subst (λ z. Fails limit ws d (one g.Expression) i (Unexpected z) × IsFirstBad ws (one g.Expression) i z) (sym c.token_no.ensures)
+    (stops, first_bad limit d ws g.Expression i c.in-Err-Unexpected.bad stops)
 
 pub returns-in-Err-TooDeep : goal.returns-in-Err-TooDeep
 returns-in-Err-TooDeep c =

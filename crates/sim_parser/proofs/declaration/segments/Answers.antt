@@ -22,7 +22,7 @@ returns-in_err-first c =
 
 pub loop-next-init : goal.loop-next-init
 loop-next-init c =
-    list-first segment_shown c.new-list.result.items c.push.new.self.items c.in_ok-first.first c.in_ok-first.ensures c.new-list.ensures.items c.in_ok-push.ensures.items
+    list-first segment_shown c.new-list.result.items c.add.new.list.items c.in_ok-first.first c.in_ok-first.ensures c.new-list.ensures.items c.in_ok-add.ensures
 
 pub returns-in_err-segment : goal.returns-in_err-segment
 returns-in_err-segment c =
@@ -33,7 +33,7 @@ returns-in_err-segment c =
 
 pub loop-next-preserved : goal.loop-next-preserved
 loop-next-preserved c =
-    list-more segment_shown c.loop-next.list.items c.push-in-Some.new.self.items c.in_ok-segment.segment (refl, refl) c.loop-next.invariant c.in-Some.ensures c.in_ok-segment.ensures c.in_ok-push-2.ensures.items
+    list-more segment_shown c.loop-next.list.items c.add-in-Some.new.list.items c.in_ok-segment.segment (refl, refl) c.loop-next.invariant c.in-Some.ensures c.in_ok-segment.ensures c.in_ok-add-2.ensures
 
 pub returns : goal.returns
 returns c =

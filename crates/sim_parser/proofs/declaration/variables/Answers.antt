@@ -23,7 +23,7 @@ returns-in_err-first c = λ d.
 pub loop-next-init : goal.loop-next-init
 loop-next-init c =
     record {
-      goes = λ d. list-first variable_shown c.new-list.result.items c.push.new.self.items c.in_ok-first.first (c.in_ok-first.ensures d) c.new-list.ensures.items c.in_ok-push.ensures.items;
+      goes = λ d. list-first variable_shown c.new-list.result.items c.add.new.list.items c.in_ok-first.first (c.in_ok-first.ensures d) c.new-list.ensures.items c.in_ok-add.ensures;
       within = (c.in_ok-first.ensures 0).within;
     }
 
@@ -37,7 +37,7 @@ returns-in_err-variable c = λ d.
 pub loop-next-preserved : goal.loop-next-preserved
 loop-next-preserved c =
     record {
-      goes = λ d. list-more variable_shown c.loop-next.list.items c.push-in-Some.new.self.items c.in_ok-variable.variable (refl, refl) (c.loop-next.invariant.goes d) c.in-Some.ensures (c.in_ok-variable.ensures d) c.in_ok-push-2.ensures.items;
+      goes = λ d. list-more variable_shown c.loop-next.list.items c.add-in-Some.new.list.items c.in_ok-variable.variable (refl, refl) (c.loop-next.invariant.goes d) c.in-Some.ensures (c.in_ok-variable.ensures d) c.in_ok-add-2.ensures;
       within = (c.in_ok-variable.ensures 0).within;
     }
 

@@ -24,9 +24,9 @@ loop-next-init c =
     let ws = c.args.tokens.now in
     let i = c.args.start in
     let x = c.in_ok-first.first in
-    let items : c.push.new.self.items ≡ x ∷ [] = c.in_ok-push.ensures.items ∙ ap (λ l. l ++ x ∷ []) c.new-list.ensures.items in
+    let items : c.add.new.list.items ≡ x ∷ [] = c.in_ok-add.ensures ∙ ap (λ l. l ++ x ∷ []) c.new-list.ensures.items in
     record {
-      goes = λ d. opened-ids ws d i c.in_ok-first.at x c.push.new.self.items c.requires.within (c.in_ok-first.ensures d) items;
+      goes = λ d. opened-ids ws d i c.in_ok-first.at x c.add.new.list.items c.requires.within (c.in_ok-first.ensures d) items;
       some = omega (arith, ap length items);
       ahead = (c.in_ok-first.ensures 0).ahead;
       within = (c.in_ok-first.ensures 0).within;
@@ -55,12 +55,12 @@ loop-next-preserved c =
     let l = c.loop-next in
     let w = c.in-Some.ensures in
     let y = c.in_ok-identifier.identifier in
-    let ys = c.push-in-Some.new.self.items in
+    let ys = c.add-in-Some.new.list.items in
     let p = c.in_ok-identifier.ensures 0 in
     record {
-      goes = λ d. within-as (λ f. ids_then l.list.items (node g.NextIdentifier (identifier y done) f)) (ids_then ys) (λ f. ids-more l.list.items ys y f l.invariant.some c.in_ok-push-2.ensures.items)
+      goes = λ d. within-as (λ f. ids_then l.list.items (node g.NextIdentifier (identifier y done) f)) (ids_then ys) (λ f. ids-more l.list.items ys y f l.invariant.some c.in_ok-add-2.ensures)
           (again (l.invariant.goes d) (gone (to (opened-next-id ws d l.at c.in-Some.next l.invariant.within w) (c.in_ok-identifier.ensures d)) (identifier y done) refl));
-      some = omega (arith, ap length c.in_ok-push-2.ensures.items, length-append l.list.items (y ∷ []));
+      some = omega (arith, ap length c.in_ok-add-2.ensures, length-append l.list.items (y ∷ []));
       ahead = omega (arith, l.invariant.ahead, w.1, p.ahead);
       within = p.within;
     }

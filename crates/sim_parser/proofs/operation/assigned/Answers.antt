@@ -39,7 +39,7 @@ loop-sign-preserved c =
     let m2 = to (to (opened ws d l.at g.Assigned sy refl (one_row g.Assigned assignments sy (terminal_at ws l.at) true refl w.among) l.invariant.within) (kept n.0 c.token_no-token.ensures w)) (once p) in
     let made = leaf n.0 (assignment_kind c.in-Some.sign) (expr c.in_ok-value.value done) in
     record {
-      goes = row-more assigned_shown l.rest.items c.push.new.self.items _ made l.invariant.goes (gone m2 made refl) c.in_ok-push.ensures.items refl;
+      goes = row-more assigned_shown l.rest.items c.add.new.list.items _ made l.invariant.goes (gone m2 made refl) c.in_ok-add.ensures refl;
       ahead = omega (arith, l.invariant.ahead, w.ahead, p.ahead);
       within = p.within;
     }

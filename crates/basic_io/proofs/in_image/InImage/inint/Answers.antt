@@ -18,7 +18,7 @@ returns-in_err-value-clause-outcome g c =
     let count : ℤ = to_z w64 (of_z w64 (to_z w64 (of_z w64 (to_z w64 (of_z w64 c.from-end.result) +ℤ pos 1)) -ℤ place)) in
     let rest = sub_is_rest frames i.image c.in_ok-rest.rest place count image (omega (arith, ints)) (omega (arith, ints)) c.in_ok-rest.ensures.part in
     let p = err_from_is_err_and c.from_residual-in_err-value.result c.from_residual-in_err-value.ensures.1 in
-    rw (p.1, p.2) (item_refused old frames i c.lastitem.new.self (source c.lastitem.new.input) _ c.in_ok-rest.rest c.in_err-value.field-0.0 was c.if-branch.false image c.in_ok-lastitem.ensures.outcome rest c.in_err-value.ensures.value)
+    rw (p.1, p.2) (item_refused old frames i c.lastitem.new.self (source c.lastitem.new.input) _ c.in_ok-rest.rest c.getint.new.t c.in_err-value.field-0.0 was c.if-branch.false image c.in_ok-lastitem.ensures.outcome rest c.in_err-value.ensures.step)
 
 pub returns-clause-outcome : goal.returns-clause-outcome
 returns-clause-outcome g c =
@@ -32,4 +32,4 @@ returns-clause-outcome g c =
     let count : ℤ = to_z w64 (of_z w64 (to_z w64 (of_z w64 (to_z w64 (of_z w64 c.from-end.result) +ℤ pos 1)) -ℤ place)) in
     let rest = sub_is_rest frames i.image c.in_ok-rest.rest place count image (omega (arith, ints)) (omega (arith, ints)) c.in_ok-rest.ensures.part in
     let fits : SFits w64 c.in_ok-value.value = search rules in
-    rw to_z-of_z (item_read old frames i c.lastitem.new.self (source c.lastitem.new.input) _ c.in_ok-rest.rest c.getint.new.t c.in_ok-value.value was c.if-branch.false image c.in_ok-lastitem.ensures.outcome rest c.in_ok-value.ensures.value c.in_ok-value.ensures.position)
+    rw to_z-of_z (item_read old frames i c.lastitem.new.self (source c.lastitem.new.input) _ c.in_ok-rest.rest c.getint.new.t c.in_ok-value.value was c.if-branch.false image c.in_ok-lastitem.ensures.outcome rest c.in_ok-value.ensures.step)

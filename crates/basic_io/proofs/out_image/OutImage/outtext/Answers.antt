@@ -45,5 +45,5 @@ loop-place-preserved g c =
       valid = put.valid;
       same = put.same ∙ ap (λ (image : TextVal). at_position image c.outchar.new.self.pos) kept.same;
       keeps = λ u h. put.keeps u (kept.keeps u h);
-      others = λ j other. put.others j (λ e. other (e ∙ ap (λ (image : TextVal). image.frame) kept.same)) ∙ kept.others j other;
+      others = λ j other. put.others j (λ e. other (e ∙ ap (λ (image : TextVal). image.text_frame) kept.same)) ∙ kept.others j other;
     }

@@ -15,5 +15,5 @@ invariant-loop-place g l =
       valid : IsImage l.texts l.self;
       same : l.self ≡ at_position l.fn.self l.self.pos;
       keeps : KeepsTexts l.fn.texts l.texts;
-      others : SameBut l.fn.self.frame l.fn.texts l.texts;
+      others : SameBut l.fn.self.text_frame l.fn.texts l.texts;
     }

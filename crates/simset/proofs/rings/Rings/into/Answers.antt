@@ -7,27 +7,27 @@ use Rattle.simset.proofs.Effects.{length-out, is_link_at-out, is_head_at-out, is
 use Rattle.simset.proofs.rings.Rings.into.Goals as goal
 
 pub insert_before-requires-clause-link : goal.insert_before-requires-clause-link
-insert_before-requires-clause-link c = rw (c.out.ensures.sets, is_link_at-out) c.requires.link
+insert_before-requires-clause-link c = rw (c.leave.ensures.sets, is_link_at-out) c.requires.link
 
 pub insert_before-requires-clause-outside : goal.insert_before-requires-clause-outside
-insert_before-requires-clause-outside c = rw c.out.ensures.sets (times_in-out _ _)
+insert_before-requires-clause-outside c = rw c.leave.ensures.sets (times_in-out _ _)
 
 pub insert_before-requires-clause-made : goal.insert_before-requires-clause-made
-insert_before-requires-clause-made c = rw (c.out.ensures.sets, length-out) (is_head_at-made _ _ (c.requires.head _ c.in-Some.is))
+insert_before-requires-clause-made c = rw (c.leave.ensures.sets, length-out) (is_head_at-made _ _ (c.requires.head _ c.in-Some.is))
 
 pub insert_before-requires-clause-placed : goal.insert_before-requires-clause-placed
 insert_before-requires-clause-placed c =
-    rw c.out.ensures.sets (places_from-some c.in-Some.place 0 c.in-Some.place (out c.args.self.now.sets c.args.link) (omega arith) (rw is_head_at-out (c.requires.head _ c.in-Some.is)))
+    rw c.leave.ensures.sets (places_from-some c.in-Some.place.0 0 c.in-Some.place.0 (out c.args.self.now.sets c.args.link.0) (omega arith) (rw is_head_at-out (c.requires.head _ c.in-Some.is)))
 
 pub returns-in-Some-clause-sets : goal.returns-in-Some-clause-sets
 unfolding into
 returns-in-Some-clause-sets c =
     let kept : KeepsSets c.self.inside.nodes.items c.args.self.now.sets = (kept-view _ _ (ap (λ (v : Simset). v.sets) c.self.view_is) c.self.invariant) in
-    let nowhere : times_in c.in-Some.place c.out.new.self.sets ≡ 0 =
-    rw c.out.ensures.sets (head_nowhere _ _ (proper-out _ _ kept.proper) (rw is_head_at-out (c.requires.head _ c.in-Some.is)))
+    let nowhere : times_in c.in-Some.place.0 c.leave.new.self.sets ≡ 0 =
+    rw c.leave.ensures.sets (head_nowhere _ _ (proper-out _ _ kept.proper) (rw is_head_at-out (c.requires.head _ c.in-Some.is)))
     in
-    rw (c.in-Some.is, ← c.out.ensures.sets) (c.insert_before.ensures.sets ∙ put_before-last _ _ 0 _ nowhere)
+    rw (c.in-Some.is, ← c.leave.ensures.sets) (c.insert_before.ensures.sets ∙ put_before-last _ _ 0 _ nowhere)
 
 pub returns-in_default-clause-sets : goal.returns-in_default-clause-sets
 unfolding into
-returns-in_default-clause-sets c = rw c.in_default.is c.out.ensures.sets
+returns-in_default-clause-sets c = rw c.in_default.is c.leave.ensures.sets

@@ -8,7 +8,7 @@ use Rattle.text_objects.proofs.texts.Texts.copy_between.Goals as goal
 pub returns : goal.returns
 returns c =
     let now = c.args.self.now in
-    let l = c.args.left.frame in
+    let l = c.args.left.text_frame in
     let at : ℕ = c.args.left.start - 1 in
     let items = c.self.inside.frames.items in
     let same : items ≡ now = c.self.view_is in

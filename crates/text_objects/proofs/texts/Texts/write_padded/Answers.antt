@@ -8,7 +8,7 @@ use Rattle.text_objects.proofs.texts.Texts.write_padded.Goals as goal
 pub returns-then-left-right : goal.returns-then-left-right
 returns-then-left-right c =
     let now = c.args.self.now in
-    let l = c.args.left.frame in
+    let l = c.args.left.text_frame in
     let at : ℕ = c.args.left.start - 1 in
     let from : ℕ = c.args.right.start - 1 in
     let count = c.args.right.length in
@@ -23,7 +23,7 @@ returns-then-left-right c =
     ∙ ap (λ (fs : List Frame). frame_at fs l) same
     in
     let lies : LiesIn now c.args.right = c.requires.right.lies (omega (arith, c.requires.right.starts)) in
-    let together : l ≡ c.args.right.frame = c.if-left-right.true in
+    let together : l ≡ c.args.right.text_frame = c.if-left-right.true in
     let old : List ℕ = (frame_at now l).bytes in
     let within_right : c.args.right.start + count ≤ length old + 1 =
     let P : ℕ → Type 0 = λ n. c.args.right.start + count ≤ length (frame_at now n).bytes + 1 in
@@ -48,7 +48,7 @@ returns-then-left-right c =
 pub returns-else-left-right : goal.returns-else-left-right
 returns-else-left-right c =
     let now = c.args.self.now in
-    let l = c.args.left.frame in
+    let l = c.args.left.text_frame in
     let at : ℕ = c.args.left.start - 1 in
     let count = c.args.right.length in
     let room = c.args.left.length in
@@ -66,8 +66,8 @@ returns-else-left-right c =
     in
     let lies : LiesIn now c.args.right = c.requires.right.lies (omega (arith, c.requires.right.starts)) in
     let counted : length cs ≡ count =
-    length-take count (drop (c.args.right.start - 1) (frame_at now c.args.right.frame).bytes)
-    ∙ omega (arith, length-drop (c.args.right.start - 1) (frame_at now c.args.right.frame).bytes, c.requires.right.starts, lies.within)
+    length-take count (drop (c.args.right.start - 1) (frame_at now c.args.right.text_frame).bytes)
+    ∙ omega (arith, length-drop (c.args.right.start - 1) (frame_at now c.args.right.text_frame).bytes, c.requires.right.starts, lies.within)
     in
     ap (λ (f : Frame). set items l f)
     (c.blank-else-left-right.ensures

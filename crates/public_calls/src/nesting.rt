@@ -1,0 +1,72 @@
+// Sources that nest as deep as they may, or one deeper. They take much stack, and a program of the gate is run as two
+// compilers build it, so they stand in a test and are no data of `examples`.
+
+use crate::top_call::{Wanted, check, sound};
+use std::alloc::{AllocError, Global};
+use std::test::Fail;
+
+// A text, so many times.
+fn add_repeated(source: &mut Vec<u8>, text: &[u8], count: usize) -> Result<(), AllocError> {
+    for _ in 0..count {
+        source.extend_from_slice(text)?;
+    }
+    Ok(())
+}
+
+// Blocks in blocks, then an assignment of a value in parentheses. What stands innermost begins line 2.
+fn nested(
+    alloc: Global,
+    blocks: usize,
+    parentheses: usize,
+    innermost: &[u8],
+) -> Result<Vec<u8>, AllocError> {
+    let mut source = Vec::new(alloc);
+    add_repeated(&mut source, b"begin ", blocks)?;
+    if parentheses > 0 {
+        source.extend_from_slice(b"i := ")?;
+        add_repeated(&mut source, b"(", parentheses)?;
+    }
+    source.push(b'\n')?;
+    source.extend_from_slice(innermost)?;
+    add_repeated(&mut source, b")", parentheses)?;
+    add_repeated(&mut source, b" end", blocks)?;
+    Ok(source)
+}
+
+#[test]
+fn nesting(rt: HostRuntime) -> Result<(), Fail> {
+    let whole = b"line 1: Z1 form not built\n".as_slice();
+    let deep = b"line 2: Y2 nested too deeply\n".as_slice();
+    let bad = b"line 2: Y1 unexpected token\n".as_slice();
+    let rows = [
+        (1, 198, b"1".as_slice(), whole),
+        (1, 199, b"1", deep),
+        (201, 0, b"", whole),
+        (201, 0, b"begin end", deep),
+        (201, 0, b"i := 1", deep),
+        (201, 0, b"a class b;", whole),
+        (201, 0, b"a class b; i", deep),
+        (201, 0, b"inner", deep),
+        (201, 0, b"else", bad),
+        (101, 98, b"1", whole),
+        (101, 99, b"1", deep),
+        (101, 99, b"else", bad),
+    ];
+    for (row, (blocks, parentheses, innermost, diag)) in rows.into_iter().enumerate() {
+        let source = nested(rt.alloc(), blocks, parentheses, innermost)?;
+        let wanted = Wanted {
+            status: 1,
+            out: b"",
+            diag,
+        };
+        check(
+            &rt,
+            rt.alloc(),
+            row,
+            &["run", "source.sim"],
+            sound(&source),
+            wanted,
+        )?;
+    }
+    Ok(())
+}

@@ -1,0 +1,218 @@
+// Whole commands over files, output and diagnostic output in memory: the words, the limit of a source, and calls that fail.
+// Whole sources stand in the data of the crate `examples`.
+
+use sim_driver::{Status, simula};
+use sim_lexer::SOURCE_LIMIT;
+use sim_ports::{MemFiles, MemSink, MemSource};
+use std::alloc::{AllocError, Global};
+use std::process::Abort;
+use std::test::Fail;
+
+// What is done to a command: the source in the file `source.sim`, and the calls that fail.
+#[derive(Clone, Copy)]
+pub struct Setting<'a> {
+    pub source: &'a [u8],
+    pub files_failing: &'a [u64],
+    pub out_failing: &'a [u64],
+    pub out_room: usize,
+    pub diag_failing: &'a [u64],
+    pub diag_room: usize,
+}
+
+// What a command is to answer: its status, its output and its line.
+#[derive(Clone, Copy)]
+pub struct Wanted<'a> {
+    pub status: u8,
+    pub out: &'a [u8],
+    pub diag: &'a [u8],
+}
+
+// Nothing fails.
+pub fn sound(source: &[u8]) -> Setting<'_> {
+    Setting {
+        source,
+        files_failing: &[],
+        out_failing: &[],
+        out_room: 4096,
+        diag_failing: &[],
+        diag_room: 4096,
+    }
+}
+
+fn texts(alloc: Global, words: &[&str]) -> Result<Vec<String>, AllocError> {
+    let mut texts = Vec::new(alloc);
+    for word in words {
+        texts.push(String::from_str(alloc, word)?)?;
+    }
+    Ok(texts)
+}
+
+// Does the command of these words in such a setting, and compares what it answers.
+pub fn check(
+    rt: &impl Abort,
+    alloc: Global,
+    row: usize,
+    words: &[&str],
+    setting: Setting,
+    wanted: Wanted,
+) -> Result<(), Fail> {
+    let words = texts(alloc, words)?;
+    let file = (
+        String::from_str(alloc, "source.sim")?,
+        Vec::from_slice(alloc, setting.source)?,
+    );
+    let mut files = MemFiles::new(alloc, &[file], setting.files_failing)?;
+    let mut input = MemSource::new(alloc, b"", &[])?;
+    let mut out = MemSink::new(alloc, setting.out_failing, setting.out_room)?;
+    let mut diag = MemSink::new(alloc, setting.diag_failing, setting.diag_room)?;
+    let status: Status = simula(alloc, &words, &mut files, &mut input, &mut out, &mut diag);
+    assert!(rt; status.number() == wanted.status, "status of row {row}");
+    assert!(rt; out.bytes() == wanted.out, "output of row {row}");
+    assert!(rt; diag.bytes() == wanted.diag, "line of row {row}");
+    Ok(())
+}
+
+#[test]
+fn words(rt: HostRuntime) -> Result<(), Fail> {
+    let usage = b"usage: simula run|check FILE\n".as_slice();
+    let unread = b"cannot read the file\n".as_slice();
+    let undeclared = b"line 1: S10 identifier not declared\n".as_slice();
+    let rows = [
+        ([].as_slice(), 5, b"".as_slice(), usage),
+        (&["run"], 5, b"", usage),
+        (&["check"], 5, b"", usage),
+        (&["ru", "source.sim"], 5, b"", usage),
+        (&["source.sim", "run"], 5, b"", usage),
+        (&["run", "source.sim", "source.sim"], 5, b"", usage),
+        (&["run", "other.sim"], 6, b"", unread),
+        (&["check", "other.sim"], 6, b"", unread),
+        (&["run", "source.sim"], 0, b"  42\n", b""),
+        (&["check", "source.sim"], 0, b"", b""),
+    ];
+    for (row, (words, status, out, diag)) in rows.into_iter().enumerate() {
+        let setting = sound(b"begin outint(42,4); outimage end");
+        check(
+            &rt,
+            rt.alloc(),
+            row,
+            words,
+            setting,
+            Wanted { status, out, diag },
+        )?;
+    }
+    let refused = Wanted {
+        status: 1,
+        out: b"",
+        diag: undeclared,
+    };
+    for command in ["run", "check"] {
+        let setting = sound(b"begin i := 1 end");
+        check(
+            &rt,
+            rt.alloc(),
+            99,
+            &[command, "source.sim"],
+            setting,
+            refused,
+        )?;
+    }
+    Ok(())
+}
+
+#[test]
+fn sources_at_the_limit(rt: HostRuntime) -> Result<(), Fail> {
+    let mut source = vec![in rt.alloc(); b'\n'; SOURCE_LIMIT - 9]?;
+    source.extend_from_slice(b"begin end")?;
+    let words = ["run", "source.sim"];
+    let accepted = Wanted {
+        status: 0,
+        out: b"",
+        diag: b"",
+    };
+    check(&rt, rt.alloc(), 0, &words, sound(&source), accepted)?;
+    source.push(b'\n')?;
+    let refused = Wanted {
+        status: 1,
+        out: b"",
+        diag: b"line 1048568: X8 source too long\n",
+    };
+    check(&rt, rt.alloc(), 1, &words, sound(&source), refused)
+}
+
+#[test]
+fn files_that_fail(rt: HostRuntime) -> Result<(), Fail> {
+    // The name, then the read of the source, then the read that finds its end.
+    for (row, failing) in [[0], [1], [2]].into_iter().enumerate() {
+        let setting = Setting {
+            files_failing: &failing,
+            ..sound(b"begin outint(42,4); outimage end")
+        };
+        let wanted = Wanted {
+            status: 6,
+            out: b"",
+            diag: b"cannot read the file\n",
+        };
+        check(
+            &rt,
+            rt.alloc(),
+            row,
+            &["run", "source.sim"],
+            setting,
+            wanted,
+        )?;
+    }
+    Ok(())
+}
+
+#[test]
+fn outputs_that_fail(rt: HostRuntime) -> Result<(), Fail> {
+    let runs = b"begin outint(42,4); outimage; outint(43,4) end".as_slice();
+    let refused = b"begin i := 1 end".as_slice();
+    let fault = b"output fault\n".as_slice();
+    let undeclared = b"line 1: S10 identifier not declared\n".as_slice();
+    // The source; of the output the calls that fail and the room; the same of the diagnostic output; the status; what was
+    // written to both.
+    type Row<'a> = (
+        &'a [u8],
+        &'a [u64],
+        usize,
+        &'a [u64],
+        usize,
+        u8,
+        &'a [u8],
+        &'a [u8],
+    );
+    let rows: [Row; 9] = [
+        (runs, &[0], 4096, &[], 4096, 8, b"", fault),
+        (runs, &[1], 4096, &[], 4096, 8, b"  42\n", fault),
+        (runs, &[], 7, &[], 4096, 8, b"  42\n  ", fault),
+        (runs, &[0], 4096, &[0], 4096, 8, b"", b""),
+        (runs, &[], 4096, &[0], 4096, 0, b"  42\n  43\n", b""),
+        (refused, &[], 4096, &[0], 4096, 8, b"", b""),
+        (refused, &[], 4096, &[], 6, 8, b"", b"line 1"),
+        (refused, &[0], 4096, &[], 4096, 1, b"", undeclared),
+        (b"begin end", &[0], 4096, &[0], 4096, 0, b"", b""),
+    ];
+    for (row, (source, out_failing, out_room, diag_failing, diag_room, status, out, diag)) in rows
+        .into_iter()
+        .enumerate()
+    {
+        let setting = Setting {
+            source,
+            files_failing: &[],
+            out_failing,
+            out_room,
+            diag_failing,
+            diag_room,
+        };
+        check(
+            &rt,
+            rt.alloc(),
+            row,
+            &["run", "source.sim"],
+            setting,
+            Wanted { status, out, diag },
+        )?;
+    }
+    Ok(())
+}

@@ -1,0 +1,12 @@
+pub mod Mapped
+pub mod Searches
+pub mod Walks
+pub mod Agree
+pub mod Breaking
+pub mod Inside
+pub mod Kept
+pub mod Places
+pub mod Leasts
+pub mod Outward
+pub mod Rows
+pub mod Declarations

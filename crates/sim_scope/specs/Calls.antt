@@ -1,0 +1,177 @@
+-- What an identifier is: alone, and with actual parameters or subscripts.
+use Rattle.std.specs.Prelude.{ℕ, Bool, true, false, ◌&&◌, not, nat_eq, nat_le, nat_lt, if◌then◌else◌, List, length, Option, Some, None, slice_get}
+use Rattle.sim_base.specs.declared.numbering.DeclNo.{DeclNo}
+use Rattle.sim_base.specs.declared.rule.Rule.{Rule}
+use Rattle.sim_base.specs.declared.rule.Rule.TheVariants as r
+use Rattle.sim_tree.specs.declared.expr.Identifier.{Identifier}
+use Rattle.sim_scope.specs.declared.found.Fault.{Fault}
+use Rattle.sim_scope.specs.declared.outcome.Actuals.{Actuals}
+use Rattle.sim_scope.specs.declared.outcome.Extent.{Extent}
+use Rattle.sim_scope.specs.declared.outcome.Extent.TheVariants as extent
+use Rattle.sim_scope.specs.declared.outcome.Outcome.{Outcome}
+use Rattle.sim_scope.specs.declared.outcome.Outcome.TheVariants as is
+use Rattle.sim_scope.specs.declared.outcome.Side.{Side}
+use Rattle.sim_scope.specs.declared.scopes.Declaration.{Declaration}
+use Rattle.sim_scope.specs.declared.scopes.Denotation.{Denotation}
+use Rattle.sim_scope.specs.declared.scopes.Denotation.TheVariants as denotation
+use Rattle.sim_scope.specs.declared.standard.Signature.{Signature}
+use Rattle.sim_scope.specs.declared.standard.Standard.{Standard}
+use Rattle.sim_scope.specs.declared.standard.Standard.TheVariants as standard
+use Rattle.sim_scope.specs.declared.types.Entry.{Entry}
+use Rattle.sim_scope.specs.declared.types.Entry.TheVariants as entry
+use Rattle.sim_scope.specs.declared.types.Formal.{Formal}
+use Rattle.sim_scope.specs.declared.types.FormalKind.TheVariants as kind
+use Rattle.sim_scope.specs.declared.types.SimType.{SimType}
+use Rattle.sim_scope.specs.declared.types.SimType.TheVariants as t
+use Rattle.sim_scope.specs.Found.{Event, Broken, Typed, Uses}
+use Rattle.sim_scope.specs.Judged.{Judged, gives, next, telling}
+use Rattle.sim_scope.specs.Outcomes.{breaks, call_of, is_stream, side, varies}
+use Rattle.sim_scope.specs.Scopes.{binding, block_at, entry_of, formals_of}
+use Rattle.sim_scope.specs.Standard.{signature, sysin_attribute, sysout_attribute, text_attribute, undeclared}
+use Rattle.sim_scope.specs.Tables.{BlockOf, Tables}
+
+-- What an identifier denotes. S10: it is declared; a name left out breaks one of N1 to N4.
+-- S22: a bound uses of its own block parameters and constants alone. An expression has no blocks, so the block of the array is that of the token.
+abbrev pub is_fixed : Entry → Bool
+is_fixed (entry.Constant ty) = true
+is_fixed (entry.Formal f) = true
+is_fixed _ = false
+
+abbrev pub same_block : Option ℕ → ℕ → Bool
+same_block None block = false
+same_block (Some place) block = nat_eq place block
+
+abbrev pub barred_declaration : Tables → (token : ℕ) → Option Declaration → Bool
+barred_declaration s token None = false
+barred_declaration s token (Some d) = same_block (block_at s token) d.block && not (is_fixed d.entry)
+
+abbrev pub barred : Tables → (token : ℕ) → Denotation → Bool
+barred s token (denotation.Declared d) = barred_declaration s token (slice_get s.declarations d.0)
+barred s token (denotation.Standard name) = false
+
+unfoldable pub is_barred : Tables → Extent → (token : ℕ) → Denotation → Bool
+is_barred s extent.Statement token d = false
+is_barred s extent.Bound token d = barred s token d
+
+-- a use, unless it may not stand there
+abbrev pub used_or_barred : (token : ℕ) → Denotation → Bool → Judged (Option Denotation)
+used_or_barred token d true = telling (Broken token r.BoundDependsOnItsBlock) None
+used_or_barred token d false = telling (Uses token d) (Some d)
+
+abbrev pub found_as : Tables → Extent → (token : ℕ) → List ℕ → Option Denotation → Judged (Option Denotation)
+found_as s e token name None = telling (Broken token (undeclared name)) None
+found_as s e token name (Some d) = used_or_barred token d (is_barred s e token d)
+
+unfoldable pub bound : Tables → Extent → Identifier → Judged (Option Denotation)
+bound s e x = found_as s e x.token.0 x.name (binding s x.token.0 x.name)
+
+-- What an attribute behind a dot denotes. S10: the object has it. S13: only texts and objects have attributes.
+abbrev pub attribute_found : Identifier → Option Standard → Judged (Option Denotation)
+attribute_found x None = telling (Broken x.token.0 (undeclared x.name)) None
+attribute_found x (Some name) = telling (Uses x.token.0 (denotation.Standard name)) (Some (denotation.Standard name))
+
+abbrev pub attribute_of_type : Identifier → (first : ℕ) → Option SimType → Judged (Option Denotation)
+attribute_of_type x first (Some t.Text) = attribute_found x (text_attribute x.name)
+attribute_of_type x first None = gives None
+attribute_of_type x first (Some (t.Ref class)) = gives None
+attribute_of_type x first (Some t.NoneType) = attribute_found x None
+attribute_of_type x first (Some _) = telling (Broken first r.WrongType) None
+
+unfoldable pub attribute_of_value : Identifier → Side → Judged (Option Denotation)
+attribute_of_value x v = attribute_of_type x v.first.0 v.ty
+
+unfoldable pub attribute_by_value : Tables → Identifier → (first : ℕ) → Outcome → Judged (Option Denotation)
+attribute_by_value s x first o = next (side s first o) (attribute_of_value x)
+
+unfoldable pub attribute : Tables → Identifier → (first : ℕ) → Outcome → Judged (Option Denotation)
+attribute s x first (is.Standard standard.Sysin token) = attribute_found x (sysin_attribute x.name)
+attribute s x first (is.Standard standard.Sysout token) = attribute_found x (sysout_attribute x.name)
+attribute s x first o = attribute_by_value s x first o
+
+-- An identifier alone.
+-- whether a token stands in the text of a block
+abbrev pub inside_block : (token : ℕ) → Option BlockOf → Bool
+inside_block token None = false
+inside_block token (Some block) = nat_le block.first token && nat_lt token block.end
+
+unfoldable pub is_inside : Tables → (token block : ℕ) → Bool
+is_inside s token block = inside_block token (slice_get s.blocks block)
+
+-- the type of a call is known where the identifier stands
+abbrev pub typed_if : (token : ℕ) → Option SimType → Outcome → Judged Outcome
+typed_if token None o = gives o
+typed_if token (Some ty) o = telling (Typed token ty) o
+
+abbrev pub formal_kind_alone : (naming : ℕ) → Formal → SimType → Outcome → Judged Outcome
+formal_kind_alone naming f ty o = (elim f.kind [ kind.Simple ↦ varies naming ty | kind.Array ↦ gives (is.Array ty) | kind.Procedure ↦ telling (Typed naming ty) o ])
+
+abbrev pub formal_alone : (naming : ℕ) → Formal → Option SimType → Outcome → Judged Outcome
+formal_alone naming f None o = (elim f.kind [ kind.Procedure ↦ gives o | _ ↦ gives is.Refused ])
+formal_alone naming f (Some ty) o = formal_kind_alone naming f ty o
+
+-- The identifier of a procedure stands for its result, where it is a left side inside the text of that very procedure.
+abbrev pub procedure_alone : DeclNo → Identifier → Bool → Outcome
+procedure_alone d x own = is.Procedure d x.token own
+
+abbrev pub declared_alone : Tables → (naming : ℕ) → Identifier → DeclNo → Option Entry → Judged Outcome
+declared_alone s naming x d (Some (entry.Variable ty)) = varies naming ty
+declared_alone s naming x d (Some (entry.Constant ty)) = telling (Typed naming ty) (is.Constant ty)
+declared_alone s naming x d (Some (entry.Array element dimensions)) = gives (is.Array element)
+declared_alone s naming x d (Some (entry.Procedure result block)) = typed_if naming result (procedure_alone d x (is_inside s x.token.0 block))
+declared_alone s naming x d (Some (entry.Class block)) = gives is.Class
+declared_alone s naming x d (Some (entry.Virtual result own)) = typed_if naming result (procedure_alone d x false)
+declared_alone s naming x d (Some (entry.Formal f)) = formal_alone naming f f.ty (procedure_alone d x false)
+declared_alone s naming x d (Some (entry.Unspecified written)) = gives is.Refused
+declared_alone s naming x d None = gives is.Refused
+
+unfoldable pub alone : Tables → (naming : ℕ) → Identifier → Denotation → Judged Outcome
+alone s naming x (denotation.Declared d) = declared_alone s naming x d (entry_of s d)
+alone s naming x (denotation.Standard name) = typed_if naming (signature name).result (is.Standard name x.token)
+
+-- An identifier with actuals, each of which is something.
+abbrev pub misfitting_or : Option Fault → Judged Outcome → Judged Outcome
+misfitting_or None j = j
+misfitting_or (Some fault) j = breaks fault.token.0 fault.rule
+
+unfoldable pub resulting : (naming : ℕ) → Option Fault → Option SimType → Judged Outcome
+resulting naming misfit result = misfitting_or misfit (typed_if naming result (call_of result))
+
+unfoldable pub element_of : (naming : ℕ) → Option Fault → SimType → Judged Outcome
+element_of naming misfit element = misfitting_or misfit (varies naming element)
+
+abbrev pub parameter_count : Signature → ℕ
+parameter_count s = (elim s.first [ None ↦ 0 | Some a ↦ elim s.second [ None ↦ 1 | Some b ↦ 2 ] ])
+
+-- S12: a formal parameter that is a value has no parameters. How many subscripts or parameters another one has is judged when the program runs.
+abbrev pub formal_applied : (naming token : ℕ) → Formal → Option SimType → Option Fault → Judged Outcome
+formal_applied naming token f result misfit =
+    (elim f.kind [ kind.Simple ↦ breaks token r.WrongKind | kind.Array ↦ elim result [ None ↦ gives is.Refused | Some element ↦ element_of naming misfit element ] | kind.Procedure ↦ resulting naming misfit result ])
+
+-- S12: only procedures and arrays have parameters or subscripts. S15: there are as many as the procedure or the array has.
+abbrev pub declared_applied : (naming token : ℕ) → Option Entry → (formals : ℕ) → Actuals → Judged Outcome
+declared_applied naming token (Some (entry.Procedure result block)) formals a =
+    if nat_eq formals a.count then resulting naming a.misfit result else breaks token r.WrongNumber
+declared_applied naming token (Some (entry.Array element dimensions)) formals a =
+    if nat_eq dimensions a.count then element_of naming a.misfit element else breaks token r.WrongNumber
+declared_applied naming token (Some (entry.Virtual result own)) formals a = resulting naming a.misfit result
+declared_applied naming token (Some (entry.Formal f)) formals a = formal_applied naming token f f.ty a.misfit
+declared_applied naming token _ formals a = breaks token r.WrongKind
+
+-- S23: `sysin` and `sysout` stand before a dot alone
+abbrev pub standard_applied : (naming token : ℕ) → Standard → Signature → Actuals → Judged Outcome
+standard_applied naming token name s a =
+    if is_stream name then breaks token r.StandardNameLeftOut
+    else if nat_eq (parameter_count s) a.count then resulting naming a.misfit s.result else breaks token r.WrongNumber
+
+unfoldable pub applied : Tables → (naming token : ℕ) → Denotation → Actuals → Judged Outcome
+applied s naming token (denotation.Declared d) a = declared_applied naming token (entry_of s d) (length (formals_of s d)) a
+applied s naming token (denotation.Standard name) a = standard_applied naming token name (signature name) a
+
+-- An identifier that denotes this, with its actuals. The token that names the whole expression is given.
+abbrev pub used_as : Tables → (naming : ℕ) → Identifier → Denotation → Actuals → Judged Outcome
+used_as s naming x d a =
+    if nat_eq a.count 0 then alone s naming x d else if a.typed then applied s naming x.token.0 d a else gives is.Refused
+
+unfoldable pub used : Tables → (naming : ℕ) → Identifier → Option Denotation → Actuals → Judged Outcome
+used s naming x None a = gives is.Refused
+used s naming x (Some d) a = used_as s naming x d a

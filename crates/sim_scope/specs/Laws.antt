@@ -1,0 +1,53 @@
+-- What the definitions of scopes mean, in relations that do not compute.
+use Rattle.std.specs.Prelude.{◌≡◌, ◌<◌, ◌≤◌, ℕ, nat_eq, List, [], ◌∷◌, ◌++◌, if◌then◌else◌, Option, Some, None, slice_get}
+use Rattle.sim_base.specs.declared.numbering.DeclNo.{DeclNo}
+use Rattle.sim_scope.specs.declared.scopes.Declaration.{Declaration}
+use Rattle.sim_scope.specs.Building.{Mark, Opens, Closes, Declares, DeclaresProcedure, DeclaresClass, Parameter, Moded, Specified, Headed, Inner, Breaks}
+use Rattle.sim_scope.specs.Scopes.{around, encloser, shown}
+use Rattle.sim_scope.specs.Tables.{BlockOf, Tables}
+
+-- A declaration is that of the innermost block, from one outward, that shows a name.
+pub data Innermost (s : Tables) (name : List ℕ) : (block : ℕ) → DeclNo → Type 0 where
+  here : {block : ℕ} {d : DeclNo} → shown s block name ≡ Some d → Innermost s name block d
+  further : {block around : ℕ} {d : DeclNo} → shown s block name ≡ None → encloser s block ≡ Some around → Innermost s name around d → Innermost s name block d
+
+-- Each block stands behind the one around it.
+unfoldable pub Nested : List BlockOf → Type 0
+Nested blocks = (block outer : ℕ) → around (slice_get blocks block) ≡ Some outer → outer < block
+
+-- the identifiers of the declarations that stand in a block, in text order
+abbrev pub names_in : (block : ℕ) → List Declaration → List (List ℕ)
+names_in block [] = []
+names_in block (d ∷ ds) = (if nat_eq d.block block then d.name ∷ [] else []) ++ names_in block ds
+
+abbrev pub names_of : Option BlockOf → List (List ℕ)
+names_of None = []
+names_of (Some row) = row.names
+
+-- What a block declares are the declarations that stand in it.
+unfoldable pub Named : List BlockOf → List Declaration → Type 0
+Named blocks declarations = (block : ℕ) → names_of (slice_get blocks block) ≡ names_in block declarations
+
+-- Places. The tokens at which blocks begin and end rise in the text.
+abbrev pub Rising : (from : ℕ) → List Mark → Type 0
+Rising from [] = Unit {0}
+Rising from (Opens k text first ∷ ms) = (from ≤ first) × Rising first ms
+Rising from (Closes end ∷ ms) = (from ≤ end) × Rising end ms
+Rising from (Declares x e ∷ ms) = Rising from ms
+Rising from (DeclaresProcedure x result ∷ ms) = Rising from ms
+Rising from (DeclaresClass x ∷ ms) = Rising from ms
+Rising from (Parameter x ∷ ms) = Rising from ms
+Rising from (Moded x m ∷ ms) = Rising from ms
+Rising from (Specified x k ty ∷ ms) = Rising from ms
+Rising from (Headed x ∷ ms) = Rising from ms
+Rising from (Inner token ∷ ms) = Rising from ms
+Rising from (Breaks token rule ∷ ms) = Rising from ms
+
+-- the text of a block has a token
+abbrev pub HasToken : List BlockOf → (block token : ℕ) → Type 0
+HasToken blocks block token = (row : BlockOf) × (slice_get blocks block ≡ Some row) × (row.first ≤ token) × (token < row.end)
+
+-- The block of a token is the innermost one whose text has it: the last one in text order. There is none where no block has it.
+abbrev pub IsPlace : List BlockOf → (token : ℕ) → Option ℕ → Type 0
+IsPlace blocks token None = (block : ℕ) → HasToken blocks block token → ⊥
+IsPlace blocks token (Some place) = HasToken blocks place token × ((block : ℕ) → HasToken blocks block token → block ≤ place)

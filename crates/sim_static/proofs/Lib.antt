@@ -1,0 +1,4 @@
+pub mod AssignmentSteps
+pub mod Needed
+pub mod LastRound
+pub mod Tellings

@@ -1,0 +1,7 @@
+use Rattle.sim_static.proofs.Tellings.{controlled_in_steps}
+use Rattle.sim_static.proofs.control.controlled.Goals as goal
+
+pub returns : goal.returns
+returns c =
+    controlled_in_steps c.args.scopes.now c.args.sign c.args.name.now c.args.found.now c.bound-denotation.new.found c.simple.new.found c.bound-denotation.result c.simple.result
+    c.bound-denotation.ensures c.simple.ensures

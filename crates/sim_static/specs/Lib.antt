@@ -1,0 +1,3 @@
+pub mod Check
+pub mod NeedsClasses
+pub mod StatementWalk

@@ -1,0 +1,14 @@
+//! The static rules of whole programs: what the statements and declarations of a program need of their expressions, and the first rule that
+//! a program breaks.
+#![tactic(auto)]
+
+mod assignment;
+mod bounds;
+mod control;
+mod forms;
+mod judging;
+mod rounds;
+mod statement;
+
+pub use forms::needs_classes;
+pub use rounds::check;

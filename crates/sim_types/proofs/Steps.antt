@@ -1,0 +1,91 @@
+-- One judgement after another.
+use Rattle.std.proofs.Common.{◌≡◌, ℕ, ◌+◌, List, [], ◌∷◌, ◌++◌, Option, refl, sym, ap, ◌∙◌, subst, append_assoc, append-nil}
+use Rattle.sim_base.specs.declared.numbering.TokenNo.{TokenNo}
+use Rattle.sim_tree.specs.declared.expr.Identifier.{Identifier}
+use Rattle.sim_scope.specs.declared.outcome.Actual.{Actual}
+use Rattle.sim_scope.specs.declared.outcome.Actuals.{Actuals}
+use Rattle.sim_scope.specs.declared.outcome.Outcome.{Outcome}
+use Rattle.sim_scope.specs.declared.outcome.Parameter.{Parameter}
+use Rattle.sim_scope.specs.declared.outcome.Side.{Side}
+use Rattle.sim_scope.specs.declared.scopes.Denotation.{Denotation}
+use Rattle.sim_scope.specs.declared.types.SimType.{SimType}
+use Rattle.sim_scope.specs.Actuals.{actual, as_value, more, parameter_at, value_fits, with_actual}
+use Rattle.sim_scope.specs.Calls.{attribute_by_value, attribute_of_value}
+use Rattle.sim_scope.specs.Found.{Event, Findings, after, found}
+use Rattle.sim_scope.specs.Judged.{Judged, Judges, gives, next}
+use Rattle.sim_scope.specs.Outcomes.{called, in_parentheses, parenthesized, side, side_of, type_in, value_of, valued}
+use Rattle.sim_scope.specs.Runs.{run}
+use Rattle.sim_scope.specs.Tables.{Tables}
+
+pub after-append : (f : Findings) (xs ys : List Event) → after f (xs ++ ys) ≡ after (after f xs) ys
+unfolding run
+after-append f [] ys = refl
+after-append f (x ∷ xs) ys = after-append (found f x) xs ys
+
+pub next-gives : {A : Type 0} (j : Judged A) → next j (λ x. gives x) ≡ j
+unfolding next gives
+next-gives j = ap (λ es. let r : Judged _ = record { value = j.value; events = es } in r) (append-nil j.events)
+
+pub gives-next : {A B : Type 0} (x : A) (f : A → Judged B) → next (gives x) f ≡ f x
+unfolding next gives
+gives-next x f = refl
+
+pub next-next : {A B C : Type 0} (j : Judged A) (k : A → Judged B) (m : B → Judged C) → next (next j k) m ≡ next j (λ x. next (k x) m)
+unfolding next
+next-next {C = C} j k m = ap (λ es. let r : Judged C = record { value = (m (k j.value).value).value; events = es } in r) (append_assoc j.events (k j.value).events (m (k j.value).value).events)
+
+-- only what follows upon the value counts
+pub next_same : {A B : Type 0} (j : Judged A) (k m : A → Judged B) → k j.value ≡ m j.value → next j k ≡ next j m
+unfolding next
+next_same {B = B} j k m e = ap (λ (y : Judged B). let r : Judged B = record { value = y.value; events = j.events ++ y.events } in r) e
+
+pub judges_gives : {A : Type 0} (f : Findings) (x : A) → Judges f f x (gives x)
+unfolding gives run
+judges_gives f x = record { is = refl; finds = refl }
+
+-- the same judgement
+pub judges_as : {A : Type 0} {f g : Findings} {x : A} {j i : Judged A} → Judges f g x j → j ≡ i → Judges f g x i
+judges_as {f = f} {g = g} {x = x} h e = subst (λ j. Judges f g x j) e h
+
+pub judges_next : {A B : Type 0} {f g h : Findings} {x : A} {y : B} (j : Judged A) (k : A → Judged B) → Judges f g x j → Judges g h y (k x) → Judges f h y (next j k)
+unfolding next
+judges_next {A} {B} {f} {g} {h} {x} {y} j k one two =
+    let there : Judges g h y (k j.value) = subst (λ z. Judges g h y (k z)) one.is two in
+    record {
+      is = there.is;
+      finds = there.finds ∙ ap (λ z. after z ((k j.value).events)) one.finds ∙ sym (after-append f j.events ((k j.value).events));
+    }
+
+-- a piece, and then a plain function of it
+pub judges_then : {A B : Type 0} {f g : Findings} {x : A} {y : B} (j : Judged A) (k : A → B) → Judges f g x j → y ≡ k x → Judges f g y (next j (λ z. gives (k z)))
+judges_then {A} {B} {f} {g} {x} {y} j k one e =
+    judges_next j (λ z. gives (k z)) one (subst (λ z. Judges g g z (gives (k x))) (sym e) (judges_gives g (k x)))
+
+pub valued_in_steps : (s : Tables) (t : TokenNo) (f g h : Findings) (o u v : Outcome) → Judges f g u (called s o) → Judges g h v (value_of t.0 u) → Judges f h v (valued s t.0 o)
+unfolding valued
+valued_in_steps s t f g h o u v one two = judges_next (called s o) (value_of t.0) one two
+
+pub in_parentheses_in_steps : (s : Tables) (t : TokenNo) (f g h : Findings) (o u v : Outcome) → Judges f g u (called s o) → Judges g h v (parenthesized t.0 u) → Judges f h v (in_parentheses s t.0 o)
+unfolding in_parentheses
+in_parentheses_in_steps s t f g h o u v one two = judges_next (called s o) (parenthesized t.0) one two
+
+pub side_in_steps : (s : Tables) (t : TokenNo) (f g : Findings) (o v : Outcome) (y : Side) (ty : Option SimType) → Judges f g v (valued s t.0 o) → ty ≡ type_in v → y ≡ side_of t.0 ty → Judges f g y (side s t.0 o)
+unfolding side
+side_in_steps s t f g o v y ty one e is = judges_then (valued s t.0 o) (λ v. side_of t.0 (type_in v)) one (is ∙ ap (side_of t.0) e)
+
+pub as_value_in_steps : (s : Tables) (t : TokenNo) (p : Parameter) (f g : Findings) (o v : Outcome) (y : Actual) (ty : Option SimType) → Judges f g v (valued s t.0 o) → ty ≡ type_in v → y ≡ value_fits t.0 p ty → Judges f g y (as_value s t.0 p o)
+unfolding as_value
+as_value_in_steps s t p f g o v y ty one e is = judges_then (valued s t.0 o) (λ v. value_fits t.0 p (type_in v)) one (is ∙ ap (value_fits t.0 p) e)
+
+pub attribute_in_steps : (s : Tables) (n : Identifier) (t : TokenNo) (f g h : Findings) (o : Outcome) (x : Side) (d : Option Denotation) → Judges f g x (side s t.0 o) → Judges g h d (attribute_of_value n x) → Judges f h d (attribute_by_value s n t.0 o)
+unfolding attribute_by_value
+attribute_in_steps s n t f g h o x d one two = judges_next (side s t.0 o) (attribute_of_value n) one two
+
+pub more_in_steps : (s : Tables) (d : Option Denotation) (a b : Actuals) (t : TokenNo) (f g : Findings) (o : Outcome) (p : Parameter) (x : Actual) → p ≡ parameter_at s d a.count → Judges f g x (actual s t.0 p o) → b ≡ with_actual a x → Judges f g b (more s d a t.0 o)
+unfolding more
+more_in_steps s d a b t f g o p x at one is =
+    judges_then (actual s t.0 (parameter_at s d a.count) o) (with_actual a) (judges_as one (ap (λ q. actual s t.0 q o) at)) is
+
+pub more-count : (s : Tables) (d : Option Denotation) (a : Actuals) (first : ℕ) (o : Outcome) → (more s d a first o).value.count ≡ a.count + 1
+unfolding more next gives with_actual
+more-count s d a first o = refl

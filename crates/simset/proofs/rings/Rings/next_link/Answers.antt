@@ -1,0 +1,7 @@
+use Rattle.std.proofs.Common.{ap}
+use Rattle.simset.specs.Sets.{Simset}
+use Rattle.simset.proofs.Closings.{kept-view, read-suc}
+use Rattle.simset.proofs.rings.Rings.next_link.Goals as goal
+
+pub returns : goal.returns
+returns c = read-suc _ _ _ _ _ _ (kept-view _ _ (ap (λ (v : Simset). v.sets) c.self.view_is) c.self.invariant) c.requires c.deref.ensures.value c.index.ensures c.link_of.ensures
