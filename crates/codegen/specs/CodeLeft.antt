@@ -1,0 +1,115 @@
+-- Which code stands for an assignment.
+use Rattle.std.specs.Prelude.{◌≡◌, ◌<◌, ◌≤◌, ℕ, suc, Bool, true, false, pos, List, [], ◌∷◌, reverse, Option, Some}
+use Rattle.sim_base.specs.declared.numbering.DeclNo.{DeclNo}
+use Rattle.sim_scope.specs.declared.scopes.Denotation.{Denotation}
+use Rattle.sim_scope.specs.declared.scopes.Denotation.TheVariants as denotation
+use Rattle.sim_scope.specs.declared.types.Entry.{Entry}
+use Rattle.sim_scope.specs.declared.types.Entry.TheVariants as entry
+use Rattle.sim_scope.specs.declared.types.FormalKind.{FormalKind}
+use Rattle.sim_scope.specs.declared.types.FormalKind.TheVariants as shape
+use Rattle.sim_scope.specs.declared.types.Mode.{Mode}
+use Rattle.sim_scope.specs.declared.types.Mode.TheVariants as mode
+use Rattle.sim_scope.specs.Scopes.{entry_of}
+use Rattle.sim_scope.specs.Source.{Source, block_of, denoted, level_of, line_at}
+use Rattle.sim_tree.specs.Syntax.{Also, Begin, Block, Declarations, Element, Expression, Expressions, NoDeclaration, NoMore, NoStatement, RightSide, Statement, Statements, Then, With}
+use Rattle.sim_tree.specs.Syntax as syntax
+use Rattle.sim_code.specs.declared.instr.Instr.TheVariants as i
+use Rattle.sim_code.specs.Code.{CodeOf}
+use Rattle.sim_meaning.specs.Closing.{is_text}
+use Rattle.sim_meaning.specs.Pending.{Declared, Key, Result}
+use Rattle.codegen_expr.specs.Sites.{Inside, Is, Pushes, Site, slot_of}
+use Rattle.codegen_expr.specs.CodeExpr.{ElementAt, ExprAt, ExprsAt}
+
+-- What a left side is in code: a cell, by its level and its slot; an address on the stack; or not built.
+pub data Stored : Type 0 where
+  InCell : (text : ℕ) → Key → Stored
+  AtAddress : DeclNo → Expressions → (line : ℕ) → Stored
+  NotBuilt : Stored
+
+abbrev pub stored_variable : Source → DeclNo → Expressions → Stored
+stored_variable s d NoMore = InCell (block_of s d) (Declared d.0)
+stored_variable s d (Then e es) = NotBuilt
+
+abbrev pub stored_element : DeclNo → Expressions → (line : ℕ) → Stored
+stored_element d NoMore line = NotBuilt
+stored_element d (Then e es) line = AtAddress d (Then e es) line
+
+abbrev pub stored_formal : Source → DeclNo → Expressions → (line : ℕ) → Mode → FormalKind → Stored
+stored_formal s d es line mode.ByName kind = NotBuilt
+stored_formal s d es line mode shape.Simple = stored_variable s d es
+stored_formal s d es line mode shape.Array = stored_element d es line
+stored_formal s d es line mode shape.Procedure = NotBuilt
+
+abbrev pub stored_result : (text : ℕ) → Expressions → Stored
+stored_result text NoMore = InCell text Result
+stored_result text (Then e es) = NotBuilt
+
+abbrev pub stored_declared : Source → DeclNo → Expressions → (line : ℕ) → Option Entry → Stored
+stored_declared s d es line (Some (entry.Variable type)) = stored_variable s d es
+stored_declared s d es line (Some (entry.Array element dimensions)) = stored_element d es line
+stored_declared s d es line (Some (entry.Formal f)) = stored_formal s d es line f.mode f.kind
+stored_declared s d es line (Some (entry.Procedure result text)) = stored_result text es
+stored_declared s d es line _ = NotBuilt
+
+abbrev pub stored_named : Source → Option Denotation → Expressions → (line : ℕ) → Stored
+stored_named s (Some (denotation.Declared d)) es line = stored_declared s d es line (entry_of s.tables d)
+stored_named s _ es line = NotBuilt
+
+abbrev pub stored_of : (text : Bool) → Source → Expression → Stored
+stored_of false s (syntax.Named name es) = stored_named s (denoted s name.token.0) es (line_at s name.token.0)
+stored_of _ s e = NotBuilt
+
+abbrev pub stored : Source → Expression → Stored
+stored s e = stored_of (is_text s e) s e
+
+-- the addresses of left sides, from left to right, each on one value more
+abbrev pub LeftsAt : Source → CodeOf → Site → ℕ → List Stored → (end : ℕ → ℕ → ℕ → Type 0) → ℕ → ℕ → Type 0
+LeftsAt s code site n [] End p q = End n p q
+LeftsAt s code site n (InCell text key ∷ rest) End p q = Inside s.tables site.text text × LeftsAt s code site n rest End p q
+LeftsAt s code site n (AtAddress d es line ∷ rest) End p q =
+    (x : ℕ) × ElementAt s code site n line d es (ExprsAt s code site (suc n) es) p x × LeftsAt s code site (suc n) rest End x q
+LeftsAt s code site n (NotBuilt ∷ rest) End p q = ⊥
+
+-- the value on top goes to one left side
+abbrev pub StoreAt : Source → CodeOf → Stored → ℕ → ℕ → Type 0
+StoreAt s code (InCell text key) p q = Is code (i.Store (pos (level_of s text)) (pos (slot_of s text key))) p q
+StoreAt s code (AtAddress d es line) p q = Is code i.Put p q
+StoreAt s code NotBuilt p q = ⊥
+
+abbrev pub addresses : List Stored → ℕ
+addresses [] = 0
+addresses (AtAddress d es line ∷ rest) = suc (addresses rest)
+addresses (_ ∷ rest) = addresses rest
+
+-- It goes to several, the last one first, from a temp of its own; m addresses are still on the n values.
+abbrev pub GivesAt : Source → CodeOf → Site → (temp n : ℕ) → List Stored → ℕ → ℕ → Type 0
+GivesAt s code site temp n [] p q = q ≡ p
+GivesAt s code site temp n (t ∷ rest) p q =
+    (x : ℕ) × (y : ℕ) × Pushes code site n (i.Load (pos (level_of s site.text)) (pos temp)) p x × StoreAt s code t x y × GivesAt s code site temp (below t n) rest y q
+  where
+    below : Stored → ℕ → ℕ
+    below (AtAddress d es line) (suc n) = n
+    below _ n = n
+
+-- the value on the right, and where it goes
+pub record SharesAt (s : Source) (code : CodeOf) (site : Site) (n : ℕ) (e : Expression) (ts : List Stored) (p q : ℕ) : Type 0 where
+  pub x : ℕ
+  pub y : ℕ
+  pub temp : ℕ
+  pub behind : site.cells ≤ temp
+  pub within : temp < site.size
+  pub value : ExprAt s code site n e p x
+  pub kept : Is code (i.Store (pos (level_of s site.text)) (pos temp)) x y
+  pub gives : GivesAt s code site temp n (reverse ts) y q
+
+abbrev pub GoesAt : Source → CodeOf → Site → Expression → List Stored → ℕ → ℕ → ℕ → Type 0
+GoesAt s code site e (t ∷ []) n p q = (x : ℕ) × ExprAt s code site n e p x × StoreAt s code t x q
+GoesAt s code site e ts n p q = SharesAt s code site n e ts p q
+
+abbrev pub each_stored : Source → List Expression → List Stored
+each_stored s [] = []
+each_stored s (e ∷ es) = stored s e ∷ each_stored s es
+
+abbrev pub AssignAt : Source → CodeOf → Site → ℕ → (values : Bool) → List Stored → Expression → ℕ → ℕ → Type 0
+AssignAt s code site n true ts e p q = LeftsAt s code site n ts (GoesAt s code site e ts) p q
+AssignAt s code site n false ts e p q = ⊥

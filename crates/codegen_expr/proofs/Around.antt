@@ -1,0 +1,42 @@
+-- The search outward for a text.
+use Rattle.std.proofs.Common.{◌≡◌, ◌<◌, ◌≢◌, ⊎_elim, ℕ, zero, suc, ◌+◌, ◌-◌, true, false, if◌then◌else◌, Option, Some, None, refl, sym, ap, ◌∙◌, arith, subst}
+use Rattle.std.specs.Prelude.{◌==◌}
+use Rattle.std.proofs.lemmas.Bool.{cases_eq, eq-eqb}
+use Rattle.std.proofs.lemmas.Bool.Decides.{eqb_tells}
+use Rattle.sim_scope.specs.Scopes.{encloser}
+use Rattle.sim_scope.specs.Tables.{Tables}
+use Rattle.codegen_expr.specs.Built.{around_or, is_around}
+use Rattle.codegen_expr.specs.Sites.{Inside, itself, further}
+
+neq-eqb : (a b : ℕ) → a ≢ b → (a == b) ≡ false
+neq-eqb a b other = ⊎_elim (λ x. absurd (other x.1)) (λ x. x.0) (eqb_tells a b)
+
+module _ (s : Tables) (k : ℕ) where
+  pub found_here : (m t : ℕ) → t ≡ k → is_around s (suc m) t k ≡ true
+  unfolding is_around
+  found_here m t same = let is : (t == k) ≡ true = eq-eqb t k same in ap (λ x. if x then true else around_or (λ u. is_around s m u k) (encloser s t)) is
+
+  pub found_outside : (m t u : ℕ) → t ≢ k → encloser s t ≡ Some u → is_around s (suc m) t k ≡ is_around s m u k
+  unfolding is_around
+  found_outside m t u other out = let is : (t == k) ≡ false = neq-eqb t k other in ap (λ x. if x then true else around_or (λ u. is_around s m u k) (encloser s t)) is ∙ ap (λ x. around_or (λ u. is_around s m u k) x) out
+
+  pub found_nowhere : (m t : ℕ) → t ≢ k → encloser s t ≡ None → is_around s (suc m) t k ≡ false
+  unfolding is_around
+  found_nowhere m t other out = let is : (t == k) ≡ false = neq-eqb t k other in ap (λ x. if x then true else around_or (λ u. is_around s m u k) (encloser s t)) is ∙ ap (λ x. around_or (λ u. is_around s m u k) x) out
+
+  pub found_none : (m t : ℕ) → m ≡ 0 → is_around s m t k ≡ false
+  unfolding is_around
+  found_none m t is = subst (λ m. is_around s m t k ≡ false) (sym is) refl
+
+  pub one_less : (n i t : ℕ) → i < n → is_around s (n - i) t k ≡ is_around s (suc (n - (i + 1))) t k
+  one_less n i t le = let e : n - i ≡ suc (n - (i + 1)) = omega arith in ap (λ m. is_around s m t k) e
+
+  -- what is found stands there
+  pub inside : (m t : ℕ) → is_around s m t k ≡ true → Inside s t k
+  unfolding is_around
+  inside zero t h = absurd (cc)
+  inside (suc m) t h = ⊎_elim (λ same. subst (Inside s t) same itself) (λ other. cases other (encloser s t) refl (λ u. inside m u)) (cases_eq t k)
+    where
+      cases : t ≢ k → (o : Option ℕ) → encloser s t ≡ o → ((u : ℕ) → is_around s m u k ≡ true → Inside s u k) → Inside s t k
+      cases other None out more = let e : is_around s (suc m) t k ≡ false = found_nowhere m t other out in absurd (cc)
+      cases other (Some u) out more = further out (more u (sym (found_outside m t u other out) ∙ h))

@@ -1,0 +1,56 @@
+-- Code that is not yet whole.
+use Rattle.std.specs.Prelude.{◌≡◌, ◌≢◌, ◌≤◌, ◌<◌, ℕ, suc, max, Bool, true, false, List, [], ◌∷◌, ◌++◌, length, slice_get, slice_set, Some}
+use Rattle.sim_code.specs.declared.instr.Instr.{Instr}
+use Rattle.sim_code.specs.declared.instr.Instr.TheVariants as i
+use Rattle.sim_code.specs.declared.instr.Lined.{Lined}
+use Rattle.sim_code.specs.Code.{CodeOf}
+use Rattle.codegen_expr.specs.Sites.{Site, lined}
+
+-- What is written so far: the instructions, the room on the operand stack that is enough for them, and whether all that was to be written is
+-- written. Where a form is not built yet, it is not.
+pub record DraftOf : Type 0 where
+  pub instrs : List Lined
+  pub room : ℕ
+  pub whole : Bool
+
+-- one more instruction
+unfoldable pub with_instr : DraftOf → Instr → (line : ℕ) → DraftOf
+with_instr c x line = record { instrs = c.instrs ++ (lined x line ∷ []); room = c.room; whole = c.whole }
+
+-- one more instruction, which may push a value on n others
+unfoldable pub with_push : DraftOf → (n : ℕ) → Instr → (line : ℕ) → DraftOf
+with_push c n x line = record { instrs = c.instrs ++ (lined x line ∷ []); room = max c.room (suc n); whole = c.whole }
+
+-- a hole, in which an instruction is still to be written: a jump whose target is not known yet
+unfoldable pub with_hole : DraftOf → DraftOf
+with_hole c = record { instrs = c.instrs ++ (lined i.Halt 0 ∷ []); room = c.room; whole = c.whole }
+
+-- an instruction in the place of a hole
+unfoldable pub filled_in : DraftOf → (place : ℕ) → Instr → DraftOf
+filled_in c k x = record { instrs = slice_set c.instrs k (lined x 0); room = c.room; whole = c.whole }
+
+-- something is not built
+unfoldable pub given_up : DraftOf → DraftOf
+given_up c = record { instrs = c.instrs; room = c.room; whole = false }
+
+-- a later code keeps each instruction that is not a hole
+pub record Grows (code final : List Lined) : Type 0 where
+  pub keeps : (k : ℕ) (x : Lined) → slice_get code k ≡ Some x → x.instr ≢ i.Halt → slice_get final k ≡ Some x
+
+-- a code that a draft becomes in the end, for a place in a text: it keeps what is written, the operand stack has the room, and another
+-- instruction follows
+pub record Becomes (text : ℕ) (c : DraftOf) (final : CodeOf) (site : Site) : Type 0 where
+  pub grows : Grows c.instrs final.instrs
+  pub roomy : c.room ≤ site.room
+  pub stands : site.text ≡ text
+  pub follows : length c.instrs < length final.instrs
+
+-- Behind old there is new. If all that is meant is built, then all is written; and if all is written, then whatever the code is in the end,
+-- what is meant stands there in it.
+pub record Emits (text : ℕ) (old new : DraftOf) (Built : Type 0) (Here : CodeOf → Site → ℕ → ℕ → Type 0) : Type 0 where
+  pub rest : List Lined
+  pub front : new.instrs ≡ old.instrs ++ rest
+  pub roomier : old.room ≤ new.room
+  pub built : Built → old.whole ≡ true → new.whole ≡ true
+  pub before : new.whole ≡ true → old.whole ≡ true
+  pub at : new.whole ≡ true → (final : CodeOf) (site : Site) → Becomes text new final site → Here final site (length old.instrs) (length new.instrs)

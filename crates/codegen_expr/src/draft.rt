@@ -1,0 +1,133 @@
+//! Code that is being written.
+ghost use Rattle.std.specs.Prelude.{◌≡◌, [], IfOk, OnOk, length, pos, suc, true};
+ghost use Rattle.sim_code.specs.declared.instr.Instr.TheVariants as i;
+ghost use Rattle.codegen_expr.specs.Drafts.{filled_in, given_up, with_hole, with_instr, with_push};
+
+use sim_base::Line;
+use sim_code::{Instr, Lined};
+use std::alloc::{AllocError, Global};
+use std::marker::Model;
+
+/// Instructions so far, with the room that they need on the operand stack.
+#[derive(Drop)]
+pub struct Draft {
+    instrs: Vec<Lined>,
+    room: u32,
+    whole: bool,
+}
+
+impl Model for Draft {
+    ghost use Rattle.codegen_expr.specs.Drafts.{DraftOf};
+
+    ghost Value = { DraftOf };
+
+    ghost view = { λ d. record { instrs = d.instrs.items; room = d.room; whole = d.whole } };
+}
+
+impl Draft {
+    /// No instruction yet.
+    pub fn new(alloc: Global) -> Draft
+        ensures { result ≡ record { instrs = []; room = 0; whole = true } }
+    {
+        Draft {
+            instrs: Vec::new(alloc),
+            room: 0,
+            whole: true,
+        }
+    }
+
+    /// The instructions.
+    pub fn instrs(&self) -> &[Lined]
+        ensures { result.now ≡ self.now.instrs }
+    {
+        &self.instrs
+    }
+
+    /// How many values the operand stack must hold so far.
+    pub fn room(&self) -> u32
+        ensures { result ≡ self.now.room }
+    {
+        self.room
+    }
+
+    /// Whether all that was to be written is written.
+    pub fn is_whole(&self) -> bool
+        ensures { result ≡ self.now.whole }
+    {
+        self.whole
+    }
+
+    /// One more instruction.
+    #[tactic(auto, unfolding(crate::specs::Drafts::with_instr))]
+    pub fn put(&mut self, instr: Instr, line: Line) -> Result<(), AllocError>
+        ensures { OnOk result (self.new ≡ with_instr self.old instr line.0) }
+    {
+        self.instrs.push(Lined { instr, line })?;
+        Ok(())
+    }
+
+    /// One more instruction, which may push a value on so many others.
+    #[tactic(auto, unfolding(crate::specs::Drafts::with_push))]
+    pub fn push(&mut self, depth: u32, instr: Instr, line: Line) -> Result<(), AllocError>
+        ensures { OnOk result (self.new ≡ with_push self.old depth instr line.0) }
+    {
+        let room = deeper(depth)?;
+        self.instrs.push(Lined { instr, line })?;
+        self.room = self.room.max(room);
+        Ok(())
+    }
+
+    /// A hole for a jump.
+    #[tactic(auto, unfolding(crate::specs::Drafts::with_hole))]
+    pub fn leave_hole(&mut self) -> Result<(), AllocError>
+        ensures { OnOk result (self.new ≡ with_hole self.old) }
+    {
+        self.instrs.push(Lined {
+            instr: Instr::Halt,
+            line: Line(0),
+        })?;
+        Ok(())
+    }
+
+    /// An instruction in the place of a hole.
+    #[tactic(auto, unfolding(crate::specs::Drafts::filled_in))]
+    pub fn fill_in(&mut self, place: usize, instr: Instr)
+        ensures { self.new ≡ filled_in self.old place instr }
+    {
+        if place < self.instrs.len() {
+            self.instrs[place] = Lined {
+                instr,
+                line: Line(0),
+            };
+        }
+    }
+
+    /// The index of the next instruction.
+    pub fn here(&self) -> usize
+        ensures { result ≡ length self.now.instrs }
+    {
+        self.instrs.len()
+    }
+
+    /// The index of the next instruction, as an operand.
+    pub fn place(&self) -> Result<i64, AllocError>
+        ensures { IfOk result (λ p. p ≡ pos (length self.now.instrs)) }
+    {
+        i64::try_from(self.instrs.len()).map_err(|_| AllocError)
+    }
+
+    /// What comes next is not built yet.
+    #[tactic(auto, unfolding(crate::specs::Drafts::given_up))]
+    pub fn give_up(&mut self)
+        ensures { self.new ≡ given_up self.old }
+    {
+        self.whole = false;
+    }
+}
+
+/// One value more.
+pub fn deeper(depth: u32) -> Result<u32, AllocError>
+    ensures { IfOk result (λ n. n ≡ suc depth) }
+{
+    depth.checked_add(1).ok_or(AllocError)
+}

@@ -1,0 +1,9 @@
+pub mod Code
+pub mod Outcome
+pub mod Events
+pub mod Arrays
+pub mod Instances
+pub mod Machine
+pub mod Names
+pub mod Rows
+pub mod Examples

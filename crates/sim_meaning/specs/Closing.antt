@@ -1,0 +1,273 @@
+-- Expressions are closed when their statement begins: what an identifier denotes is looked up, and what instance that lies in.
+use Rattle.std.specs.Prelude.{ℕ, Bool, true, false, List, [], ◌∷◌, Option, Some, None}
+use Rattle.sim_base.specs.declared.numbering.DeclNo.{DeclNo}
+use Rattle.sim_scope.specs.declared.scopes.Denotation.{Denotation}
+use Rattle.sim_scope.specs.declared.scopes.Denotation.TheVariants as denotation
+use Rattle.sim_scope.specs.declared.types.Entry.{Entry}
+use Rattle.sim_scope.specs.declared.types.Entry.TheVariants as entry
+use Rattle.sim_scope.specs.declared.types.Formal.{Formal}
+use Rattle.sim_scope.specs.declared.types.FormalKind.{FormalKind}
+use Rattle.sim_scope.specs.declared.types.FormalKind.TheVariants as shape
+use Rattle.sim_scope.specs.declared.types.Mode.{Mode}
+use Rattle.sim_scope.specs.declared.types.Mode.TheVariants as mode
+use Rattle.sim_scope.specs.declared.types.SimType.{SimType}
+use Rattle.sim_scope.specs.declared.types.SimType.TheVariants as t
+use Rattle.sim_scope.specs.Scopes.{entry_of, formal_declared, formals_of}
+use Rattle.sim_scope.specs.Source.{Source, block_of, denoted, level_of, line_at, type_at}
+use Rattle.sim_tree.specs.declared.expr.Multiplication.TheVariants as multiplication
+use Rattle.sim_tree.specs.declared.expr.Relation.{Relation}
+use Rattle.sim_tree.specs.declared.expr.Relation.TheVariants as relation
+use Rattle.sim_tree.specs.declared.expr.Sign.{Sign}
+use Rattle.sim_tree.specs.declared.expr.Sign.TheVariants as sign
+use Rattle.sim_tree.specs.declared.operator.Operator.{Operator}
+use Rattle.sim_tree.specs.declared.operator.Operator.TheVariants as op
+use Rattle.sim_tree.specs.Syntax.{Expression, Expressions, Literal, NoMore, Then, naming}
+use Rattle.sim_tree.specs.Syntax as syntax
+use Rattle.sim_values.specs.declared.operators.Calculation.TheVariants as calculation
+use Rattle.sim_values.specs.declared.operators.Comparison.{Comparison}
+use Rattle.sim_values.specs.declared.operators.Comparison.TheVariants as comparison
+use Rattle.sim_values.specs.declared.operators.Connective.TheVariants as connective
+use Rattle.sim_values.specs.declared.operators.Dyadic.{Dyadic}
+use Rattle.sim_values.specs.declared.operators.Dyadic.TheVariants as dyadic
+use Rattle.sim_values.specs.declared.operators.Monadic.TheVariants as monadic
+use Rattle.sim_values.specs.declared.standard.Standard.{Standard}
+use Rattle.sim_values.specs.Plain.{Character, Integer, Plain, Truth}
+use Rattle.sim_code.specs.Instances.{at_level}
+use Rattle.sim_meaning.specs.Names.{procedure_named}
+use Rattle.sim_meaning.specs.Texts.{constant_of}
+use Rattle.sim_meaning.specs.Pending.{Cell, CallOf, CopyOf, Declared, Either, ElementOf, Further, Given, Instances, Key, NoTerm, One, Result, StandardOf, Term, Terms, Two, Unbuilt, ValueAt}
+
+-- ---- operators
+
+abbrev pub comparison_of : Relation → Option Comparison
+comparison_of relation.Less = Some comparison.Less
+comparison_of relation.LessEqual = Some comparison.LessOrEqual
+comparison_of relation.Equal = Some comparison.Equal
+comparison_of relation.GreaterEqual = Some comparison.GreaterOrEqual
+comparison_of relation.Greater = Some comparison.Greater
+comparison_of relation.NotEqual = Some comparison.NotEqual
+comparison_of relation.SameReference = None
+comparison_of relation.OtherReference = None
+
+-- How an operator is done: as one of the operators on plain values; as the negation of one; or as a conditional expression, in which a
+-- left operand of this value leaves out the right one.
+pub data Sort : Type 0 where
+  Plainly : Dyadic → Sort
+  Negated : Dyadic → Sort
+  Lazily : Bool → Sort
+  Joining : Sort
+
+abbrev pub compared : (texts : Bool) → Comparison → Dyadic
+compared true r = dyadic.CompareTexts r
+compared false r = dyadic.Compare r
+
+abbrev pub same : (texts : Bool) → Dyadic
+same true = dyadic.SameText
+same false = dyadic.SameObject
+
+abbrev pub sort_of_relation : (texts : Bool) → Relation → Sort
+sort_of_relation texts relation.Less = Plainly (compared texts comparison.Less)
+sort_of_relation texts relation.LessEqual = Plainly (compared texts comparison.LessOrEqual)
+sort_of_relation texts relation.Equal = Plainly (compared texts comparison.Equal)
+sort_of_relation texts relation.GreaterEqual = Plainly (compared texts comparison.GreaterOrEqual)
+sort_of_relation texts relation.Greater = Plainly (compared texts comparison.Greater)
+sort_of_relation texts relation.NotEqual = Plainly (compared texts comparison.NotEqual)
+sort_of_relation texts relation.SameReference = Plainly (same texts)
+sort_of_relation texts relation.OtherReference = Negated (same texts)
+
+-- `texts` tells whether the operands are texts
+abbrev pub sort_of : (texts : Bool) → Operator → Sort
+sort_of texts op.OrElse = Lazily true
+sort_of texts op.AndThen = Lazily false
+sort_of texts op.Equivalent = Plainly (dyadic.Connect connective.Equivalent)
+sort_of texts op.Implies = Plainly (dyadic.Connect connective.Implies)
+sort_of texts op.Or = Plainly (dyadic.Connect connective.Or)
+sort_of texts op.And = Plainly (dyadic.Connect connective.And)
+sort_of texts (op.Relate r) = sort_of_relation texts r
+sort_of texts op.Concatenate = Joining
+sort_of texts (op.Add sign.Plus) = Plainly (dyadic.Calculate calculation.Add)
+sort_of texts (op.Add sign.Minus) = Plainly (dyadic.Calculate calculation.Subtract)
+sort_of texts (op.Multiply multiplication.Times) = Plainly (dyadic.Calculate calculation.Multiply)
+sort_of texts (op.Multiply multiplication.Divide) = Plainly (dyadic.Calculate calculation.Divide)
+sort_of texts op.Power = Plainly (dyadic.Calculate calculation.Power)
+
+abbrev pub is_text_type : Option SimType → Bool
+is_text_type (Some t.Text) = true
+is_text_type _ = false
+
+-- whether an expression is a text
+unfoldable pub is_text : Source → Expression → Bool
+is_text s e = is_text_type (type_at s (naming e))
+
+-- ---- terms
+
+abbrev pub two_term : Sort → (line : ℕ) → Term → Term → Term
+two_term (Plainly op) line a b = Two op line a b
+two_term (Negated op) line a b = One monadic.Not line (Two op line a b)
+two_term (Lazily true) line a b = Either a (Given (Truth true)) b
+two_term (Lazily false) line a b = Either a b (Given (Truth false))
+two_term Joining line a b = Unbuilt
+
+abbrev pub signed_term : Sign → (line : ℕ) → Term → Term
+signed_term sign.Plus line a = a
+signed_term sign.Minus line a = One monadic.Negate line a
+
+abbrev pub literal_term : Literal → Term
+literal_term (syntax.IntegerValue z) = Given (Integer z)
+literal_term (syntax.CharacterValue c) = Given (Character c)
+literal_term (syntax.TextValue bytes) = Unbuilt
+literal_term (syntax.BooleanValue b) = Given (Truth b)
+literal_term syntax.NoObject = Unbuilt
+literal_term syntax.NoText = Unbuilt
+
+abbrev pub in_instance : Option ℕ → (ℕ → Term) → Term
+in_instance None f = Unbuilt
+in_instance (Some j) f = f j
+
+-- the instance, seen from the instance i, in which a declaration lies
+unfoldable pub home_of : Source → Instances → ℕ → DeclNo → Option ℕ
+home_of s m i d = at_level m (level_of s (block_of s d)) i
+
+abbrev pub variable_term : Source → Instances → ℕ → DeclNo → Expressions → Term
+variable_term s m i d NoMore = in_instance (home_of s m i d) (λ j. Cell j (Declared d.0))
+variable_term s m i d (Then e es) = Unbuilt
+
+-- a constant is its value
+abbrev pub constant_term : Option Plain → Expressions → Term
+constant_term (Some p) NoMore = Given p
+constant_term _ es = Unbuilt
+
+-- an array by itself, or one of its elements
+abbrev pub array_term : Source → Instances → ℕ → (line : ℕ) → DeclNo → Expressions → Terms → Term
+array_term s m i line d NoMore terms = in_instance (home_of s m i d) (λ j. Cell j (Declared d.0))
+array_term s m i line d (Then e es) terms = in_instance (home_of s m i d) (λ j. ValueAt (ElementOf line (Cell j (Declared d.0)) terms))
+
+abbrev pub formal_term : Source → Instances → ℕ → (line : ℕ) → DeclNo → Mode → FormalKind → Expressions → Terms → Term
+formal_term s m i line d mode.ByName kind es terms = Unbuilt
+formal_term s m i line d mode shape.Simple es terms = variable_term s m i d es
+formal_term s m i line d mode shape.Array es terms = array_term s m i line d es terms
+formal_term s m i line d mode shape.Procedure es terms = Unbuilt
+
+abbrev pub formal_before : Option Formal → List Formal → List Formal
+formal_before None fs = fs
+formal_before (Some f) fs = f ∷ fs
+
+abbrev pub formals_from : Source → List DeclNo → List Formal
+formals_from s [] = []
+formals_from s (d ∷ ds) = formal_before (formal_declared s.tables (Some d)) (formals_from s ds)
+
+-- the formal parameters of a procedure
+abbrev pub formals_at : Source → DeclNo → List Formal
+formals_at s d = formals_from s (formals_of s.tables d)
+
+-- an identifier that is declared, with its operands, as they are closed for themselves and for formal parameters
+abbrev pub declared_term : Source → Instances → ℕ → (line : ℕ) → DeclNo → Option Entry → Expressions → Terms → (List Formal → Terms) → Term
+declared_term s m i line d (Some (entry.Variable type)) es terms actuals = variable_term s m i d es
+declared_term s m i line d (Some (entry.Constant type)) es terms actuals = constant_term (constant_of s d) es
+declared_term s m i line d (Some (entry.Array element dimensions)) es terms actuals = array_term s m i line d es terms
+declared_term s m i line d (Some (entry.Formal f)) es terms actuals = formal_term s m i line d f.mode f.kind es terms
+declared_term s m i line d (Some (entry.Procedure result block)) es terms actuals = in_instance (home_of s m i d) (λ j. CallOf j block (actuals (formals_at s d)) line)
+declared_term s m i line d _ es terms actuals = Unbuilt
+
+abbrev pub standard_term : Option Standard → (line : ℕ) → Terms → Term
+standard_term None line terms = Unbuilt
+standard_term (Some name) line terms = StandardOf name terms line
+
+abbrev pub named_term : Source → Instances → ℕ → (line : ℕ) → Option Denotation → Expressions → Terms → (List Formal → Terms) → Term
+named_term s m i line None es terms actuals = Unbuilt
+named_term s m i line (Some (denotation.Declared d)) es terms actuals = declared_term s m i line d (entry_of s.tables d) es terms actuals
+named_term s m i line (Some (denotation.Standard name)) es terms actuals = standard_term (procedure_named name) line terms
+
+-- an actual parameter: an array by value is copied; parameters by name, procedures and texts by value are not built
+abbrev pub actual_term : (line : ℕ) → Mode → FormalKind → Term → Term
+actual_term line mode.ByValue shape.Array a = CopyOf line a
+actual_term line mode.ByReference shape.Array a = a
+actual_term line mode.ByValue shape.Simple a = a
+actual_term line mode.ByReference shape.Simple a = a
+actual_term line mode shape.Procedure a = Unbuilt
+actual_term line mode.ByName kind a = Unbuilt
+
+abbrev mutual
+  -- an expression as the instance i sees it
+  pub close : Source → Instances → ℕ → Expression → Term
+  close s m i (syntax.If token c a b) = Either (close s m i c) (close s m i a) (close s m i b)
+  close s m i (syntax.Binary op token a b) = two_term (sort_of (is_text s a) op) (line_at s token) (close s m i a) (close s m i b)
+  close s m i (syntax.Not token a) = One monadic.Not (line_at s token) (close s m i a)
+  close s m i (syntax.Signed sign token a) = signed_term sign (line_at s token) (close s m i a)
+  close s m i (syntax.Member member token a class) = Unbuilt
+  close s m i (syntax.Dot token a name es) = Unbuilt
+  close s m i (syntax.Qua token a class) = Unbuilt
+  close s m i (syntax.Constant literal token) = literal_term literal
+  close s m i (syntax.Named name es) =
+      named_term s m i (line_at s name.token.0) (denoted s name.token.0) es (close_all s m i es) (λ formals. close_actuals s m i (line_at s name.token.0) es formals)
+  close s m i (syntax.This token class) = Unbuilt
+  close s m i (syntax.New token class es) = Unbuilt
+  close s m i (syntax.Parentheses token a) = close s m i a
+
+  pub close_all : Source → Instances → ℕ → Expressions → Terms
+  close_all s m i NoMore = NoTerm
+  close_all s m i (Then e es) = Further (close s m i e) (close_all s m i es)
+
+  -- actual parameters, one for each formal
+  pub close_actuals : Source → Instances → ℕ → (line : ℕ) → Expressions → List Formal → Terms
+  close_actuals s m i line NoMore [] = NoTerm
+  close_actuals s m i line NoMore (f ∷ fs) = Further Unbuilt NoTerm
+  close_actuals s m i line (Then e es) [] = Further Unbuilt NoTerm
+  close_actuals s m i line (Then e es) (f ∷ fs) = Further (actual_term line f.mode f.kind (close s m i e)) (close_actuals s m i line es fs)
+
+-- ---- left sides
+
+-- a left side: a cell, or the tree of an address
+pub data Left : Type 0 where
+  LeftCell : (instance : ℕ) → Key → Left
+  LeftAddress : Term → Left
+  LeftUnbuilt : Left
+
+abbrev pub left_in : Option ℕ → (ℕ → Left) → Left
+left_in None f = LeftUnbuilt
+left_in (Some j) f = f j
+
+abbrev pub variable_left : Source → Instances → ℕ → DeclNo → Expressions → Left
+variable_left s m i d NoMore = left_in (home_of s m i d) (λ j. LeftCell j (Declared d.0))
+variable_left s m i d (Then e es) = LeftUnbuilt
+
+abbrev pub array_left : Source → Instances → ℕ → (line : ℕ) → DeclNo → Expressions → Left
+array_left s m i line d NoMore = LeftUnbuilt
+array_left s m i line d (Then e es) = left_in (home_of s m i d) (λ j. LeftAddress (ElementOf line (Cell j (Declared d.0)) (close_all s m i (Then e es))))
+
+-- the result of a procedure lies in its own instance
+abbrev pub result_left : Source → Instances → ℕ → (block : ℕ) → Expressions → Left
+result_left s m i block NoMore = left_in (at_level m (level_of s block) i) (λ j. LeftCell j Result)
+result_left s m i block (Then e es) = LeftUnbuilt
+
+abbrev pub formal_left : Source → Instances → ℕ → (line : ℕ) → DeclNo → Mode → FormalKind → Expressions → Left
+formal_left s m i line d mode.ByName kind es = LeftUnbuilt
+formal_left s m i line d mode shape.Simple es = variable_left s m i d es
+formal_left s m i line d mode shape.Array es = array_left s m i line d es
+formal_left s m i line d mode shape.Procedure es = LeftUnbuilt
+
+abbrev pub declared_left : Source → Instances → ℕ → (line : ℕ) → DeclNo → Option Entry → Expressions → Left
+declared_left s m i line d (Some (entry.Variable type)) es = variable_left s m i d es
+declared_left s m i line d (Some (entry.Array element dimensions)) es = array_left s m i line d es
+declared_left s m i line d (Some (entry.Formal f)) es = formal_left s m i line d f.mode f.kind es
+declared_left s m i line d (Some (entry.Procedure result block)) es = result_left s m i block es
+declared_left s m i line d _ es = LeftUnbuilt
+
+abbrev pub named_left : Source → Instances → ℕ → (line : ℕ) → Option Denotation → Expressions → Left
+named_left s m i line (Some (denotation.Declared d)) es = declared_left s m i line d (entry_of s.tables d) es
+named_left s m i line _ es = LeftUnbuilt
+
+-- an assignment to a text is not built
+abbrev pub close_left_of : (text : Bool) → Source → Instances → ℕ → Expression → Left
+close_left_of false s m i (syntax.Named name es) = named_left s m i (line_at s name.token.0) (denoted s name.token.0) es
+close_left_of _ s m i e = LeftUnbuilt
+
+abbrev pub close_left : Source → Instances → ℕ → Expression → Left
+close_left s m i e = close_left_of (is_text s e) s m i e
+
+-- ---- values of calls
+
+-- whether an expression that stands as a statement leaves a value
+abbrev pub has_type : Option SimType → Bool
+has_type None = false
+has_type (Some type) = true

@@ -1,0 +1,9 @@
+pub mod Names
+pub mod Texts
+pub mod Pending
+pub mod Closing
+pub mod Steps
+pub mod Statements
+pub mod Entries
+pub mod Meaning
+pub mod Examples

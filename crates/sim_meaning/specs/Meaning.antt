@@ -1,0 +1,153 @@
+-- What a program does, step by step: one step is one event of the operating instance.
+use Rattle.std.specs.Prelude.{ℕ, ◌*◌, ◌==◌, Bool, true, false, if◌then◌else◌, List, [], ◌∷◌, length, slice_get, Option, Some, None}
+use Rattle.sim_base.specs.declared.limits.Limits.{Limits}
+use Rattle.sim_scope.specs.Source.{Source, line_at}
+use Rattle.sim_tree.specs.declared.stmt.TypeName.{TypeName}
+use Rattle.sim_tree.specs.Syntax.{Declarations, Statements}
+use Rattle.sim_code.specs.Outcome.{Going, Normal, Run, World, after, first_world}
+use Rattle.sim_code.specs.Events.{applying_one, applying_two, choosing, entering, having, no_rule, performing, pop_integers, pop_many, pop_plain, pop_truth, popping, stopping, testing_step, ticking, when}
+use Rattle.sim_code.specs.Arrays.{giving_back, handed_over, making_array, pairs}
+use Rattle.sim_code.specs.Instances.{Instance, given, is_given_at_end, is_live, no_instances}
+use Rattle.sim_meaning.specs.Pending.{Activation, AgainOp, ArrayOp, ArrayValue, BackOp, BranchOp, CallOp, ChooseOp, Configuration, CopyOp, Do, DropOp, ElementOp, ElementsOp, EndBlock, EndProcedure, EndProgram, EnterOp, Eval, Exec, Execs, FetchOp, GiveOp, Held, IfOp, Instances, Item, Of, OneOp, Op, PastOp, RaiseOp, Result, ShareOp, StandardOp, StepOp, StepTestOp, StoreOp, TestOp, TwoOp, Val, WhileElementOp, cell, instance_in, plain}
+use Rattle.sim_meaning.specs.Texts.{BlockText, ProcedureText, Text, text}
+use Rattle.sim_meaning.specs.Closing.{close}
+use Rattle.sim_meaning.specs.Steps.{copied, element_found, eval, fetched, given_to, go, stored, with_value}
+use Rattle.sim_meaning.specs.Statements.{elements, exec, execs, first_branch, raised, step_tested, while_element}
+use Rattle.sim_meaning.specs.Entries.{arrays_by_value, arrays_declared, filled_behind, first_cells, formals_of, in_instance, instances_kept, words_of_cells}
+
+-- ---- entries
+
+abbrev pub has_result : Option TypeName → Bool
+has_result None = false
+has_result (Some type) = true
+
+-- the work of a block: its arrays, then its statements
+abbrev pub block_work : Source → Instances → (instance : ℕ) → Declarations → Statements → (end : Item) → List Item
+block_work s m i ds ss end = arrays_declared s m i ds (Do (Execs ss) ∷ end ∷ [])
+
+-- a sub-block
+abbrev pub sub_block_entered : Source → Limits → World → Instances → ℕ → List Item → List Val → List Activation → (text line : ℕ) → Option Text → Run Configuration
+sub_block_entered s l o m i w vals rest k line (Some (BlockText begin ds ss)) =
+    let cells = first_cells s k (BlockText begin ds ss) in
+    entering l line (words_of_cells cells) o (λ p.
+    in_instance s p m k (Some i) cells (λ now. block_work s now (length m.instances) ds ss EndBlock) (record { instance = i; work = w; values = vals } ∷ rest))
+sub_block_entered s l o m i w vals rest k line _ = no_rule o
+
+-- A procedure: the actuals were evaluated, and now its instance is made.
+abbrev pub procedure_entered : Source → Limits → World → Instances → ℕ → List Item → List Val → List Activation → (text line : ℕ) → List Val → (encloser : ℕ) → Option Text → Run Configuration
+procedure_entered s l o m i w vals rest k line values j (Some (ProcedureText result h a)) =
+    let cells = first_cells s k (ProcedureText result h a) in
+    having (filled_behind result values cells) o (λ filled.
+    entering l line (words_of_cells cells) o (λ p.
+    in_instance s (handed_over (length m.instances) (arrays_by_value (formals_of s k) values) p) (instances_kept s k (record { instance = i; work = w; values = vals } ∷ rest) m) k (Some j) filled (λ now. Do (Exec a) ∷ EndProcedure (has_result result) ∷ []) (record { instance = i; work = w; values = vals } ∷ rest)))
+procedure_entered s l o m i w vals rest k line values j _ = no_rule o
+
+abbrev pub called : Source → Limits → World → Instances → ℕ → List Item → List Val → List Activation → (text actuals line : ℕ) → Run Configuration
+called s l o m i w vals rest k n line =
+    pop_many n [] vals o (λ values vals. popping vals o (λ v vals. having (instance_in v) o (λ j. when (is_live m j) o (
+    procedure_entered s l o m i w vals rest k line values j (text s k)))))
+
+-- ---- ends
+
+-- An instance ends, and control goes to the instance below, which gets a value or none. It is given back, unless it is kept or its text
+-- has a class.
+abbrev pub words_of_text : Source → ℕ → Option Text → ℕ
+words_of_text s k None = 0
+words_of_text s k (Some x) = words_of_cells (first_cells s k x)
+
+abbrev pub text_of : Instances → ℕ → ℕ
+text_of m i = text_in (slice_get m.instances i)
+  where
+    text_in : Option (Instance (List Held)) → ℕ
+    text_in None = 0
+    text_in (Some x) = x.text
+
+abbrev pub world_left : Source → (instance : ℕ) → World → Instances → World
+world_left s i o m = if is_given_at_end m i then giving_back o i (words_of_text s (text_of m i) (text s (text_of m i))) else o
+
+abbrev pub instances_left : (instance : ℕ) → Instances → Instances
+instances_left i m = if is_given_at_end m i then given m i else m
+
+abbrev pub with_any : Option Val → List Val → List Val
+with_any None vals = vals
+with_any (Some v) vals = v ∷ vals
+
+unfoldable pub leaving : Source → List Activation → Option Val → (instance : ℕ) → World → Instances → Run Configuration
+leaving s [] v i o m = no_rule o
+leaving s (a ∷ rest) v i o m = go (world_left s i o m) (instances_left i m) a.instance a.work (with_any v a.values) rest
+
+-- ---- the steps
+
+abbrev pub do_op : Source → Limits → World → Instances → ℕ → List Item → List Val → List Activation → Op → Run Configuration
+-- expressions
+do_op s l o m i w vals rest (Eval t) = eval o m i w vals rest t
+do_op s l o m i w vals rest (OneOp op line) = applying_one plain op line vals o (λ z vals. go o m i w (Of z ∷ vals) rest)
+do_op s l o m i w vals rest (TwoOp op line) = applying_two plain op line vals o (λ z vals. go o m i w (Of z ∷ vals) rest)
+do_op s l o m i w vals rest (IfOp a b) = pop_truth plain vals o (λ c vals. choosing c (go o m i (Do (Eval a) ∷ Do PastOp ∷ w) vals rest) (go o m i (Do (Eval b) ∷ w) vals rest))
+do_op s l o m i w vals rest (ElementOp n line) = element_found o m i w vals rest n line
+do_op s l o m i w vals rest FetchOp = fetched o m i w vals rest
+do_op s l o m i w vals rest (CopyOp line) = copied l o m i w vals rest line
+do_op s l o m i w vals rest (CallOp k n line) = called s l o m i w vals rest k n line
+do_op s l o m i w vals rest (StandardOp name line) = performing plain l line name vals o (λ p moved value vals. go p m i w (with_value value vals) rest)
+-- values in hand, and assignments
+do_op s l o m i w vals rest DropOp = popping vals o (λ v vals. go o m i w vals rest)
+do_op s l o m i w vals rest AgainOp = popping vals o (λ v vals'. go o m i w (v ∷ vals) rest)
+do_op s l o m i w vals rest (StoreOp t) = stored o m i w vals rest t
+do_op s l o m i w vals rest (ShareOp ts) = pop_plain plain vals o (λ p vals. go o m i (Do (GiveOp p ts) ∷ w) vals rest)
+do_op s l o m i w vals rest (GiveOp p ts) = given_to o m i w vals rest p ts
+do_op s l o m i w vals rest (ArrayOp kind n line) = pop_integers plain (2 * n) [] vals o (λ bounds vals. making_array l line i kind (pairs bounds) o (λ array p. go p m i w (ArrayValue array ∷ vals) rest))
+-- statements
+do_op s l o m i w vals rest (Exec a) = exec s l o m i w vals rest a
+do_op s l o m i w vals rest (Execs ss) = execs o m i w vals rest ss
+do_op s l o m i w vals rest (EnterOp k line) = sub_block_entered s l o m i w vals rest k line (text s k)
+do_op s l o m i w vals rest (ChooseOp a b) = pop_truth plain vals o (λ c vals. choosing c (go o m i (Do (Exec a) ∷ first_branch b w) vals rest) (go o m i (Do (Execs b) ∷ w) vals rest))
+do_op s l o m i w vals rest (TestOp c a) = ticking l o (λ p. go p m i (Do (Eval (close s m i c)) ∷ Do (BranchOp a (BackOp (TestOp c a))) ∷ w) vals rest)
+do_op s l o m i w vals rest (BranchOp a again) = pop_truth plain vals o (λ c vals. choosing c (go o m i (Do (Exec a) ∷ Do again ∷ w) vals rest) (go o m i w vals rest))
+do_op s l o m i w vals rest (BackOp op) = go o m i (Do op ∷ w) vals rest
+do_op s l o m i w vals rest PastOp = go o m i w vals rest
+-- `for` lists
+do_op s l o m i w vals rest (ElementsOp t es a) = elements s l o m i w vals rest t es a
+do_op s l o m i w vals rest (WhileElementOp t e c a) = while_element s l o m i w vals rest t e c a
+do_op s l o m i w vals rest (StepTestOp t line step limit a) = step_tested s l o m i w vals rest t line step limit a
+do_op s l o m i w vals rest (StepOp line) = testing_step plain line vals o (λ b vals. go o m i w (Of b ∷ vals) rest)
+do_op s l o m i w vals rest (RaiseOp t line step limit a) = raised s o m i w vals rest t line step limit a
+
+abbrev pub do_item : Source → Limits → World → Instances → ℕ → List Item → List Val → List Activation → Item → Run Configuration
+do_item s l o m i w vals rest (Do op) = do_op s l o m i w vals rest op
+do_item s l o m i w vals rest EndBlock = leaving s rest None i o m
+do_item s l o m i w vals rest (EndProcedure true) = having (cell m i Result) o (λ v. leaving s rest (Some v) i o m)
+do_item s l o m i w vals rest (EndProcedure false) = leaving s rest None i o m
+do_item s l o m i w vals rest EndProgram = stopping Normal o
+
+abbrev pub do_work : Source → Limits → World → Instances → ℕ → List Val → List Activation → List Item → Run Configuration
+do_work s l o m i vals rest [] = no_rule o
+do_work s l o m i vals rest (x ∷ w) = do_item s l o m i w vals rest x
+
+-- The first step enters the program's block. Behind it stands that control goes on, so that the code has an instruction there.
+abbrev pub program_entered : Source → Limits → World → Instances → Option Text → Run Configuration
+program_entered s l o m (Some (BlockText begin ds ss)) =
+    let cells = first_cells s 0 (BlockText begin ds ss) in
+    entering l (line_at s begin) (words_of_cells cells) o (λ p.
+    in_instance s p m 0 None cells (λ now. Do PastOp ∷ block_work s now (length m.instances) ds ss EndProgram) [])
+program_entered s l o m _ = no_rule o
+
+abbrev pub first_step : Source → Limits → World → Instances → Run Configuration
+first_step s l o m = when (length m.instances == 0) o (program_entered s l o m (text s 0))
+
+abbrev pub do_chain : Source → Limits → World → Instances → List Activation → Run Configuration
+do_chain s l o m [] = first_step s l o m
+do_chain s l o m (a ∷ rest) = do_work s l o m a.instance a.values rest a.work
+
+abbrev pub step : Source → Limits → World → Configuration → Run Configuration
+step s l o c = do_chain s l o c.memory c.chain
+
+-- the text constants of a program; they are not built
+unfoldable pub constants_of : Source → List (List ℕ)
+constants_of s = []
+
+abbrev pub opening : Source → Limits → (input : List ℕ) → Run Configuration
+opening s l input = Going (first_world (constants_of s) l input) no_instances
+
+-- the run of a program after n steps
+abbrev pub run : Source → Limits → (input : List ℕ) → ℕ → Run Configuration
+run s l input n = after (step s l) n (opening s l input)

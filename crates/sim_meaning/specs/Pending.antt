@@ -1,0 +1,171 @@
+-- Closed trees, what is pending, and the instances of the meaning.
+use Rattle.std.specs.Prelude.{ℕ, Bool, true, false, ◌==◌, if◌then◌else◌, List, [], ◌∷◌, Option, Some, None}
+use Rattle.sim_tree.specs.Syntax.{Element, Expression, Statement, Statements}
+use Rattle.sim_values.specs.declared.kind.Kind.{Kind}
+use Rattle.sim_values.specs.declared.operators.Dyadic.{Dyadic}
+use Rattle.sim_values.specs.declared.operators.Monadic.{Monadic}
+use Rattle.sim_values.specs.declared.standard.Standard.{Standard}
+use Rattle.sim_values.specs.Plain.{Plain}
+use Rattle.sim_code.specs.Instances.{Memory, Place, State, cells_of, with_cells}
+
+-- A cell of an instance: that of a declaration, by its number; that of the result of a procedure; or that of a connection, by its token.
+pub data Key : Type 0 where
+  Declared : (declaration : ℕ) → Key
+  Result : Key
+  Connection : (token : ℕ) → Key
+
+-- A closed tree has no identifiers: each is a cell of an instance, or a text with the instance in which it is declared. So it means the
+-- same wherever it is evaluated. The line is that of its errors.
+mutual
+  pub data Term : Type 0 where
+    Given : Plain → Term
+    Cell : (instance : ℕ) → Key → Term
+    One : Monadic → (line : ℕ) → Term → Term
+    Two : Dyadic → (line : ℕ) → (left right : Term) → Term
+    Either : (condition first second : Term) → Term
+    -- where an element of an array lies, and the value that lies somewhere
+    ElementOf : (line : ℕ) → (array : Term) → (subscripts : Terms) → Term
+    ValueAt : Term → Term
+    -- a copy of an array
+    CopyOf : (line : ℕ) → Term → Term
+    CallOf : (instance text : ℕ) → (actuals : Terms) → (line : ℕ) → Term
+    StandardOf : Standard → (actuals : Terms) → (line : ℕ) → Term
+    -- a form that is not built
+    Unbuilt : Term
+
+  pub data Terms : Type 0 where
+    NoTerm : Terms
+    Further : Term → Terms → Terms
+
+-- A value in hand or in a cell: a plain value; an instance in which a procedure is declared; where a variable lies, with the class of a
+-- reference there; an array; a procedure with that instance; the closed tree of an actual by name.
+pub data Val : Type 0 where
+  Of : Plain → Val
+  Link : (instance : ℕ) → Val
+  Address : Place Key (Option ℕ) → Val
+  ArrayValue : (array : ℕ) → Val
+  ProcedureValue : (text instance : ℕ) → Val
+  Tree : Term → Val
+
+abbrev pub plain : Val → Option Plain
+plain (Of p) = Some p
+plain _ = None
+
+abbrev pub array_in : Val → Option ℕ
+array_in (ArrayValue a) = Some a
+array_in _ = None
+
+abbrev pub place_in : Val → Option (Place Key (Option ℕ))
+place_in (Address p) = Some p
+place_in _ = None
+
+abbrev pub instance_in : Val → Option ℕ
+instance_in (Link j) = Some j
+instance_in _ = None
+
+-- what a value is assigned to: a cell, or where an address in hand leads
+pub data Target : Type 0 where
+  ToCell : (instance : ℕ) → Key → Target
+  ToAddress : Target
+
+-- What is still to be done. An operator takes the values that it needs from those in hand.
+pub data Op : Type 0 where
+  -- expressions
+  Eval : Term → Op
+  OneOp : Monadic → (line : ℕ) → Op
+  TwoOp : Dyadic → (line : ℕ) → Op
+  IfOp : (first second : Term) → Op
+  ElementOp : (subscripts line : ℕ) → Op
+  FetchOp : Op
+  CopyOp : (line : ℕ) → Op
+  CallOp : (text actuals line : ℕ) → Op
+  StandardOp : Standard → (line : ℕ) → Op
+  -- the value in hand is dropped, or there once more
+  DropOp : Op
+  AgainOp : Op
+  -- an assignment to one left side; to several, the last one first, where the value is in hand, and where it was taken
+  StoreOp : Target → Op
+  ShareOp : List Target → Op
+  GiveOp : Plain → List Target → Op
+  -- a new array
+  ArrayOp : Kind → (dimensions line : ℕ) → Op
+  -- statements
+  Exec : Statement → Op
+  Execs : Statements → Op
+  EnterOp : (text line : ℕ) → Op
+  ChooseOp : Statement → Statements → Op
+  -- a test is made anew; where it is true the statement is done, and then something else
+  TestOp : Expression → Statement → Op
+  BranchOp : Statement → Op → Op
+  -- control goes back to what is to be done again; it goes on past what is not done
+  BackOp : Op → Op
+  PastOp : Op
+  -- the elements that are left of a `for` list: the variable, the elements, the statement
+  ElementsOp : Target → List Element → Statement → Op
+  WhileElementOp : Target → (value condition : Expression) → Statement → Op
+  StepTestOp : Target → (line : ℕ) → (step limit : Expression) → Statement → Op
+  StepOp : (line : ℕ) → Op
+  RaiseOp : Target → (line : ℕ) → (step limit : Expression) → Statement → Op
+
+-- an operator, or an end
+pub data Item : Type 0 where
+  Do : Op → Item
+  EndBlock : Item
+  -- of a procedure with a result, or without one
+  EndProcedure : (has_result : Bool) → Item
+  EndProgram : Item
+
+-- An instance on a chain, with its pending work and its values in hand, the last one first.
+pub record Activation : Type 0 where
+  pub instance : ℕ
+  pub work : List Item
+  pub values : List Val
+
+abbrev pub owner : Activation → Option ℕ
+owner a = Some a.instance
+
+-- a cell and what it holds, which may be nothing yet
+pub record Held : Type 0 where
+  pub key : Key
+  pub value : Option Val
+
+abbrev pub Instances : Type 0
+Instances = Memory (List Held) Activation
+
+abbrev pub Configuration : Type 0
+Configuration = State (List Held) Activation
+
+abbrev pub same_key : Key → Key → Bool
+same_key (Declared d) (Declared e) = d == e
+same_key Result Result = true
+same_key (Connection i) (Connection j) = i == j
+same_key _ _ = false
+
+abbrev pub held : Key → List Held → Option Val
+held key [] = None
+held key (h ∷ hs) = if same_key h.key key then h.value else held key hs
+
+abbrev pub before : Held → Option (List Held) → Option (List Held)
+before h None = None
+before h (Some hs) = Some (h ∷ hs)
+
+-- the cells with another value of one of them; none where there is no such cell
+abbrev pub held_set : Key → Val → List Held → Option (List Held)
+held_set key v [] = None
+held_set key v (h ∷ hs) = if same_key h.key key then Some (record { key = h.key; value = Some v } ∷ hs) else before h (held_set key v hs)
+
+abbrev pub value_in : Option (List Held) → Key → Option Val
+value_in None key = None
+value_in (Some hs) key = held key hs
+
+-- the value in a cell
+abbrev pub cell : Instances → (instance : ℕ) → Key → Option Val
+cell m j key = value_in (cells_of m j) key
+
+abbrev pub put_in : Option (List Held) → Key → Val → Option (List Held)
+put_in None key v = None
+put_in (Some hs) key v = held_set key v hs
+
+-- the instances with another value in a cell
+abbrev pub cell_set : Instances → (instance : ℕ) → Key → Val → Option Instances
+cell_set m j key v = with_cells m j (put_in (cells_of m j) key v)

@@ -1,0 +1,160 @@
+-- What a statement does when it begins, and what is pending of it then.
+use Rattle.std.specs.Prelude.{ℕ, Bool, true, false, List, [], ◌∷◌, ◌++◌, reverse, Option, Some, None}
+use Rattle.sim_base.specs.declared.limits.Limits.{Limits}
+use Rattle.sim_scope.specs.declared.scopes.Denotation.{Denotation}
+use Rattle.sim_scope.specs.declared.scopes.Denotation.TheVariants as denotation
+use Rattle.sim_scope.specs.Scopes.{result_of}
+use Rattle.sim_scope.specs.Source.{Source, block_around, denoted, line_at}
+use Rattle.sim_tree.specs.declared.stmt.Assignment.{Assignment}
+use Rattle.sim_tree.specs.declared.stmt.Assignment.TheVariants as assignment
+use Rattle.sim_tree.specs.Syntax.{Also, Begin, Block, Element, Expression, Expressions, NoDeclaration, NoMore, NoStatement, RightSide, Statement, Statements, With}
+use Rattle.sim_tree.specs.Syntax as syntax
+use Rattle.sim_values.specs.declared.operators.Calculation.TheVariants as calculation
+use Rattle.sim_values.specs.declared.operators.Dyadic.TheVariants as dyadic
+use Rattle.sim_values.specs.declared.standard.Standard.{Standard}
+use Rattle.sim_values.specs.declared.standard.StandardType.{StandardType}
+use Rattle.sim_values.specs.Standard.{row_of}
+use Rattle.sim_code.specs.Outcome.{Run, World}
+use Rattle.sim_code.specs.Events.{no_rule, ticking}
+use Rattle.sim_meaning.specs.Names.{procedure_named}
+use Rattle.sim_meaning.specs.Pending.{Activation, AgainOp, BackOp, BranchOp, Cell, ChooseOp, Configuration, Do, DropOp, ElementsOp, EnterOp, Eval, Exec, Execs, Instances, Item, Op, PastOp, RaiseOp, ShareOp, StepOp, StepTestOp, StoreOp, Target, TestOp, ToAddress, ToCell, TwoOp, Val, WhileElementOp}
+use Rattle.sim_meaning.specs.Closing.{Left, LeftAddress, LeftCell, close, close_left, has_type}
+use Rattle.sim_meaning.specs.Steps.{go}
+
+-- ---- calls
+
+abbrev pub has_value : Option StandardType → Bool
+has_value None = false
+has_value (Some type) = true
+
+abbrev pub standard_leaves : Option Standard → Bool
+standard_leaves None = false
+standard_leaves (Some name) = has_value (row_of name).result
+
+abbrev pub denoted_leaves : Source → Option Denotation → Bool
+denoted_leaves s None = false
+denoted_leaves s (Some (denotation.Declared d)) = has_type (result_of s.tables d)
+denoted_leaves s (Some (denotation.Standard name)) = standard_leaves (procedure_named name)
+
+-- whether a call that stands as a statement leaves a value, which is dropped
+abbrev pub leaves : Source → Expression → Bool
+leaves s (syntax.Named name es) = denoted_leaves s (denoted s name.token.0)
+leaves s _ = false
+
+abbrev pub dropping : Bool → List Item → List Item
+dropping true w = Do DropOp ∷ w
+dropping false w = w
+
+-- ---- assignments
+
+-- the left sides, and the expression on the right of all of them
+abbrev pub left_sides : Expression → List RightSide → List Expression
+left_sides e [] = []
+left_sides e (r ∷ rs) = e ∷ left_sides r.value rs
+
+abbrev pub right_side : Expression → List RightSide → Expression
+right_side e [] = e
+right_side e (r ∷ rs) = right_side r.value rs
+
+abbrev pub are_values : List RightSide → Bool
+are_values [] = true
+are_values (r ∷ rs) = is_value r.sign (are_values rs)
+  where
+    is_value : Assignment → Bool → Bool
+    is_value assignment.Value others = others
+    is_value assignment.Reference others = false
+
+-- The left sides are found from left to right: what each is, and its address, if it has one. None where a form is not built.
+pub record Lefts : Type 0 where
+  pub work : List Item
+  pub targets : List Target
+
+abbrev pub before : Left → Option Lefts → Option Lefts
+before (LeftCell j key) (Some x) = Some (record { work = x.work; targets = ToCell j key ∷ x.targets })
+before (LeftAddress t) (Some x) = Some (record { work = Do (Eval t) ∷ x.work; targets = ToAddress ∷ x.targets })
+before _ _ = None
+
+abbrev pub lefts : Source → Instances → ℕ → List Expression → Option Lefts
+lefts s m i [] = Some (record { work = []; targets = [] })
+lefts s m i (e ∷ es) = before (close_left s m i e) (lefts s m i es)
+
+-- one value goes to one left side, or to several from right to left
+abbrev pub assigning : List Target → Op
+assigning (t ∷ []) = StoreOp t
+assigning ts = ShareOp (reverse ts)
+
+abbrev pub assigned : Source → World → Instances → ℕ → List Item → List Val → List Activation → (values : Bool) → Option Lefts → Expression → Run Configuration
+assigned s o m i w vals rest true (Some x) e = go o m i (x.work ++ Do (Eval (close s m i e)) ∷ Do (assigning x.targets) ∷ w) vals rest
+assigned s o m i w vals rest _ _ e = no_rule o
+
+-- ---- blocks
+
+abbrev pub entered_at : World → Instances → ℕ → List Item → List Val → List Activation → Option ℕ → (line : ℕ) → Run Configuration
+entered_at o m i w vals rest None line = no_rule o
+entered_at o m i w vals rest (Some k) line = go o m i (Do (EnterOp k line) ∷ w) vals rest
+
+-- a block without declarations is a compound statement, any other a sub-block
+abbrev pub compound : Source → World → Instances → ℕ → List Item → List Val → List Activation → Block → Run Configuration
+compound s o m i w vals rest (Begin token NoDeclaration ss end) = go o m i (Do (Execs ss) ∷ w) vals rest
+compound s o m i w vals rest (Begin token (With d ds) ss end) = entered_at o m i w vals rest (block_around s token) (line_at s token)
+
+-- ---- loops
+
+-- the controlled variable, which is a cell
+abbrev pub controlled : Left → Option Target
+controlled (LeftCell j key) = Some (ToCell j key)
+controlled _ = None
+
+abbrev pub looping : World → Instances → ℕ → List Item → List Val → List Activation → Assignment → Option Target → List Element → Statement → Run Configuration
+looping o m i w vals rest assignment.Value (Some t) es a = go o m i (Do (ElementsOp t es a) ∷ w) vals rest
+looping o m i w vals rest _ _ es a = no_rule o
+
+abbrev pub reading : Target → List Item → List Item
+reading (ToCell j key) w = Do (Eval (Cell j key)) ∷ w
+reading ToAddress w = w
+
+-- The elements of a `for` list are taken in turn. A plain element takes its tick and gives one turn.
+abbrev pub elements : Source → Limits → World → Instances → ℕ → List Item → List Val → List Activation → Target → List Element → Statement → Run Configuration
+elements s l o m i w vals rest t [] a = go o m i w vals rest
+elements s l o m i w vals rest t (syntax.Once e ∷ es) a =
+    ticking l o (λ p. go p m i (Do (Eval (close s m i e)) ∷ Do (StoreOp t) ∷ Do (Exec a) ∷ Do (ElementsOp t es a) ∷ w) vals rest)
+elements s l o m i w vals rest t (syntax.While e token c ∷ es) a = go o m i (Do (WhileElementOp t e c a) ∷ Do (ElementsOp t es a) ∷ w) vals rest
+elements s l o m i w vals rest t (syntax.Step first token step limit ∷ es) a =
+    go o m i (Do (Eval (close s m i first)) ∷ Do (StoreOp t) ∷ Do (Eval (close s m i step)) ∷ Do (StepTestOp t (line_at s token) step limit a) ∷ Do (ElementsOp t es a) ∷ w) vals rest
+
+-- A while element takes a tick for each evaluation, and none for its test.
+abbrev pub while_element : Source → Limits → World → Instances → ℕ → List Item → List Val → List Activation → Target → (value condition : Expression) → Statement → Run Configuration
+while_element s l o m i w vals rest t e c a =
+    ticking l o (λ p. go p m i (Do (Eval (close s m i e)) ∷ Do (StoreOp t) ∷ Do (Eval (close s m i c)) ∷ Do (BranchOp a (BackOp (WhileElementOp t e c a))) ∷ w) vals rest)
+
+-- The test of a step element, with the step in hand: first its tick, then the variable, then the limit.
+abbrev pub step_tested : Source → Limits → World → Instances → ℕ → List Item → List Val → List Activation → Target → (line : ℕ) → (step limit : Expression) → Statement → Run Configuration
+step_tested s l o m i w vals rest t line step limit a =
+    ticking l o (λ p. go p m i (reading t (Do (Eval (close s m i limit)) ∷ Do (StepOp line) ∷ Do (BranchOp a (RaiseOp t line step limit a)) ∷ w)) vals rest)
+
+-- After a turn: the step is evaluated, and the variable raised by it; the step stays in hand for the next test.
+abbrev pub raised : Source → World → Instances → ℕ → List Item → List Val → List Activation → Target → (line : ℕ) → (step limit : Expression) → Statement → Run Configuration
+raised s o m i w vals rest t line step limit a =
+    go o m i (Do (Eval (close s m i step)) ∷ Do AgainOp ∷ reading t (Do (TwoOp (dyadic.Calculate calculation.Add) line) ∷ Do (StoreOp t) ∷ Do (BackOp (StepTestOp t line step limit a)) ∷ w)) vals rest
+
+-- ---- statements
+
+-- Each statement that is not empty takes its tick when it begins.
+abbrev pub exec : Source → Limits → World → Instances → ℕ → List Item → List Val → List Activation → Statement → Run Configuration
+exec s l o m i w vals rest (syntax.Empty token) = go o m i w vals rest
+exec s l o m i w vals rest (syntax.Compound b) = ticking l o (λ p. compound s p m i w vals rest b)
+exec s l o m i w vals rest (syntax.Call e) = ticking l o (λ p. go p m i (Do (Eval (close s m i e)) ∷ dropping (leaves s e) w) vals rest)
+exec s l o m i w vals rest (syntax.Assign left rs) = ticking l o (λ p. assigned s p m i w vals rest (are_values rs) (lefts s m i (left_sides left rs)) (right_side left rs))
+exec s l o m i w vals rest (syntax.Choose token c a b) = ticking l o (λ p. go p m i (Do (Eval (close s m i c)) ∷ Do (ChooseOp a b) ∷ w) vals rest)
+exec s l o m i w vals rest (syntax.Repeat token c a) = ticking l o (λ p. go p m i (Do (TestOp c a) ∷ w) vals rest)
+exec s l o m i w vals rest (syntax.For token x sign assign es a) = ticking l o (λ p. looping p m i w vals rest sign (controlled (close_left s m i (syntax.Named x NoMore))) es a)
+exec s l o m i w vals rest _ = no_rule o
+
+abbrev pub execs : World → Instances → ℕ → List Item → List Val → List Activation → Statements → Run Configuration
+execs o m i w vals rest NoStatement = go o m i w vals rest
+execs o m i w vals rest (Also a more) = go o m i (Do (Exec a) ∷ Do (Execs more) ∷ w) vals rest
+
+-- where there is a second branch, the first ends by going past it
+abbrev pub first_branch : Statements → List Item → List Item
+first_branch NoStatement w = w
+first_branch (Also a more) w = Do PastOp ∷ w

@@ -1,0 +1,77 @@
+-- What an operator does that is pending in the innermost instance.
+use Rattle.std.specs.Prelude.{ℕ, suc, List, [], ◌∷◌, Option, Some, None}
+use Rattle.sim_base.specs.declared.limits.Limits.{Limits}
+use Rattle.sim_values.specs.Plain.{Plain}
+use Rattle.sim_code.specs.Outcome.{Going, Run, World}
+use Rattle.sim_code.specs.Events.{having, no_rule, popping}
+use Rattle.sim_code.specs.Arrays.{copying_array, element, element_set, finding_element}
+use Rattle.sim_code.specs.Instances.{CellPlace, ElementPlace, ImagePlace, Place}
+use Rattle.sim_meaning.specs.Pending.{Address, Activation, ArrayValue, Cell, CallOf, CallOp, Configuration, CopyOf, CopyOp, Do, Either, ElementOf, ElementOp, Eval, FetchOp, Further, GiveOp, Given, IfOp, Instances, Item, Key, Link, NoTerm, Of, One, OneOp, StandardOf, StandardOp, StoreOp, Target, Term, Terms, ToAddress, ToCell, Two, TwoOp, Unbuilt, Val, ValueAt, array_in, cell, cell_set, place_in, plain}
+
+-- the innermost instance goes on with this work and these values in hand
+abbrev pub go : World → Instances → ℕ → List Item → List Val → List Activation → Run Configuration
+go o m i w vals rest = Going o (record { chain = record { instance = i; work = w; values = vals } ∷ rest; memory = m })
+
+abbrev pub with_value : Option Plain → List Val → List Val
+with_value None vals = vals
+with_value (Some p) vals = Of p ∷ vals
+
+-- ---- expressions
+
+abbrev pub count : Terms → ℕ
+count NoTerm = 0
+count (Further t ts) = suc (count ts)
+
+-- operands and actual parameters are evaluated from left to right
+abbrev pub each : Terms → List Item → List Item
+each NoTerm w = w
+each (Further t ts) w = Do (Eval t) ∷ each ts w
+
+abbrev pub eval : World → Instances → ℕ → List Item → List Val → List Activation → Term → Run Configuration
+eval o m i w vals rest (Given p) = go o m i w (Of p ∷ vals) rest
+eval o m i w vals rest (Cell j key) = having (cell m j key) o (λ v. go o m i w (v ∷ vals) rest)
+eval o m i w vals rest (One op line a) = go o m i (Do (Eval a) ∷ Do (OneOp op line) ∷ w) vals rest
+eval o m i w vals rest (Two op line a b) = go o m i (Do (Eval a) ∷ Do (Eval b) ∷ Do (TwoOp op line) ∷ w) vals rest
+eval o m i w vals rest (Either c a b) = go o m i (Do (Eval c) ∷ Do (IfOp a b) ∷ w) vals rest
+eval o m i w vals rest (ElementOf line a ts) = go o m i (Do (Eval a) ∷ each ts (Do (ElementOp (count ts) line) ∷ w)) vals rest
+eval o m i w vals rest (ValueAt a) = go o m i (Do (Eval a) ∷ Do FetchOp ∷ w) vals rest
+eval o m i w vals rest (CopyOf line a) = go o m i (Do (Eval a) ∷ Do (CopyOp line) ∷ w) vals rest
+eval o m i w vals rest (CallOf j k ts line) = go o m i (each ts (Do (CallOp k (count ts) line) ∷ w)) (Link j ∷ vals) rest
+eval o m i w vals rest (StandardOf name ts line) = go o m i (each ts (Do (StandardOp name line) ∷ w)) vals rest
+eval o m i w vals rest Unbuilt = no_rule o
+
+-- the value that lies somewhere
+abbrev pub of_plain : Option Plain → Option Val
+of_plain None = None
+of_plain (Some p) = Some (Of p)
+
+abbrev pub value_at : World → Instances → Place Key (Option ℕ) → Option Val
+value_at o m (CellPlace j key class) = cell m j key
+value_at o m (ElementPlace a index class) = of_plain (element o a index)
+value_at o m (ImagePlace n) = None
+
+abbrev pub fetched : World → Instances → ℕ → List Item → List Val → List Activation → Run Configuration
+fetched o m i w vals rest = popping vals o (λ v vals. having (place_in v) o (λ p. having (value_at o m p) o (λ v. go o m i w (v ∷ vals) rest)))
+
+abbrev pub element_found : World → Instances → ℕ → List Item → List Val → List Activation → (subscripts line : ℕ) → Run Configuration
+element_found o m i w vals rest n line = finding_element plain array_in n line vals o (λ array index vals. go o m i w (Address (ElementPlace array index None) ∷ vals) rest)
+
+abbrev pub copied : Limits → World → Instances → ℕ → List Item → List Val → List Activation → (line : ℕ) → Run Configuration
+copied l o m i w vals rest line = popping vals o (λ v vals. having (array_in v) o (λ array. copying_array l line i array o (λ copy p. go p m i w (ArrayValue copy ∷ vals) rest)))
+
+-- ---- assignments
+
+-- a value is put where an address leads; a class is not built
+unfoldable pub putting : Place Key (Option ℕ) → Val → World → Instances → (World → Instances → Run Configuration) → Run Configuration
+putting (CellPlace j key None) v o m go = having (cell_set m j key v) o (λ m. go o m)
+putting (ElementPlace a n None) v o m go = having (plain v) o (λ p. having (element_set o a n p) o (λ o. go o m))
+putting _ v o m go = no_rule o
+
+abbrev pub stored : World → Instances → ℕ → List Item → List Val → List Activation → Target → Run Configuration
+stored o m i w vals rest (ToCell j key) = popping vals o (λ v vals. having (cell_set m j key v) o (λ m. go o m i w vals rest))
+stored o m i w vals rest ToAddress = popping vals o (λ v vals. popping vals o (λ p vals. having (place_in p) o (λ p. putting p v o m (λ o m. go o m i w vals rest))))
+
+-- a value that was taken is given to one left side after another
+abbrev pub given_to : World → Instances → ℕ → List Item → List Val → List Activation → Plain → List Target → Run Configuration
+given_to o m i w vals rest p [] = go o m i w vals rest
+given_to o m i w vals rest p (t ∷ ts) = go o m i (Do (StoreOp t) ∷ Do (GiveOp p ts) ∷ w) (Of p ∷ vals) rest
