@@ -1,0 +1,16 @@
+use Rattle.std.proofs.Common.{refl}
+use Rattle.frame_arena.proofs.Changes.{gives}
+use Rattle.frame_arena.proofs.Rooms.{rooms_kept}
+use Rattle.frame_arena.proofs.frames.give_back.Goals as goal
+
+pub returns-then-block-heads-clause-holds : goal.returns-then-block-heads-clause-holds
+returns-then-block-heads-clause-holds c cells m h = gives c.args.frames.now cells m c.args.place _ h c.requires.there c.requires.live refl refl refl
+
+pub returns-else-block-heads-clause-holds : goal.returns-else-block-heads-clause-holds
+returns-else-block-heads-clause-holds c cells m h = gives c.args.frames.now cells m c.args.place _ h c.requires.there c.requires.live refl refl refl
+
+pub returns-then-block-heads-clause-stacks : goal.returns-then-block-heads-clause-stacks
+returns-then-block-heads-clause-stacks c = rooms_kept c.args.frames.now c.args.place _ c.requires.there refl refl
+
+pub returns-else-block-heads-clause-stacks : goal.returns-else-block-heads-clause-stacks
+returns-else-block-heads-clause-stacks c = rooms_kept c.args.frames.now c.args.place _ c.requires.there refl refl

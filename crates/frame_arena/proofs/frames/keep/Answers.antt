@@ -1,0 +1,10 @@
+use Rattle.std.proofs.Common.{refl}
+use Rattle.frame_arena.proofs.Entries.{keeps}
+use Rattle.frame_arena.proofs.Rooms.{rooms_kept}
+use Rattle.frame_arena.proofs.frames.keep.Goals as goal
+
+pub returns-clause-holds : goal.returns-clause-holds
+returns-clause-holds c cells m h = keeps c.args.frames.now cells m c.args.place h c.requires.there c.requires.live
+
+pub returns-clause-stacks : goal.returns-clause-stacks
+returns-clause-stacks c = rooms_kept c.args.frames.now c.args.place _ c.requires.there refl refl

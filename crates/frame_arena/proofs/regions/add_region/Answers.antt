@@ -1,0 +1,21 @@
+use Rattle.std.specs.Prelude.{false, None}
+use Rattle.frame_arena.specs.declared.frames.Frame.{Frame}
+use Rattle.std.proofs.Common.{rules, ◌≡◌, length, subst, sym, refl, arith}
+use Rattle.frame_arena.specs.Frames.{Holds, Laid, rooms}
+use Rattle.frame_arena.proofs.Growth.{adds}
+use Rattle.frame_arena.proofs.Rooms.{laid_to}
+use Rattle.frame_arena.proofs.regions.add_region.Goals as goal
+
+pub returns-clause-holds : goal.returns-clause-holds
+returns-clause-holds c m h =
+    let base : c.in-Ok.base ≡ length c.args.cells.now.items = search rules in
+    let long = c.in_ok-grow.ensures.long in
+    subst (λ l. Holds l c.grow.new.slots.items m) (sym c.in_ok-push.ensures.items)
+    (adds c.args.frames.now.items c.args.cells.now.items c.grow.new.slots.items m _ h (c.in_ok-grow.ensures.holds c.args.frames.now.items m h) refl base (omega (arith, base, long)))
+
+pub returns-clause-stacks : goal.returns-clause-stacks
+returns-clause-stacks c h =
+    let floor : c.in-Ok-try_from.floor ≡ length c.args.stacks.now.items = search rules in
+    let f : Frame = record { live = false; number = 0; block = 0; level = 0; parent = None; passing = false; kept = false; base = c.in-Ok.base; cells = c.args.count; floor = c.in-Ok-try_from.floor; room = c.args.room; next = 0 } in
+    subst (λ l. Laid 0 (rooms l) (length c.grow-2.new.slots.items)) (sym c.in_ok-push.ensures.items)
+    (laid_to (length c.args.stacks.now.items) (length c.grow-2.new.slots.items) c.args.frames.now.items f h floor c.in_ok-grow-2.ensures.long)

@@ -1,0 +1,10 @@
+use Rattle.std.proofs.Common.{◌≡◌, ◌+◌, List, length}
+use Rattle.sim_code.specs.Machine.{Frames}
+use Rattle.frame_arena.specs.declared.frames.Frame.{Frame}
+use Rattle.frame_arena.specs.Frames.{Holds}
+use Rattle.frame_arena.proofs.regions.grow.Given as goal
+
+abbrev pub invariant-loop : goal.invariant-loop
+invariant-loop l =
+    (length l.slots.items ≡ length l.fn.slots.items + l.counter)
+    × ((frames : List Frame) (m : Frames) → Holds frames l.fn.slots.items m → Holds frames l.slots.items m)

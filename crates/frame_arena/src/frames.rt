@@ -1,0 +1,231 @@
+//! Frames, and their cells in one list of slots. A frame lies in a region, which is used again when the frame is given back; its number
+//! in the order of entry is never used again. A reference to a frame has its region and, as its stamp, its number.
+ghost use Rattle.std.specs.Prelude.{◌≡◌, ◌<◌, List, IfSome, Some, None, length, slice_get, slice_set, nat_lt, true, false};
+ghost use Rattle.sim_values.specs.declared.value.FrameRef.{FrameRef};
+ghost use Rattle.sim_chains.specs.Components.{Standing};
+ghost use Rattle.sim_code.specs.Instances.{at_level as frame_of_level, entered, given, is_given_at_end as ends_for_good, is_live, with_instance};
+ghost use Rattle.sim_code.specs.Machine.{Activation, Frames, joined, cell as cell_of_frame, cell_set};
+ghost use Rattle.frame_arena.specs.declared.slot.Slot.{Slot};
+ghost use Rattle.frame_arena.specs.Frames.{Has, Holds, HoldsAfter, Leads, SlotLeads, cells_at, found_value, frame_at, instance_of, number_in, rooms};
+ghost use Rattle.frame_arena.specs.Slots.{cell_value, value_of};
+
+use crate::slot::{Slot, SlotKind};
+use sim_values::FrameRef;
+
+/// A frame in its region.
+#[derive(Clone, Copy, Debug)]
+pub struct Frame {
+    /// Whether there is a frame in the region, or the region is free.
+    pub live: bool,
+    /// Its number in the order of entry.
+    pub number: u64,
+    /// Its block.
+    pub block: u32,
+    /// Its level.
+    pub level: u32,
+    /// The frame of its textual encloser, which the program's block lacks.
+    pub parent: Option<FrameRef>,
+    /// Whether it is a sub-block or procedure whose text has no class declaration and no prefixed block.
+    pub passing: bool,
+    /// Whether it is kept at its end.
+    pub kept: bool,
+    /// Where its cells begin.
+    pub base: u32,
+    /// How many cells it has.
+    pub cells: u32,
+    /// Where its operand stack begins.
+    pub floor: u32,
+    /// How many values its operand stack holds.
+    pub room: u32,
+    /// The next free region of its block.
+    pub next: u32,
+}
+
+/// The region of a frame, if it was not given back.
+#[inline(always)]
+pub fn find(frames: &[Frame], at: FrameRef) -> Option<usize>
+    ensures there { IfSome result (λ place. Has frames.now place at.stamp) }
+    ensures place { IfSome result (λ place. place ≡ at.frame) }
+    ensures gone { (m : Frames) → Leads frames.now m at → result ≡ None → (is_live m at.stamp ≡ true → ⊥) }
+{
+    let place = at.frame as usize;
+    if place < frames.len() {
+        let frame = &frames[place];
+        if frame.live && frame.number == at.stamp {
+            return Some(place);
+        }
+    }
+    None
+}
+
+// The slot of a cell among as many from a place on, if it has a value.
+#[inline(always)]
+fn slot_in(cells: &[Slot], base: u32, count: u32, cell: u32) -> Option<Slot>
+    ensures { found_value result ≡ joined (slice_get (cells_at cells.now base count) cell) }
+{
+    if cell >= count {
+        return None;
+    }
+    let at = base as usize + cell as usize;
+    if at >= cells.len() {
+        return None;
+    }
+    match cells[at].kind {
+        SlotKind::Empty => None,
+        _ => Some(cells[at]),
+    }
+}
+
+/// The value of a cell, where its frame was not given back, has such a cell, and there is a value in it.
+#[inline(always)]
+pub fn cell(frames: &[Frame], cells: &[Slot], at: FrameRef, cell: u32) -> Option<Slot>
+    ensures { (m : Frames) → Holds frames.now cells.now m → Leads frames.now m at → found_value result ≡ cell_of_frame m at.stamp cell }
+{
+    let Some(place) = find(frames, at) else {
+        return None;
+    };
+    slot_in(cells, frames[place].base, frames[place].cells, cell)
+}
+
+/// The frame of a level among a frame and its textual enclosers.
+pub fn at_level(frames: &[Frame], home: FrameRef, level: u32) -> Option<FrameRef>
+    ensures there { IfSome result (λ f. Has frames.now f.frame f.stamp) }
+    ensures level { (cells : List Slot) (m : Frames) → Holds frames.now cells m → Leads frames.now m home → number_in result ≡ frame_of_level m level home.stamp }
+{
+    let mut at = home;
+    for _ in 0..=home.stamp {
+        let Some(place) = find(frames, at) else {
+            return None;
+        };
+        let frame = &frames[place];
+        if frame.level == level {
+            return Some(at);
+        }
+        match frame.parent {
+            Some(parent) => at = parent,
+            None => return None,
+        }
+    }
+    None
+}
+
+/// Whether the frame in a region is given back at its end.
+#[inline(always)]
+pub fn is_given_at_end(frames: &[Frame], place: usize) -> bool
+    requires there { place < length frames.now }
+    requires live { (frame_at frames.now place).live ≡ true }
+    ensures { (cells : List Slot) (m : Frames) → Holds frames.now cells m → result ≡ ends_for_good m (frame_at frames.now place).number }
+{
+    let frame = &frames[place];
+    frame.passing && !frame.kept
+}
+
+/// Gives the frame in a region back, which is free then and the first of those of its block. `heads` has the first of each block.
+#[inline(always)]
+pub fn give_back(frames: &mut [Frame], heads: &mut [u32], place: u32)
+    requires there { place < length frames.old }
+    requires live { (frame_at frames.old place).live ≡ true }
+    ensures stacks { rooms frames.new ≡ rooms frames.old }
+    ensures holds { (cells : List Slot) (m : Frames) → Holds frames.old cells m → Holds frames.new cells (given m (frame_at frames.old place).number) }
+    ensures free { (frame_at frames.new place).live ≡ false }
+    ensures first { let block = (frame_at frames.old place).block in
+        block < length heads.old → slice_get heads.new block ≡ Some place }
+{
+    let frame = &mut frames[place as usize];
+    frame.live = false;
+    let block = frame.block as usize;
+    if block < heads.len() {
+        frame.next = heads[block];
+        heads[block] = place;
+    }
+}
+
+/// What is entered.
+#[derive(Clone, Copy, Debug)]
+pub struct Entry {
+    /// The number in the order of entry.
+    pub number: u64,
+    /// The block.
+    pub block: u32,
+    /// Its level.
+    pub level: u32,
+    /// The frame of its textual encloser, which the program's block lacks.
+    pub parent: Option<FrameRef>,
+    /// Whether it is a sub-block or procedure whose text has no class declaration and no prefixed block.
+    pub passing: bool,
+}
+
+/// A frame enters a region that is free. Its cells have what lies there: `set_free` puts it there before.
+#[inline(always)]
+pub fn enter(frames: &mut [Frame], place: usize, entry: Entry)
+    requires there { place < length frames.old }
+    requires free { (frame_at frames.old place).live ≡ false }
+    ensures stacks { rooms frames.new ≡ rooms frames.old }
+    ensures holds { (cells : List Slot) (m : Frames) (standing : Standing Activation) → Holds frames.old cells m → entry.number ≡ length m.instances → ((r : FrameRef) → entry.parent ≡ Some r → Leads frames.old m r) →
+        let region = frame_at frames.old place in
+        Holds frames.new cells (entered m (record { text = entry.block; level = entry.level; encloser = number_in entry.parent; cells = cells_at cells region.base region.cells; passing = entry.passing; kept = false; given_back = false }) standing) }
+{
+    let frame = &mut frames[place];
+    frame.live = true;
+    frame.number = entry.number;
+    frame.block = entry.block;
+    frame.level = entry.level;
+    frame.parent = entry.parent;
+    frame.passing = entry.passing;
+    frame.kept = false;
+}
+
+/// Puts a value into a cell, where its frame was not given back and has such a cell.
+#[inline(always)]
+pub fn set_cell(frames: &[Frame], cells: &mut [Slot], at: FrameRef, cell: u32, slot: Slot) -> bool
+    ensures { (m : Frames) → Holds frames.now cells.old m → Leads frames.now m at → SlotLeads frames.now m slot → cell_value slot ≡ Some (value_of slot) →
+        HoldsAfter result frames.now cells.new (cell_set m at.stamp cell (value_of slot)) }
+{
+    let Some(place) = find(frames, at) else {
+        return false;
+    };
+    let frame = &frames[place];
+    if cell >= frame.cells {
+        return false;
+    }
+    let k = frame.base as usize + cell as usize;
+    if k >= cells.len() {
+        return false;
+    }
+    cells[k] = slot;
+    true
+}
+
+/// Puts a value, or none, into a cell of a region that is free, where it has such a cell.
+#[inline(always)]
+pub fn set_free(frames: &[Frame], cells: &mut [Slot], place: usize, cell: u32, slot: Slot) -> bool
+    requires there { place < length frames.now }
+    requires free { (frame_at frames.now place).live ≡ false }
+    ensures holds { (m : Frames) → Holds frames.now cells.old m → SlotLeads frames.now m slot → Holds frames.now cells.new m }
+    ensures written { (m : Frames) → Holds frames.now cells.old m → result ≡ nat_lt cell (frame_at frames.now place).cells }
+    ensures cells { result ≡ true → let region = frame_at frames.now place in cells_at cells.new region.base region.cells ≡ slice_set (cells_at cells.old region.base region.cells) cell (cell_value slot) }
+{
+    let frame = &frames[place];
+    if cell >= frame.cells {
+        return false;
+    }
+    let k = frame.base as usize + cell as usize;
+    if k >= cells.len() {
+        return false;
+    }
+    cells[k] = slot;
+    true
+}
+
+/// Keeps the frame in a region, so that it is not given back at its end.
+#[inline(always)]
+pub fn keep(frames: &mut [Frame], place: usize)
+    requires there { place < length frames.old }
+    requires live { (frame_at frames.old place).live ≡ true }
+    ensures stacks { rooms frames.new ≡ rooms frames.old }
+    ensures holds { (cells : List Slot) (m : Frames) → Holds frames.old cells m →
+        let frame = frame_at frames.old place in
+        Holds frames.new cells (with_instance m frame.number (record (instance_of cells frame) { kept = true })) }
+{
+    frames[place].kept = true;
+}

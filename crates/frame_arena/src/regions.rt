@@ -1,0 +1,95 @@
+//! New regions for frames.
+ghost use Rattle.std.specs.Prelude.{◌≡◌, ◌+◌, ◌<◌, ℕ, List, IfOk, IfSome, Some, length, slice_get, false};
+ghost use Rattle.sim_code.specs.Machine.{Frames};
+ghost use Rattle.frame_arena.specs.declared.frames.Frame.{Frame};
+ghost use Rattle.frame_arena.specs.Frames.{Holds, frame_at, HasShape, Laid, rooms};
+
+use crate::frames::Frame;
+use crate::slot::{EMPTY, Slot};
+use std::alloc::AllocError;
+
+// As many slots more, none of which has a value.
+fn grow(slots: &mut Vec<Slot>, count: u32) -> Result<(), AllocError>
+    ensures long { IfOk result (λ _. length slots.new.items ≡ length slots.old.items + count) }
+    ensures holds { IfOk result (λ _. (frames : List Frame) (m : Frames) → Holds frames slots.old.items m → Holds frames slots.new.items m) }
+{
+    for _ in 0..count {
+        slots.push(EMPTY)?;
+    }
+    Ok(())
+}
+
+/// A new region that is free, with as many cells and as much room for operands. It answers its place, or want of memory, as where
+/// there would be 2^32 cells or operands.
+pub fn add_region(
+    frames: &mut Vec<Frame>,
+    cells: &mut Vec<Slot>,
+    stacks: &mut Vec<Slot>,
+    count: u32,
+    room: u32,
+) -> Result<usize, AllocError>
+    ensures place { IfOk result (λ place. place ≡ length frames.old.items) }
+    ensures more { IfOk result (λ place. length frames.new.items ≡ place + 1) }
+    ensures free { IfOk result (λ place. (frame_at frames.new.items place).live ≡ false) }
+    ensures cells { IfOk result (λ place. (frame_at frames.new.items place).cells ≡ count) }
+    ensures room { IfOk result (λ place. (frame_at frames.new.items place).room ≡ room) }
+    ensures operands { IfOk result (λ place. (frame_at frames.new.items place).floor + room ≡ length stacks.new.items) }
+    ensures holds { IfOk result (λ place. (m : Frames) → Holds frames.old.items cells.old.items m → Holds frames.new.items cells.new.items m) }
+    ensures stacks { IfOk result (λ place. Laid 0 (rooms frames.old.items) (length stacks.old.items) → Laid 0 (rooms frames.new.items) (length stacks.new.items)) }
+{
+    let Ok(base) = u32::try_from(cells.len()) else {
+        return Err(AllocError);
+    };
+    let Ok(floor) = u32::try_from(stacks.len()) else {
+        return Err(AllocError);
+    };
+    let place = frames.len();
+    grow(cells, count)?;
+    grow(stacks, room)?;
+    frames.push(Frame {
+        live: false,
+        number: 0,
+        block: 0,
+        level: 0,
+        parent: None,
+        passing: false,
+        kept: false,
+        base,
+        cells: count,
+        floor,
+        room,
+        next: 0,
+    })?;
+    Ok(place)
+}
+
+/// Takes a region out of the list of those of a block that are free, if there is one with as many cells and as much room. `heads`
+/// has for each block the place of the region that was given back last.
+#[inline(always)]
+pub fn take_free(
+    frames: &[Frame],
+    heads: &mut [u32],
+    block: u32,
+    cells: u32,
+    room: u32,
+) -> Option<usize>
+    ensures there { IfSome result (λ place. place < length frames.now) }
+    ensures free { IfSome result (λ place. (frame_at frames.now place).live ≡ false) }
+    ensures shape { IfSome result (λ place. HasShape (frame_at frames.now place) cells room) }
+    ensures first { (place : ℕ) → slice_get heads.old block ≡ Some place → place < length frames.now → (frame_at frames.now place).live ≡ false →
+        HasShape (frame_at frames.now place) cells room → result ≡ Some place }
+{
+    if block as usize >= heads.len() {
+        return None;
+    }
+    let place = heads[block as usize] as usize;
+    if place >= frames.len() {
+        return None;
+    }
+    let frame = &frames[place];
+    if frame.live || frame.cells != cells || frame.room != room {
+        return None;
+    }
+    heads[block as usize] = frame.next;
+    Some(place)
+}
