@@ -18,7 +18,7 @@ rank-le s = at_most s.endfile
     at_most false = omega arith
 
 -- `inimage`, at what its tests say
-abbrev line_step : Bool → Bool → Bool → InputState → InputStep (Unit {0})
+abbrev pub line_step : Bool → Bool → Bool → InputState → InputStep (Unit {0})
 line_step ended none long s =
     cond ended (refuses s InputAtEnd)
     (cond none (answers (filled s (25 ∷ []) true []) tt)

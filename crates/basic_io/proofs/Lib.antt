@@ -1,3 +1,4 @@
+pub mod CharacterReads
 pub mod ImageFrames
 pub mod InputLines
 pub mod ItemReads
@@ -11,3 +12,4 @@ pub mod OutputPlacing
 pub mod OutputTexts
 pub mod TextReads
 pub mod TextSteps
+pub mod Stopping

@@ -8,15 +8,15 @@ use Rattle.sim_base.specs.declared.run_error.RunError.{RunError}
 use Rattle.sim_base.specs.declared.run_error.RunError.TheVariants.{TextIsConstant}
 use Rattle.sim_values.specs.declared.value.TextVal.{TextVal}
 use Rattle.sim_values.specs.Texts.{Frame, IsText, KeepsTexts, SameBut, TextStep, at_position, blanks, done, frame_at, new_text, notext, outcome, putchar, putchar_refusal, unless, with_character, with_new}
-use Rattle.sim_values.specs.Words.{text_words}
+use Rattle.sim_values.specs.Words.{count_from, text_words}
 use Rattle.text_objects.specs.Making.{Makes}
 use Rattle.sim_values.specs.Images.{InputState, InputStep, answers, characters_read, go_on, inchar, with_frames}
 use Rattle.basic_io.specs.declared.fault.IoFault.{IoFault}
 use Rattle.basic_io.specs.declared.fault.IoFault.TheVariants as fault
 use Rattle.basic_io.specs.declared.fault.IntextFault.{IntextFault}
 use Rattle.basic_io.specs.declared.fault.IntextFault.TheVariants.{NotRead}
-use Rattle.basic_io.specs.Intext.{ReadsText}
-use Rattle.basic_io.specs.Image.{IsImage}
+use Rattle.basic_io.specs.Intext.{ReadsText, holds_characters}
+use Rattle.basic_io.specs.Image.{IsImage, SameButBoth}
 use Rattle.basic_io.specs.Input.{Answers, HeldInput, IsTarget, Performs, Reading, Told, WantsCharacter, WantsInText, input_state, reading}
 use Rattle.basic_io.specs.Input.WantsInText.{for_next, for_later}
 use Rattle.basic_io.proofs.InputLines.{told_as, told_then}
@@ -200,6 +200,14 @@ new_length old m t is some = at (m == 0) refl
     at true e = absurd (some (ap (λ (u : TextVal). u.length) is ∙ ap (λ (b : Bool). (cond b notext (record { text_frame = length old; start = 1; length = m; pos = 1 })).length) e))
     at false e = ap (λ (u : TextVal). u.length) is ∙ ap (λ (b : Bool). (cond b notext (record { text_frame = length old; start = 1; length = m; pos = 1 })).length) e
 
+-- and lies in a new frame
+in_new_frame : (old : List Frame) (m : ℕ) (t : TextVal) → t ≡ new_text old m → (t.length ≡ 0 → ⊥) → t.text_frame ≡ length old
+in_new_frame old m t is some = at (m == 0) refl
+  where
+    at : (b : Bool) → (m == 0) ≡ b → t.text_frame ≡ length old
+    at true e = absurd (some (ap (λ (u : TextVal). u.length) is ∙ ap (λ (b : Bool). (cond b notext (record { text_frame = length old; start = 1; length = m; pos = 1 })).length) e))
+    at false e = ap (λ (u : TextVal). u.text_frame) is ∙ ap (λ (b : Bool). (cond b notext (record { text_frame = length old; start = 1; length = m; pos = 1 })).text_frame) e
+
 abbrev pub as_text : TextVal → Result (Unit {0}) IoFault → Result TextVal IntextFault
 as_text t (Ok d) = Ok t
 as_text t (Err x) = Err (NotRead x)
@@ -236,3 +244,17 @@ text_outcome n z room old new i source t after r same made some did =
     let at_frames : P m (new_text old m) (with_new old (replicate m 32)) = subst (P m (new_text old m)) b.frames at_text in
     let done = from_characters m room s q r b.fits at_frames in
     subst (λ (z : ℤ). ReadsText z room s (as_text t r) q) (sym b.is) (subst (λ (u : TextVal). ReadsText (pos m) room s (as_text u r) q) (sym b.text) done))
+
+-- what is held is enough for the text that was made
+pub held_for_text : (n z : ℤ) (room : ℕ) (old new : List Frame) (t : TextVal) (i : HeldInput) → z ≡ n → Makes (blanks old z) room old new (Ok t) → (t.length ≡ 0 → ⊥) → holds_characters (count_from n) i ≡ true → holds_characters t.length i ≡ true
+held_for_text n z room old new t i same made some enough =
+    let b = text_begins n room old new t (subst (λ (k : ℤ). Makes (blanks old k) room old new (Ok t)) same made) in
+    let count : holds_characters b.count i ≡ true = ap (λ (k : ℤ). holds_characters (count_from k) i) (sym b.is) ∙ enough in
+    ap (λ (k : ℕ). holds_characters k i) (new_length old b.count t b.text some) ∙ count
+
+-- no frame but the new one and that of the image has changed
+pub others_stay : (n z : ℤ) (room : ℕ) (old mid new : List Frame) (image t : TextVal) → z ≡ n → Makes (blanks old z) room old mid (Ok t) → (t.length ≡ 0 → ⊥)
+    → SameBut (length old) old mid → SameButBoth t.text_frame image.text_frame mid new → SameButBoth (length old) image.text_frame old new
+others_stay n z room old mid new image t same made some first then k fresh other =
+    let b = text_begins n room old mid t (subst (λ (j : ℤ). Makes (blanks old j) room old mid (Ok t)) same made) in
+    then k (λ e. fresh (e ∙ in_new_frame old b.count t b.text some)) other ∙ first k fresh

@@ -2,7 +2,7 @@
 -- run-time error of its definition, and has left what that leaves; or the source has failed, and all stands where the definition
 -- wants another image. Which bytes are left of the source is said where it tells them; of a source that tells nothing each outcome
 -- holds for some bytes. Nothing is read while a line is held, or the end.
-use Rattle.std.specs.Prelude.{◌≡◌, ◌≢◌, ◌≤◌, ℕ, suc, ◌+◌, Bool, true, false, ◌||◌, nat_le, List, [], ◌++◌, length, Option, Some, None, IsSome, Result, Ok, Err, if◌then◌else◌}
+use Rattle.std.specs.Prelude.{◌≡◌, ◌≢◌, ◌≤◌, ℕ, suc, ◌+◌, Bool, true, false, not, ◌||◌, nat_le, List, [], ◌++◌, length, Option, Some, None, IsSome, Result, Ok, Err, if◌then◌else◌}
 use Rattle.std.specs.List.{list_any}
 use Rattle.sim_ports.specs.Faults.{Rose}
 use Rattle.sim_base.specs.declared.run_error.RunError.{RunError}
@@ -53,6 +53,14 @@ abbrev pub DoneWithin : {A : Type 0} → (InputState → InputStep A) → List F
 DoneWithin step frames i new next result =
     let done = step (input_state frames i []) in
     (result ≡ as_answer done.answer) × (new ≡ done.after.frames) × (next ≡ held_after i done.after)
+
+-- The next character is in the image, or nothing is read for the image that it is in.
+abbrev pub holds_character : HeldInput → Bool
+holds_character i = not (is_used_up i.image) || needs_no_byte i
+
+-- an input behind the next character of what it holds, or as it was where that is refused; it does not matter which texts there are
+abbrev pub behind_character : HeldInput → HeldInput
+behind_character i = held_after i (inchar (input_state [] i [])).after
 
 -- What is held is enough for `lastitem`: with no byte more it comes to the end, to an item, or over a line that is held to a
 -- refusal or to an image of which the same holds.

@@ -1,5 +1,5 @@
 -- Reading a text: what `intext` may answer.
-use Rattle.std.specs.Prelude.{◌≡◌, ◌≤◌, ◌<◌, ℕ, ℤ, pos, negsuc, replicate, Result, Ok, Err}
+use Rattle.std.specs.Prelude.{◌≡◌, ◌≤◌, ◌<◌, ℕ, zero, suc, Bool, true, ◌&&◌, ℤ, pos, negsuc, replicate, Result, Ok, Err}
 use Rattle.sim_values.specs.declared.value.TextVal.{TextVal}
 use Rattle.sim_values.specs.Texts.{new_text, with_new}
 use Rattle.sim_values.specs.Images.{InputState, intext, with_frames}
@@ -7,7 +7,12 @@ use Rattle.text_objects.specs.declared.fault.TextFault.TheVariants as making
 use Rattle.basic_io.specs.declared.fault.IoFault.TheVariants as fault
 use Rattle.basic_io.specs.declared.fault.IntextFault.{IntextFault}
 use Rattle.basic_io.specs.declared.fault.IntextFault.TheVariants.{NoText, NotRead}
-use Rattle.basic_io.specs.Input.{InputCause, WantsInText}
+use Rattle.basic_io.specs.Input.{HeldInput, InputCause, WantsInText, behind_character, holds_character}
+
+-- What is held is enough for n characters: with no byte more they are read, or one of them is refused.
+abbrev pub holds_characters : ℕ → HeldInput → Bool
+holds_characters zero i = true
+holds_characters (suc n) i = holds_character i && holds_characters n (behind_character i)
 
 -- the text is made, and then another image is wanted for one of its characters
 abbrev pub WantsText : ℤ → InputState → InputState → Type 0

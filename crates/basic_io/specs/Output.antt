@@ -3,7 +3,7 @@
 -- writes an image, of whose line the sink got some first bytes.
 use Rattle.std.specs.Prelude.{◌≡◌, ◌≤◌, ◌<◌, ℕ, ◌+◌, Bool, true, false, nat_lt, List, [], ◌++◌, take, Option, Result, Ok, Err, if◌then◌else◌}
 use Rattle.std.specs.Io.KnownBytes.{Appends}
-use Rattle.sim_ports.specs.Faults.{Rose}
+use Rattle.sim_ports.specs.Faults.{Rose, StopsAt}
 use Rattle.sim_base.specs.declared.run_error.RunError.{RunError}
 use Rattle.sim_values.specs.Images.{OutputState, is_used_up, left_justified, outchars, outimage, with_room}
 use Rattle.sim_values.specs.Texts.{Frame, right_justified}
@@ -70,3 +70,10 @@ OutputCause before now (Ok a) = now ≡ before
 OutputCause before now (Err (fault.Run e)) = now ≡ before
 OutputCause before now (Err fault.WriteFault) = (before ≤ now) × Rose before now
 OutputCause before now (Err fault.InputFault) = ⊥
+
+-- where the call answered a fault of the output nothing was written after the write that failed
+abbrev pub OutputStops : {S A : Type 0} → (S → Option (List ℕ)) → (S → ℕ) → S → S → Result A IoFault → Type 0
+OutputStops written faults old new (Ok a) = Unit {0}
+OutputStops written faults old new (Err (fault.Run e)) = Unit {0}
+OutputStops written faults old new (Err fault.InputFault) = Unit {0}
+OutputStops written faults old new (Err fault.WriteFault) = StopsAt written faults old new

@@ -1,9 +1,9 @@
 //! The image of an input.
 ghost use Rattle.std.specs.Prelude.{◌≡◌, ◌+◌, ◌≤◌, ◌<◌, ◌∷◌, [], ◌++◌, true, false, length, replicate, IfOk, OnOk, OnErr};
-ghost use Rattle.sim_values.specs.Images.{inchar, inimage, inimage_if_used_up, is_used_up};
+ghost use Rattle.sim_values.specs.Images.{inchar, inimage, inimage_if_used_up};
 ghost use Rattle.sim_values.specs.Texts.{KeepsTexts, SameBut, at_position};
 ghost use Rattle.basic_io.specs.Image.{IsImage};
-ghost use Rattle.basic_io.specs.Input.{DoneWithin, InputCause, Performs, WantsCharacter, WantsImage, images_left, needs_no_byte, reading};
+ghost use Rattle.basic_io.specs.Input.{DoneWithin, InputCause, Performs, WantsCharacter, WantsImage, holds_character, images_left, needs_no_byte, reading};
 
 use crate::fault::IoFault;
 use crate::image::fill;
@@ -130,8 +130,8 @@ impl InImage {
         ensures outcome { Performs inimage_if_used_up WantsCharacter (reading texts.old self.old (I.left input.old)) (reading texts.new self.new (I.left input.new)) result }
         ensures more { OnOk result (self.new.image.pos ≤ self.new.image.length) }
         ensures cause { InputCause (I.faults input.old) (I.faults input.new) result }
-        ensures unread { is_used_up self.old.image ≡ false → input.new ≡ input.old }
-        ensures unread_line { needs_no_byte self.old ≡ true → input.new ≡ input.old }
+        ensures unread { holds_character self.old ≡ true → input.new ≡ input.old }
+        ensures within { holds_character self.old ≡ true → DoneWithin inimage_if_used_up texts.old self.old texts.new self.new result }
         ensures wanted { result ≡ Err IoFault.InputFault → needs_no_byte self.new ≡ false }
         ensures valid { IsImage texts.new self.new.image }
         ensures same { self.new.image ≡ at_position self.old.image self.new.image.pos }
@@ -150,8 +150,10 @@ impl InImage {
         requires image { IsImage texts.old self.old.image }
         ensures outcome { Performs inchar WantsCharacter (reading texts.old self.old (I.left input.old)) (reading texts.new self.new (I.left input.new)) result }
         ensures cause { InputCause (I.faults input.old) (I.faults input.new) result }
-        ensures unread { is_used_up self.old.image ≡ false → input.new ≡ input.old }
-        ensures unread_line { needs_no_byte self.old ≡ true → input.new ≡ input.old }
+
+        // Nothing is read where the character is in the image, or while a line is held, or the end.
+        ensures unread { holds_character self.old ≡ true → input.new ≡ input.old }
+        ensures within { holds_character self.old ≡ true → DoneWithin inchar texts.old self.old texts.new self.new result }
         ensures wanted { result ≡ Err IoFault.InputFault → needs_no_byte self.new ≡ false }
         ensures valid { IsImage texts.new self.new.image }
         ensures same { self.new.image ≡ at_position self.old.image self.new.image.pos }

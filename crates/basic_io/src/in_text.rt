@@ -1,10 +1,12 @@
 //! Texts read from an input.
-ghost use Rattle.std.specs.Prelude.{◌≡◌, ◌≤◌, false, IfOk};
+ghost use Rattle.std.specs.Prelude.{◌≡◌, ◌≤◌, true, false, length, IfOk};
 ghost use Rattle.sim_values.specs.Images.{characters_read};
+ghost use Rattle.sim_values.specs.Words.{count_from};
+ghost use Rattle.text_objects.specs.declared.fault.TextFault.{TextFault as AnyFault};
 ghost use Rattle.sim_values.specs.Texts.{IsText, KeepsTexts, at_position};
 ghost use Rattle.basic_io.specs.Image.{IsImage, SameButBoth};
 ghost use Rattle.basic_io.specs.Input.{InputCause, IsTarget, Performs, Told, WantsInText, input_state, needs_no_byte, reading};
-ghost use Rattle.basic_io.specs.Intext.{IntextCause, ReadsText};
+ghost use Rattle.basic_io.specs.Intext.{IntextCause, ReadsText, holds_characters};
 
 use crate::fault::{IntextFault, IoFault};
 use crate::in_image::InImage;
@@ -26,11 +28,16 @@ impl InImage {
         requires room { room ≤ 50000000 }
         ensures outcome { Told (I.left input.old) (I.left input.new) (λ before now. ReadsText n room (input_state texts.old self.old before) result (input_state texts.new self.new now)) }
         ensures cause { IntextCause (I.faults input.old) (I.faults input.new) result }
+
+        // Nothing is read where what is held is enough. Where no text was made nothing has changed at all.
+        ensures unread { holds_characters (count_from n) self.old ≡ true → input.new ≡ input.old }
+        ensures untouched { (x : AnyFault) → result ≡ Err (IntextFault.NoText x) → (texts.new ≡ texts.old) × (self.new ≡ self.old) × (input.new ≡ input.old) }
         ensures wanted { result ≡ Err (IntextFault.NotRead IoFault.InputFault) → needs_no_byte self.new ≡ false }
         ensures valid { IsImage texts.new self.new.image }
         ensures text { IfOk result (IsText texts.new) }
         ensures same { self.new.image ≡ at_position self.old.image self.new.image.pos }
         ensures keeps { KeepsTexts texts.old texts.new }
+        ensures others { SameButBoth (length texts.old) self.old.image.text_frame texts.old texts.new }
     {
         let text = texts.blanks(n, room)?;
         if text.length == 0 {
@@ -52,6 +59,7 @@ impl InImage {
         requires begun { text.pos ≡ 1 }
         ensures outcome { Performs (characters_read text.length text) (WantsInText text.length text) (reading texts.old self.old (I.left input.old)) (reading texts.new self.new (I.left input.new)) result }
         ensures cause { InputCause (I.faults input.old) (I.faults input.new) result }
+        ensures unread { holds_characters text.length self.old ≡ true → input.new ≡ input.old }
         ensures wanted { result ≡ Err IoFault.InputFault → needs_no_byte self.new ≡ false }
         ensures valid { IsImage texts.new self.new.image }
         ensures same { self.new.image ≡ at_position self.old.image self.new.image.pos }

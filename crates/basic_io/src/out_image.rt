@@ -4,7 +4,7 @@ ghost use Rattle.std.specs.Fmt.{signed_decimal};
 ghost use Rattle.sim_values.specs.Images.{all_placed, integer_field, is_used_up, outchar, outimage, outint, outtext, with_room};
 ghost use Rattle.sim_values.specs.Texts.{IsText, KeepsTexts, SameBut, at_position};
 ghost use Rattle.basic_io.specs.Image.{IsImage};
-ghost use Rattle.basic_io.specs.Output.{OutputCause, Performs, WritesInText, field, lacks_room, output_state, writing};
+ghost use Rattle.basic_io.specs.Output.{OutputCause, OutputStops, Performs, WritesInText, field, lacks_room, output_state, writing};
 
 use crate::fault::IoFault;
 use crate::image::fill;
@@ -65,6 +65,7 @@ impl OutImage {
         ensures outcome { let s = output_state texts.old self.old in
             Performs (Ok (outimage s)) (λ r. r ≡ s) (writing texts.old self.old (O.written out.old)) (writing texts.new self.new (O.written out.new)) result }
         ensures cause { OutputCause (O.faults out.old) (O.faults out.new) result }
+        ensures stops { OutputStops O.written O.faults out.old out.new result }
         ensures valid { IsImage texts.new self.new }
         ensures same { self.new ≡ at_position self.old self.new.pos }
         ensures keeps { KeepsTexts texts.old texts.new }
@@ -83,6 +84,7 @@ impl OutImage {
         ensures outcome { let s = output_state texts.old self.old in
             Performs (Ok (outchar s c)) (λ r. (is_used_up s.image ≡ true) × (r ≡ s)) (writing texts.old self.old (O.written out.old)) (writing texts.new self.new (O.written out.new)) result }
         ensures cause { OutputCause (O.faults out.old) (O.faults out.new) result }
+        ensures stops { OutputStops O.written O.faults out.old out.new result }
         ensures valid { IsImage texts.new self.new }
         ensures same { self.new ≡ at_position self.old self.new.pos }
         ensures keeps { KeepsTexts texts.old texts.new }
@@ -106,15 +108,17 @@ impl OutImage {
         ensures outcome { let s = output_state texts.old self.old in
             Performs (Ok (with_room s count)) (λ r. (lacks_room s count ≡ true) × (r ≡ s)) (writing texts.old self.old (O.written out.old)) (writing texts.new self.new (O.written out.new)) result }
         ensures cause { OutputCause (O.faults out.old) (O.faults out.new) result }
+        ensures stops { OutputStops O.written O.faults out.old out.new result }
         ensures valid { IsImage texts.new self.new }
         ensures same { self.new ≡ at_position self.old self.new.pos }
         ensures keeps { KeepsTexts texts.old texts.new }
         ensures others { SameBut self.old.text_frame texts.old texts.new }
     {
         if u64::from(self.image.pos) + u64::from(count) > u64::from(self.image.length) + 1 {
-            self.outimage(texts, out)?;
+            self.outimage(texts, out)
+        } else {
+            Ok(())
         }
-        Ok(())
     }
 
     /// `outtext(t)`: writes the characters of a text, each read when it is written; `outimage` first where the position is above
@@ -130,6 +134,7 @@ impl OutImage {
         ensures outcome { let s = output_state texts.old self.old in
             Performs (Ok (outtext s t)) (WritesInText s t) (writing texts.old self.old (O.written out.old)) (writing texts.new self.new (O.written out.new)) result }
         ensures cause { OutputCause (O.faults out.old) (O.faults out.new) result }
+        ensures stops { OutputStops O.written O.faults out.old out.new result }
         ensures valid { IsImage texts.new self.new }
         ensures same { self.new ≡ at_position self.old self.new.pos }
         ensures keeps { KeepsTexts texts.old texts.new }
@@ -195,6 +200,7 @@ impl OutImage {
         ensures outcome { let s = output_state texts.old self.old in
             Performs (outint s i width) (λ r. (lacks_room s (length (integer_field i width)) ≡ true) × (r ≡ s)) (writing texts.old self.old (O.written out.old)) (writing texts.new self.new (O.written out.new)) result }
         ensures cause { OutputCause (O.faults out.old) (O.faults out.new) result }
+        ensures stops { OutputStops O.written O.faults out.old out.new result }
         ensures valid { IsImage texts.new self.new }
         ensures same { self.new ≡ at_position self.old self.new.pos }
         ensures keeps { KeepsTexts texts.old texts.new }

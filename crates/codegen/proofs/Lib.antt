@@ -1,1 +1,16 @@
 pub mod Worked
+pub mod Named
+pub mod Cells
+pub mod Cycles
+pub mod Rest
+pub mod Statements
+pub mod Sides
+pub mod Elements
+pub mod Holes
+pub mod Shares
+pub mod Turns
+pub mod Heads
+pub mod Declared
+pub mod Walked
+pub mod Tests
+pub mod Whole

@@ -1,5 +1,5 @@
 -- Which code stands for the array declarations of a block, at its entry.
-use Rattle.std.specs.Prelude.{◌≡◌, ℕ, suc, ℤ, pos, List, [], ◌∷◌, length, Option, Some, None}
+use Rattle.std.specs.Prelude.{◌≡◌, ◌<◌, ℕ, suc, ℤ, pos, List, [], ◌∷◌, length, Option, Some, None}
 use Rattle.sim_base.specs.declared.numbering.DeclNo.{DeclNo}
 use Rattle.sim_scope.specs.Source.{Source, level_of, line_at}
 use Rattle.sim_tree.specs.declared.expr.Identifier.{Identifier}
@@ -10,7 +10,7 @@ use Rattle.sim_code.specs.declared.instr.Instr.TheVariants as i
 use Rattle.sim_code.specs.Code.{CodeOf}
 use Rattle.sim_meaning.specs.Pending.{Declared}
 use Rattle.sim_meaning.specs.Texts.{declared_at, kind_named}
-use Rattle.codegen_expr.specs.Sites.{At, Is, Pushes, Site, slot_of}
+use Rattle.codegen_expr.specs.Sites.{At, HasCell, Is, Pushes, Site, slot_of}
 use Rattle.codegen_expr.specs.CodeExpr.{ExprAt}
 
 abbrev pub element_number : Kind → ℤ
@@ -23,11 +23,11 @@ element_number kind.Reference = pos 5
 -- the array on top goes into the cell of its declaration
 abbrev pub KeepsArray : Source → CodeOf → Site → Option DeclNo → ℕ → ℕ → Type 0
 KeepsArray s code site None p q = ⊥
-KeepsArray s code site (Some d) p q = Is code (i.Store (pos (level_of s site.text)) (pos (slot_of s site.text (Declared d.0)))) p q
+KeepsArray s code site (Some d) p q = HasCell s site.text (Declared d.0) × Is code (i.Store (pos (level_of s site.text)) (pos (slot_of s site.text (Declared d.0)))) p q
 
 abbrev pub LoadsArray : Source → CodeOf → Site → Option DeclNo → ℕ → ℕ → Type 0
 LoadsArray s code site None p q = ⊥
-LoadsArray s code site (Some d) p q = Pushes code site 0 (i.Load (pos (level_of s site.text)) (pos (slot_of s site.text (Declared d.0)))) p q
+LoadsArray s code site (Some d) p q = HasCell s site.text (Declared d.0) × Pushes code site 0 (i.Load (pos (level_of s site.text)) (pos (slot_of s site.text (Declared d.0)))) p q
 
 -- each further array of a segment is a copy of the first one
 abbrev pub FurtherAt : Source → CodeOf → Site → (first : Option DeclNo) → List Identifier → ℕ → ℕ → Type 0
@@ -39,7 +39,7 @@ FurtherAt s code site first (x ∷ xs) p q =
 abbrev pub MakesAt : Source → CodeOf → Site → Kind → (dimensions : ℕ) → List Identifier → ℕ → ℕ → Type 0
 MakesAt s code site kind n [] p q = ⊥
 MakesAt s code site kind n (x ∷ xs) p q =
-    (a : ℕ) × (b : ℕ) × At code (i.Array (element_number kind) (pos n)) (line_at s x.token.0) p a × KeepsArray s code site (declared_at s x.token.0) a b × FurtherAt s code site (declared_at s x.token.0) xs b q
+    (a : ℕ) × (b : ℕ) × (0 < site.room) × At code (i.Array (element_number kind) (pos n)) (line_at s x.token.0) p a × KeepsArray s code site (declared_at s x.token.0) a b × FurtherAt s code site (declared_at s x.token.0) xs b q
 
 -- n values are on the stack: the bounds before these
 abbrev pub BoundsAt : Source → CodeOf → Site → ℕ → List BoundPair → (End : ℕ → ℕ → Type 0) → ℕ → ℕ → Type 0

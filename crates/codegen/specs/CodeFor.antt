@@ -3,12 +3,12 @@ use Rattle.std.specs.Prelude.{◌≡◌, ◌<◌, ◌≤◌, ℕ, suc, Bool, tru
 use Rattle.sim_scope.specs.Source.{Source, level_of, line_at}
 use Rattle.sim_tree.specs.declared.stmt.Assignment.{Assignment}
 use Rattle.sim_tree.specs.declared.stmt.Assignment.TheVariants as assignment
-use Rattle.sim_tree.specs.Syntax.{Also, Begin, Block, Declarations, Element, Expression, Expressions, NoDeclaration, NoMore, NoStatement, RightSide, Statement, Statements, Then, With}
+use Rattle.sim_tree.specs.Syntax.{Element, Expression, Statement}
 use Rattle.sim_tree.specs.Syntax as syntax
 use Rattle.sim_code.specs.declared.instr.Instr.TheVariants as i
 use Rattle.sim_code.specs.Code.{CodeOf}
 use Rattle.sim_meaning.specs.Pending.{Key}
-use Rattle.codegen_expr.specs.Sites.{Ahead, At, Inside, Is, Pushes, Site, slot_of}
+use Rattle.codegen_expr.specs.Sites.{Ahead, At, HasCell, Inside, Is, Pushes, Site, slot_of}
 use Rattle.codegen_expr.specs.CodeExpr.{ExprAt}
 use Rattle.codegen.specs.CodeLeft.{InCell, Stored}
 
@@ -123,9 +123,9 @@ ReturnsAt s code site n temp k [] p q = ⊥
 ReturnsAt s code site n temp k (r ∷ []) p q = Is code (i.Jump (pos r)) p q × Ahead code p r
 ReturnsAt s code site n temp k (r ∷ r2 ∷ rs) p q = (x : ℕ) × ReturnAt s code site n temp k r p x × ReturnsAt s code site n temp (suc k) (r2 ∷ rs) x q
 
-pub record SharedAt (s : Source) (code : CodeOf) (site : Site) (n : ℕ) (v : Variable) (es : List Element) (Body : ℕ → ℕ → Type 0) (p q : ℕ) : Type 0 where
+pub record SharedAt (s : Source) (code : CodeOf) (site : Site) (n : ℕ) (v : Variable) (es : List Element) (Body : Site → ℕ → ℕ → Type 0) (p q : ℕ) : Type 0 where
   pub temp : ℕ
-  pub outside : site.cells ≤ temp
+  pub outside : site.used ≤ temp
   pub within : temp < site.size
   pub returns : List ℕ
   pub as_many : length returns ≡ length es
@@ -136,7 +136,7 @@ pub record SharedAt (s : Source) (code : CodeOf) (site : Site) (n : ℕ) (v : Va
   pub over : Is code (i.Jump (pos first)) p start
   pub leads : Ahead code p first
   pub tick : Is code i.Tick start u
-  pub body : Body start d
+  pub body : Body (record site { used = suc temp }) start d
   pub back : ReturnsAt s code site n temp 0 returns d first
   pub elements : ElementsAt s code site n v 0 es (TurnAt s code site n temp start returns) first q
 
@@ -145,11 +145,11 @@ is_empty (syntax.Empty token) = true
 is_empty _ = false
 
 -- one element, or an empty statement, needs no shared code
-abbrev pub ListAt : Source → CodeOf → Site → ℕ → Variable → (empty : Bool) → List Element → (Body : ℕ → ℕ → Type 0) → ℕ → ℕ → Type 0
-ListAt s code site n v empty (e ∷ []) Body p q = OneElementAt s code site n v e Body p q
-ListAt s code site n v true es Body p q = ElementsAt s code site n v 0 es (λ k. Body) p q
+abbrev pub ListAt : Source → CodeOf → Site → ℕ → Variable → (empty : Bool) → List Element → (Body : Site → ℕ → ℕ → Type 0) → ℕ → ℕ → Type 0
+ListAt s code site n v empty (e ∷ []) Body p q = OneElementAt s code site n v e (Body site) p q
+ListAt s code site n v true es Body p q = ElementsAt s code site n v 0 es (λ k. Body site) p q
 ListAt s code site n v false es Body p q = SharedAt s code site n v es Body p q
 
-abbrev pub ForAt : Source → CodeOf → Site → ℕ → Assignment → Stored → (empty : Bool) → List Element → (Body : ℕ → ℕ → Type 0) → ℕ → ℕ → Type 0
-ForAt s code site n assignment.Value (InCell text key) empty es Body p q = Inside s.tables site.text text × ListAt s code site n (record { text = text; key = key }) empty es Body p q
+abbrev pub ForAt : Source → CodeOf → Site → ℕ → Assignment → Stored → (empty : Bool) → List Element → (Body : Site → ℕ → ℕ → Type 0) → ℕ → ℕ → Type 0
+ForAt s code site n assignment.Value (InCell text key) empty es Body p q = Inside s.tables site.text text × HasCell s text key × ListAt s code site n (record { text = text; key = key }) empty es Body p q
 ForAt s code site n _ _ empty es Body p q = ⊥

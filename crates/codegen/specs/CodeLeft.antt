@@ -11,13 +11,13 @@ use Rattle.sim_scope.specs.declared.types.Mode.{Mode}
 use Rattle.sim_scope.specs.declared.types.Mode.TheVariants as mode
 use Rattle.sim_scope.specs.Scopes.{entry_of}
 use Rattle.sim_scope.specs.Source.{Source, block_of, denoted, level_of, line_at}
-use Rattle.sim_tree.specs.Syntax.{Also, Begin, Block, Declarations, Element, Expression, Expressions, NoDeclaration, NoMore, NoStatement, RightSide, Statement, Statements, Then, With}
+use Rattle.sim_tree.specs.Syntax.{Expression, Expressions, NoMore, Then}
 use Rattle.sim_tree.specs.Syntax as syntax
 use Rattle.sim_code.specs.declared.instr.Instr.TheVariants as i
 use Rattle.sim_code.specs.Code.{CodeOf}
 use Rattle.sim_meaning.specs.Closing.{is_text}
 use Rattle.sim_meaning.specs.Pending.{Declared, Key, Result}
-use Rattle.codegen_expr.specs.Sites.{Inside, Is, Pushes, Site, slot_of}
+use Rattle.codegen_expr.specs.Sites.{HasCell, Inside, Is, Pushes, Site, slot_of}
 use Rattle.codegen_expr.specs.CodeExpr.{ElementAt, ExprAt, ExprsAt}
 
 -- What a left side is in code: a cell, by its level and its slot; an address on the stack; or not built.
@@ -65,7 +65,7 @@ stored s e = stored_of (is_text s e) s e
 -- the addresses of left sides, from left to right, each on one value more
 abbrev pub LeftsAt : Source → CodeOf → Site → ℕ → List Stored → (end : ℕ → ℕ → ℕ → Type 0) → ℕ → ℕ → Type 0
 LeftsAt s code site n [] End p q = End n p q
-LeftsAt s code site n (InCell text key ∷ rest) End p q = Inside s.tables site.text text × LeftsAt s code site n rest End p q
+LeftsAt s code site n (InCell text key ∷ rest) End p q = Inside s.tables site.text text × HasCell s text key × LeftsAt s code site n rest End p q
 LeftsAt s code site n (AtAddress d es line ∷ rest) End p q =
     (x : ℕ) × ElementAt s code site n line d es (ExprsAt s code site (suc n) es) p x × LeftsAt s code site (suc n) rest End x q
 LeftsAt s code site n (NotBuilt ∷ rest) End p q = ⊥
@@ -81,22 +81,23 @@ addresses [] = 0
 addresses (AtAddress d es line ∷ rest) = suc (addresses rest)
 addresses (_ ∷ rest) = addresses rest
 
--- It goes to several, the last one first, from a temp of its own; m addresses are still on the n values.
+-- how many values are left where one left side has its value: one fewer behind an address
+abbrev pub below : Stored → ℕ → ℕ
+below (AtAddress d es line) (suc n) = n
+below _ n = n
+
+-- It goes to several, the last one first, from a temp of its own; the addresses that still wait are among the n values.
 abbrev pub GivesAt : Source → CodeOf → Site → (temp n : ℕ) → List Stored → ℕ → ℕ → Type 0
 GivesAt s code site temp n [] p q = q ≡ p
 GivesAt s code site temp n (t ∷ rest) p q =
     (x : ℕ) × (y : ℕ) × Pushes code site n (i.Load (pos (level_of s site.text)) (pos temp)) p x × StoreAt s code t x y × GivesAt s code site temp (below t n) rest y q
-  where
-    below : Stored → ℕ → ℕ
-    below (AtAddress d es line) (suc n) = n
-    below _ n = n
 
 -- the value on the right, and where it goes
 pub record SharesAt (s : Source) (code : CodeOf) (site : Site) (n : ℕ) (e : Expression) (ts : List Stored) (p q : ℕ) : Type 0 where
   pub x : ℕ
   pub y : ℕ
   pub temp : ℕ
-  pub behind : site.cells ≤ temp
+  pub behind : site.used ≤ temp
   pub within : temp < site.size
   pub value : ExprAt s code site n e p x
   pub kept : Is code (i.Store (pos (level_of s site.text)) (pos temp)) x y

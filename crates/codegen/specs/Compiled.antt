@@ -1,5 +1,5 @@
 -- Which code stands for a whole program.
-use Rattle.std.specs.Prelude.{◌≡◌, ℕ, zero, suc, pos, List, ◌++◌, length, map, slice_get, Option, Some, None}
+use Rattle.std.specs.Prelude.{◌≡◌, ◌<◌, ℕ, zero, suc, pos, List, ◌++◌, length, map, slice_get, Option, Some, None}
 use Rattle.sim_scope.specs.declared.types.Formal.{Formal}
 use Rattle.sim_scope.specs.declared.types.FormalKind.{FormalKind}
 use Rattle.sim_scope.specs.declared.types.FormalKind.TheVariants as of
@@ -30,6 +30,7 @@ use Rattle.sim_meaning.specs.Pending.{Held, Of, Val}
 use Rattle.sim_meaning.specs.Texts.{BlockText, ConnectionText, ProcedureText, Text as TextOf, is_class_free, text}
 use Rattle.codegen_expr.specs.Sites.{At, Is, Site, cells_in}
 use Rattle.codegen_expr.specs.CodeExpr.{block_number}
+use Rattle.codegen.specs.Agrees.{Agrees}
 use Rattle.codegen.specs.CodeArrays.{ArraysAt}
 use Rattle.codegen.specs.CodeStm.{StmAt, StmsAt}
 
@@ -99,10 +100,11 @@ pub record RecordOf (s : Source) (k : ℕ) (kind : BlockKind) (result_type : Cod
 
 -- where the code of a text stands
 abbrev pub site_of : (text : ℕ) → BlockOf → Site
-site_of k b = record { text = k; room = b.room; cells = b.cells; size = length b.types }
+site_of k b = record { text = k; room = b.room; used = b.cells; size = length b.types }
 
 -- the code of a text from its entry on, up to the instruction that ends it
 pub record BodyOf (code : CodeOf) (Body : ℕ → ℕ → Type 0) (end : Instr) (entry : ℕ) : Type 0 where
+  pub there : entry < length code.instrs
   pub stop : ℕ
   pub body : Body entry stop
   pub last : ℕ
@@ -134,11 +136,12 @@ TextCode s code k (ProcedureText result h a) b = ProcedureTextOf s code k result
 TextCode s code k _ b = ⊥
 
 abbrev pub CodeHas : Source → CodeOf → (text : ℕ) → TextOf → Option BlockOf → Type 0
-CodeHas s code k ConnectionText b = Unit {0}
+CodeHas s code k ConnectionText b = ⊥
 CodeHas s code k x None = ⊥
 CodeHas s code k x (Some b) = TextCode s code k x b
 
--- the code has a block for each text, and the text constants
+-- the tables agree, and the code has a block for each text, and the text constants
 pub record Compiled (s : Source) (code : CodeOf) : Type 0 where
+  pub agrees : Agrees s
   pub texts : code.texts ≡ constants_of s
   pub each : (k : ℕ) (x : TextOf) → text s k ≡ Some x → CodeHas s code k x (slice_get code.blocks (block_number s k))

@@ -1,6 +1,16 @@
 pub mod CodeLeft
 pub mod CodeFor
 pub mod CodeStm
+pub mod Agrees
 pub mod CodeArrays
 pub mod Compiled
 pub mod Examples
+pub mod BuiltProgram
+pub mod EmitLeft
+pub mod Emit
+pub mod EmitArrays
+pub mod EmitSeveral
+pub mod EmitLists
+pub mod EmitShared
+pub mod EmitProgram
+pub mod EmitCode

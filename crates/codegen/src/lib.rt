@@ -1,4 +1,16 @@
-//! Code of programs, as definitions: which code stands for which part of a program.
+//! Code of programs: which code stands for which part of a program, and the compiler that writes it.
 #![tactic(auto)]
 
+mod arrays;
+mod identifiers;
 pub mod laws;
+mod leaves;
+mod left;
+mod lists;
+mod program;
+mod records;
+mod several;
+mod statement;
+mod texts;
+
+pub use program::{Uncompiled, compile};

@@ -7,8 +7,10 @@ use Rattle.sim_code.specs.declared.instr.Instr.{Instr}
 use Rattle.sim_code.specs.declared.instr.Instr.TheVariants as i
 use Rattle.sim_code.specs.declared.instr.Lined.{Lined}
 use Rattle.sim_code.specs.Code.{CodeOf}
+use Rattle.sim_code.specs.Running.{AllRun, runs}
+use Rattle.codegen_expr.specs.declared.spot.Spot.{Spot}
 use Rattle.codegen_expr.specs.Sites.{At, IfAt, Pushes, Site, lined, WhenAt, LoopAt}
-use Rattle.codegen_expr.specs.Drafts.{Becomes, DraftOf, Emits, Grows, filled_in, given_up, with_hole, with_instr, with_push}
+use Rattle.codegen_expr.specs.Drafts.{Becomes, DraftOf, Emits, Grows, filled_in, given_up, with_hole, with_instr, with_push, with_temp}
 
 pub set_len : {A : Type 0} (xs : List A) (i : ℕ) (v : A) → length (slice_set xs i v) ≡ length xs
 set_len [] i v = refl
@@ -78,67 +80,108 @@ fill code new k n x hole e = record {
 plus_one : (a b : List Lined) (x : Lined) → b ≡ a ++ (x ∷ []) → length b ≡ suc (length a)
 plus_one a b x e = ap length e ∙ length-append a (x ∷ []) ∙ (let t : length a + length (x ∷ []) ≡ suc (length a) = omega arith in t)
 
+-- ---- instructions that the machine does
+
+all_run_append : (xs : List Lined) (y : Lined) (k : ℕ) (x : Lined) → ((j : ℕ) (u : Lined) → slice_get xs j ≡ Some u → runs u.instr ≡ true) → runs y.instr ≡ true → slice_get (xs ++ (y ∷ [])) k ≡ Some x → runs x.instr ≡ true
+all_run_append [] y zero x h e is = let same : y ≡ x = some_is y x is in subst (λ z. runs z.instr ≡ true) same e
+  where
+    some_is : (y z : Lined) → Some y ≡ Some z → y ≡ z
+    some_is y z h = cc
+all_run_append [] y (suc k) x h e is = absurd (cc)
+all_run_append (z ∷ xs) y zero x h e is = h zero x is
+all_run_append (z ∷ xs) y (suc k) x h e is = all_run_append xs y k x (λ j u. h (suc j) u) e is
+
+all_run_set : (xs : List Lined) (i : ℕ) (y : Lined) (k : ℕ) (x : Lined) → ((j : ℕ) (u : Lined) → slice_get xs j ≡ Some u → runs u.instr ≡ true) → runs y.instr ≡ true → slice_get (slice_set xs i y) k ≡ Some x → runs x.instr ≡ true
+all_run_set [] i y k x h e is = h k x is
+all_run_set (z ∷ xs) zero y zero x h e is = let same : y ≡ x = some_is y x is in subst (λ z. runs z.instr ≡ true) same e
+  where
+    some_is : (y z : Lined) → Some y ≡ Some z → y ≡ z
+    some_is y z h = cc
+all_run_set (z ∷ xs) zero y (suc k) x h e is = h (suc k) x is
+all_run_set (z ∷ xs) (suc i) y zero x h e is = h zero x is
+all_run_set (z ∷ xs) (suc i) y (suc k) x h e is = all_run_set xs i y k x (λ j u. h (suc j) u) e is
+
+pub run_more : (a b : List Lined) (y : Lined) → b ≡ a ++ (y ∷ []) → runs y.instr ≡ true → AllRun a → AllRun b
+unfolding AllRun
+run_more a b y e r h = λ k x is. all_run_append a y k x h r (ap (λ l. slice_get l k) (sym e) ∙ is)
+
+pub run_set : (a b : List Lined) (k : ℕ) (y : Lined) → b ≡ slice_set a k y → runs y.instr ≡ true → AllRun a → AllRun b
+unfolding AllRun
+run_set a b i y e r h = λ k x is. all_run_set a i y k x h r (ap (λ l. slice_get l k) (sym e) ∙ is)
+
 -- ---- drafts
 
 -- a draft, and a later one
 pub record Later (a b : DraftOf) : Type 0 where
   pub front : Fronts a.instrs b.instrs
   pub roomier : a.room ≤ b.room
+  pub larger : a.size ≤ b.size
 
 pub later_then : (a b c : DraftOf) → Later a b → Later b c → Later a c
-later_then a b c f g = record { front = fronts_then a.instrs b.instrs c.instrs f.front g.front; roomier = (let ab = f.roomier in let bc = g.roomier in omega (arith, ab, bc)) }
+later_then a b c f g = record { front = fronts_then a.instrs b.instrs c.instrs f.front g.front; roomier = (let ab = f.roomier in let bc = g.roomier in omega (arith, ab, bc)); larger = (let ab = f.larger in let bc = g.larger in omega (arith, ab, bc)) }
 
-pub later_emits : (t : ℕ) (a b : DraftOf) (P : Type 0) (H : CodeOf → Site → ℕ → ℕ → Type 0) → Emits t a b P H → Later a b
-later_emits t a b P H e = record { front = (e.rest, e.front); roomier = e.roomier }
+pub later_emits : (t : Spot) (a b : DraftOf) (P : Type 0) (H : CodeOf → Site → ℕ → ℕ → Type 0) → Emits t a b P H → Later a b
+later_emits t a b P H e = record { front = (e.rest, e.front); roomier = e.roomier; larger = e.larger }
 
 le_same : (m n : ℕ) → n ≡ m → m ≤ n
 le_same m n e = omega (arith, e)
 
 pub later_hole : (a b : DraftOf) → b ≡ with_hole a → Later a b
 unfolding with_hole
-later_hole a b e = record { front = (lined i.Halt 0 ∷ [], ap (λ z. z.instrs) e); roomier = le_same a.room b.room (ap (λ z. z.room) e) }
+later_hole a b e = record { front = (lined i.Halt 0 ∷ [], ap (λ z. z.instrs) e); roomier = le_same a.room b.room (ap (λ z. z.room) e); larger = le_same a.size b.size (ap (λ z. z.size) e) }
 
 -- what the earlier one becomes is what the later one becomes
-pub becomes_later : (t : ℕ) (a b : DraftOf) (final : CodeOf) (site : Site) → Later a b → Becomes t b final site → Becomes t a final site
+pub becomes_later : (t : Spot) (a b : DraftOf) (final : CodeOf) (site : Site) → Later a b → Becomes t b final site → Becomes t a final site
 becomes_later t a b final site l g =
     let le = fronts_le a.instrs b.instrs l.front in
     let ab = l.roomier in
     let bs = g.roomy in
+    let ab' = l.larger in
+    let bs' = g.sized in
     let fs = g.follows in
     record {
       grows = grows_then a.instrs b.instrs final.instrs (grows_front a.instrs b.instrs l.front) g.grows;
       roomy = omega (arith, ab, bs);
+      sized = omega (arith, ab', bs');
       stands = g.stands;
+      taken = g.taken;
       follows = omega (arith, le, fs);
     }
 
-pub becomes_filled : (t : ℕ) (a b : DraftOf) (final : CodeOf) (site : Site) (k : ℕ) (x : Instr) → slice_get a.instrs k ≡ Some (lined i.Halt 0) → b ≡ filled_in a k x → Becomes t b final site → Becomes t a final site
+pub becomes_filled : (t : Spot) (a b : DraftOf) (final : CodeOf) (site : Site) (k : ℕ) (x : Instr) → slice_get a.instrs k ≡ Some (lined i.Halt 0) → b ≡ filled_in a k x → Becomes t b final site → Becomes t a final site
 unfolding filled_in
 becomes_filled t a b final site k x hole e g =
     let ei : b.instrs ≡ slice_set a.instrs k (lined x 0) = ap (λ z. z.instrs) e in
     let er : b.room ≡ a.room = ap (λ z. z.room) e in
     let el : length b.instrs ≡ length a.instrs = ap length ei ∙ set_len a.instrs k (lined x 0) in
     let bs = g.roomy in
+    let er' : b.size ≡ a.size = ap (λ z. z.size) e in
+    let bs' = g.sized in
     let fs = g.follows in
     record {
       grows = grows_then a.instrs b.instrs final.instrs (fill a.instrs b.instrs k 0 (lined x 0) hole ei) g.grows;
       roomy = omega (arith, er, bs);
+      sized = omega (arith, er', bs');
       stands = g.stands;
+      taken = g.taken;
       follows = omega (arith, el, fs);
     }
 
 -- one instruction
-pub emits_at : (t : ℕ) (a b : DraftOf) (x : Instr) (line : ℕ) → b ≡ with_instr a x line → x ≢ i.Halt → Emits t a b ⊤ (λ final site p q. At final x line p q)
+pub emits_at : (t : Spot) (a b : DraftOf) (x : Instr) (line : ℕ) → b ≡ with_instr a x line → x ≢ i.Halt → runs x ≡ true → Emits t a b ⊤ (λ final site p q. At final x line p q)
 unfolding with_instr
-emits_at t a b x line e ne =
+emits_at t a b x line e ne r =
     let ei : b.instrs ≡ a.instrs ++ (lined x line ∷ []) = ap (λ z. z.instrs) e in
     let ew : b.whole ≡ a.whole = ap (λ z. z.whole) e in
     record {
       rest = lined x line ∷ [];
       front = ei;
       roomier = le_same a.room b.room (ap (λ z. z.room) e);
+      larger = le_same a.size b.size (ap (λ z. z.size) e);
       built = λ _ w. ew ∙ w;
       before = λ w. sym ew ∙ w;
+      only = λ w. tt;
+      fits = run_more a.instrs b.instrs (lined x line) ei r;
       at = λ w final site g. record {
         at = g.grows.keeps (length a.instrs) (lined x line) (subst (λ l. slice_get l (length a.instrs) ≡ Some (lined x line)) (sym ei) (append_at a.instrs (lined x line))) ne;
         on = plus_one a.instrs b.instrs (lined x line) ei;
@@ -146,9 +189,9 @@ emits_at t a b x line e ne =
     }
 
 -- one instruction that pushes
-pub emits_push_at : (t : ℕ) (a b : DraftOf) (n : ℕ) (x : Instr) (line : ℕ) → b ≡ with_push a n x line → x ≢ i.Halt → Emits t a b ⊤ (λ final site p q. At final x line p q × (n < site.room))
+pub emits_push_at : (t : Spot) (a b : DraftOf) (n : ℕ) (x : Instr) (line : ℕ) → b ≡ with_push a n x line → x ≢ i.Halt → runs x ≡ true → Emits t a b ⊤ (λ final site p q. At final x line p q × (n < site.room))
 unfolding with_push
-emits_push_at t a b n x line e ne =
+emits_push_at t a b n x line e ne r =
     let ei : b.instrs ≡ a.instrs ++ (lined x line ∷ []) = ap (λ z. z.instrs) e in
     let ew : b.whole ≡ a.whole = ap (λ z. z.whole) e in
     let er : b.room ≡ max a.room (suc n) = ap (λ z. z.room) e in
@@ -158,22 +201,25 @@ emits_push_at t a b n x line e ne =
       rest = lined x line ∷ [];
       front = ei;
       roomier = subst (λ z. a.room ≤ z) (sym er) left;
+      larger = le_same a.size b.size (ap (λ z. z.size) e);
       built = λ _ w. ew ∙ w;
       before = λ w. sym ew ∙ w;
+      only = λ w. tt;
+      fits = run_more a.instrs b.instrs (lined x line) ei r;
       at = λ w final site g. (
         record {
           at = g.grows.keeps (length a.instrs) (lined x line) (subst (λ l. slice_get l (length a.instrs) ≡ Some (lined x line)) (sym ei) (append_at a.instrs (lined x line))) ne;
           on = plus_one a.instrs b.instrs (lined x line) ei;
         },
-        fits (subst (λ z. suc n ≤ z) (sym er) right) g.roomy,
+        has_room (subst (λ z. suc n ≤ z) (sym er) right) g.roomy,
       );
     }
   where
-    fits : {m : ℕ} {r : ℕ} → suc n ≤ m → m ≤ r → n < r
-    fits h1 h2 = omega (arith, h1, h2)
+    has_room : {m : ℕ} {r : ℕ} → suc n ≤ m → m ≤ r → n < r
+    has_room h1 h2 = omega (arith, h1, h2)
 
 -- what is not built
-pub emits_nothing : (t : ℕ) (a b : DraftOf) (P : Type 0) (H : CodeOf → Site → ℕ → ℕ → Type 0) → (P → ⊥) → b ≡ given_up a → Emits t a b P H
+pub emits_nothing : (t : Spot) (a b : DraftOf) (P : Type 0) (H : CodeOf → Site → ℕ → ℕ → Type 0) → (P → ⊥) → b ≡ given_up a → Emits t a b P H
 unfolding given_up
 emits_nothing t a b P H never e =
     let ei : b.instrs ≡ a.instrs = ap (λ z. z.instrs) e in
@@ -182,8 +228,11 @@ emits_nothing t a b P H never e =
       rest = [];
       front = ei ∙ sym (append-nil a.instrs);
       roomier = le_same a.room b.room (ap (λ z. z.room) e);
+      larger = le_same a.size b.size (ap (λ z. z.size) e);
       built = λ p w. absurd (never p);
       before = λ w. absurd (clash (sym ew ∙ w));
+      only = λ w. absurd (clash (sym ew ∙ w));
+      fits = subst AllRun (sym ei);
       at = λ w final site g. absurd (clash (sym ew ∙ w));
     }
   where
@@ -191,31 +240,34 @@ emits_nothing t a b P H never e =
     clash h = cc
 
 -- nothing
-pub emits_none : (t : ℕ) (a : DraftOf) → Emits t a a ⊤ (λ final site p q. q ≡ p)
-emits_none t a = record { rest = []; front = sym (append-nil a.instrs); roomier = le_same a.room a.room refl; built = λ _ w. w; before = λ w. w; at = λ w final site g. refl }
+pub emits_none : (t : Spot) (a : DraftOf) → Emits t a a ⊤ (λ final site p q. q ≡ p)
+emits_none t a = record { rest = []; front = sym (append-nil a.instrs); roomier = le_same a.room a.room refl; larger = le_same a.size a.size refl; built = λ _ w. w; before = λ w. w; only = λ w. tt; fits = λ h. h; at = λ w final site g. refl }
 
 -- one behind another
-pub emits_then : (t : ℕ) (P Q : Type 0) (A B : CodeOf → Site → ℕ → ℕ → Type 0) (a b c : DraftOf) → Emits t a b P A → Emits t b c Q B → Emits t a c (P × Q) (λ final site p q. (x : ℕ) × A final site p x × B final site x q)
+pub emits_then : (t : Spot) (P Q : Type 0) (A B : CodeOf → Site → ℕ → ℕ → Type 0) (a b c : DraftOf) → Emits t a b P A → Emits t b c Q B → Emits t a c (P × Q) (λ final site p q. (x : ℕ) × A final site p x × B final site x q)
 emits_then t P Q A B a b c f g =
     let l = later_then a b c (later_emits t a b P A f) (later_emits t b c Q B g) in
     record {
       rest = l.front.0;
       front = l.front.1;
       roomier = l.roomier;
+      larger = l.larger;
       built = λ p w. g.built p.1 (f.built p.0 w);
       before = λ w. f.before (g.before w);
+      only = λ w. (f.only (g.before w), g.only w);
+      fits = λ h. g.fits (f.fits h);
       at = λ w final site h. (length b.instrs, f.at (g.before w) final site (becomes_later t b c final site (later_emits t b c Q B g) h), g.at w final site h);
     }
 
 -- said otherwise
-pub emits_as : (t : ℕ) (P Q : Type 0) (A B : CodeOf → Site → ℕ → ℕ → Type 0) (a b : DraftOf) → (Q → P) → ((final : CodeOf) (site : Site) (p q : ℕ) → site.text ≡ t → A final site p q → B final site p q) → Emits t a b P A → Emits t a b Q B
-emits_as t P Q A B a b back f e = record { rest = e.rest; front = e.front; roomier = e.roomier; built = λ q w. e.built (back q) w; before = e.before; at = λ w final site g. f final site (length a.instrs) (length b.instrs) g.stands (e.at w final site g) }
+pub emits_as : (t : Spot) (P Q : Type 0) (A B : CodeOf → Site → ℕ → ℕ → Type 0) (a b : DraftOf) → (Q → P) → (P → Q) → ((final : CodeOf) (site : Site) (p q : ℕ) → site.text ≡ t.text → site.used ≡ t.used → A final site p q → B final site p q) → Emits t a b P A → Emits t a b Q B
+emits_as t P Q A B a b back forth f e = record { rest = e.rest; front = e.front; roomier = e.roomier; larger = e.larger; built = λ q w. e.built (back q) w; before = e.before; only = λ w. forth (e.only w); fits = e.fits; at = λ w final site g. f final site (length a.instrs) (length b.instrs) g.stands g.taken (e.at w final site g) }
 
-pub emits_push : (t : ℕ) (a b : DraftOf) (n : ℕ) (x : Instr) (line : ℕ) → b ≡ with_push a n x line → x ≢ i.Halt → Emits t a b ⊤ (λ final site p q. Pushes final site n x p q)
-emits_push t a b n x line e ne = emits_as t ⊤ ⊤ (λ final site p q. At final x line p q × (n < site.room)) _ a b (λ z. z) (λ final site p q _ r. record { is = record { line = line; is = r.0 }; fits = r.1 }) (emits_push_at t a b n x line e ne)
+pub emits_push : (t : Spot) (a b : DraftOf) (n : ℕ) (x : Instr) (line : ℕ) → b ≡ with_push a n x line → x ≢ i.Halt → runs x ≡ true → Emits t a b ⊤ (λ final site p q. Pushes final site n x p q)
+emits_push t a b n x line e ne r = emits_as t ⊤ ⊤ (λ final site p q. At final x line p q × (n < site.room)) _ a b (λ z. z) (λ z. z) (λ final site p q _ _ r. record { is = record { line = line; is = r.0 }; fits = r.1 }) (emits_push_at t a b n x line e ne r)
 
 -- one of two parts, with both jumps filled
-pub emits_if : (t : ℕ) (P Q R : Type 0) (A B C : CodeOf → Site → ℕ → ℕ → Type 0) (c0 c1 c2 c3 c4 c5 c6 c7 : DraftOf) (jump over : ℕ) (start end : ℤ)
+pub emits_if : (t : Spot) (P Q R : Type 0) (A B C : CodeOf → Site → ℕ → ℕ → Type 0) (c0 c1 c2 c3 c4 c5 c6 c7 : DraftOf) (jump over : ℕ) (start end : ℤ)
     → Emits t c0 c1 P A → jump ≡ length c1.instrs → c2 ≡ with_hole c1 → Emits t c2 c3 Q B → over ≡ length c3.instrs → c4 ≡ with_hole c3 → start ≡ pos (length c4.instrs) → Emits t c4 c5 R C → end ≡ pos (length c5.instrs)
     → c6 ≡ filled_in c5 jump (i.JumpF start) → c7 ≡ filled_in c6 over (i.Jump end) → Emits t c0 c7 (P × Q × R) (λ final site p q. IfAt final (A final site) (B final site) (C final site) p q)
 unfolding with_hole filled_in
@@ -248,6 +300,7 @@ emits_if t P Q R A B C c0 c1 c2 c3 c4 c5 c6 c7 jump over start end a ej e2 b eo 
     let hole2 : slice_get c6.instrs over ≡ Some (lined i.Halt 0) = ap (λ z. slice_get z over) i6 ∙ set_other c5.instrs jump over (lined (i.JumpF start) 0) apart ∙ hole2' in
     let same : length c7.instrs ≡ length c5.instrs = ap length i7 ∙ set_len c6.instrs over (lined (i.Jump end) 0) ∙ ap length i6 ∙ set_len c5.instrs jump (lined (i.JumpF start) 0) in
     let room : c7.room ≡ c5.room = ap (λ z. z.room) e7 ∙ ap (λ z. z.room) e6 in
+    let size : c7.size ≡ c5.size = ap (λ z. z.size) e7 ∙ ap (λ z. z.size) e6 in
     let whole : c7.whole ≡ c5.whole = ap (λ z. z.whole) e7 ∙ ap (λ z. z.whole) e6 in
     let whole34 : c4.whole ≡ c3.whole = ap (λ z. z.whole) e4 in
     let whole12 : c2.whole ≡ c1.whole = ap (λ z. z.whole) e2 in
@@ -260,8 +313,13 @@ emits_if t P Q R A B C c0 c1 c2 c3 c4 c5 c6 c7 jump over start end a ej e2 b eo 
       rest = f07.0;
       front = f07.1;
       roomier = subst (λ z. c0.room ≤ z) (sym room) l05.roomier;
+      larger = subst (λ z. c0.size ≤ z) (sym size) l05.larger;
       built = λ p w. whole ∙ c.built p.2 (whole34 ∙ b.built p.1 (whole12 ∙ a.built p.0 w));
       before = λ w. a.before (at1w w);
+      only = λ w. (a.only (at1w w), b.only (at3 w), c.only (at5 w));
+      fits = λ h.
+          run_set c6.instrs c7.instrs over (lined (i.Jump end) 0) i7 refl (run_set c5.instrs c6.instrs jump (lined (i.JumpF start) 0) i6 refl
+          (c.fits (run_more c3.instrs c4.instrs (lined i.Halt 0) i4 refl (b.fits (run_more c1.instrs c2.instrs (lined i.Halt 0) i2 refl (a.fits h))))));
       at = λ w final site g.
           let g6 : Becomes t c6 final site = becomes_filled t c6 c7 final site over (i.Jump end) hole2 e7 g in
           let g5 : Becomes t c5 final site = becomes_filled t c5 c6 final site jump (i.JumpF start) hole1 e6 g6 in
@@ -288,7 +346,7 @@ emits_if t P Q R A B C c0 c1 c2 c3 c4 c5 c6 c7 jump over start end a ej e2 b eo 
     hole a b c k f ek eb = ap (slice_get c) ek ∙ ap (λ z. slice_get z (length a)) f.1 ∙ get_front b f.0 (length a) (lined i.Halt 0) (ap (λ z. slice_get z (length a)) eb ∙ append_at a (lined i.Halt 0))
 
 -- a part that may be left out, with its jump filled
-pub emits_when : (t : ℕ) (P Q : Type 0) (A B : CodeOf → Site → ℕ → ℕ → Type 0) (c0 c1 c2 c3 c4 : DraftOf) (jump : ℕ) (end : ℤ) → Emits t c0 c1 P A → jump ≡ length c1.instrs → c2 ≡ with_hole c1 → Emits t c2 c3 Q B → end ≡ pos (length c3.instrs) → c4 ≡ filled_in c3 jump (i.JumpF end)
+pub emits_when : (t : Spot) (P Q : Type 0) (A B : CodeOf → Site → ℕ → ℕ → Type 0) (c0 c1 c2 c3 c4 : DraftOf) (jump : ℕ) (end : ℤ) → Emits t c0 c1 P A → jump ≡ length c1.instrs → c2 ≡ with_hole c1 → Emits t c2 c3 Q B → end ≡ pos (length c3.instrs) → c4 ≡ filled_in c3 jump (i.JumpF end)
     → Emits t c0 c4 (P × Q) (λ final site p q. WhenAt final (A final site) (B final site) p q)
 unfolding with_hole filled_in
 emits_when t P Q A B c0 c1 c2 c3 c4 jump end a ej e2 b ee e4 =
@@ -307,6 +365,7 @@ emits_when t P Q A B c0 c1 c2 c3 c4 jump end a ej e2 b ee e4 =
     let hole : slice_get c3.instrs jump ≡ Some (lined i.Halt 0) = ap (slice_get c3.instrs) ej ∙ ap (λ z. slice_get z (length c1.instrs)) l23.front.1 ∙ get_front c2.instrs l23.front.0 (length c1.instrs) (lined i.Halt 0) (ap (λ z. slice_get z (length c1.instrs)) i2 ∙ append_at c1.instrs (lined i.Halt 0)) in
     let same : length c4.instrs ≡ length c3.instrs = ap length i4 ∙ set_len c3.instrs jump (lined (i.JumpF end) 0) in
     let room : c4.room ≡ c3.room = ap (λ z. z.room) e4 in
+    let size : c4.size ≡ c3.size = ap (λ z. z.size) e4 in
     let whole : c4.whole ≡ c3.whole = ap (λ z. z.whole) e4 in
     let whole12 : c2.whole ≡ c1.whole = ap (λ z. z.whole) e2 in
     let put : slice_get c4.instrs jump ≡ Some (lined (i.JumpF end) 0) = ap (λ z. slice_get z jump) i4 ∙ set_same c3.instrs jump (lined i.Halt 0) (lined (i.JumpF end) 0) hole in
@@ -316,8 +375,11 @@ emits_when t P Q A B c0 c1 c2 c3 c4 jump end a ej e2 b ee e4 =
       rest = f04.0;
       front = f04.1;
       roomier = subst (λ z. c0.room ≤ z) (sym room) l03.roomier;
+      larger = subst (λ z. c0.size ≤ z) (sym size) l03.larger;
       built = λ p w. whole ∙ b.built p.1 (whole12 ∙ a.built p.0 w);
       before = λ w. a.before (at1 w);
+      only = λ w. (a.only (at1 w), b.only (at3 w));
+      fits = λ h. run_set c3.instrs c4.instrs jump (lined (i.JumpF end) 0) i4 refl (b.fits (run_more c1.instrs c2.instrs (lined i.Halt 0) i2 refl (a.fits h)));
       at = λ w final site g.
           let g3 : Becomes t c3 final site = becomes_filled t c3 c4 final site jump (i.JumpF end) hole e4 g in
           let there : slice_get final.instrs jump ≡ Some (lined (i.JumpF end) 0) = g.grows.keeps jump (lined (i.JumpF end) 0) put (λ z. cc) in
@@ -335,15 +397,15 @@ emits_when t P Q A B c0 c1 c2 c3 c4 jump end a ej e2 b ee e4 =
 
 later_instr : (a b : DraftOf) (x : Instr) (line : ℕ) → b ≡ with_instr a x line → Later a b
 unfolding with_instr
-later_instr a b x line e = record { front = (lined x line ∷ [], ap (λ z. z.instrs) e); roomier = le_same a.room b.room (ap (λ z. z.room) e) }
+later_instr a b x line e = record { front = (lined x line ∷ [], ap (λ z. z.instrs) e); roomier = le_same a.room b.room (ap (λ z. z.room) e); larger = le_same a.size b.size (ap (λ z. z.size) e) }
 
 -- a loop, which is a part that may be left out and ends with a jump back to its tick
-pub emits_loop : (t : ℕ) (P Q : Type 0) (A B : CodeOf → Site → ℕ → ℕ → Type 0) (c1 c2 c3 c4 c5 c6 new : DraftOf) (start end : ℤ) (jump : ℕ) → start ≡ pos (length c1.instrs) → c2 ≡ with_instr c1 i.Tick 0 → Emits t c2 c3 P A → jump ≡ length c3.instrs → c4 ≡ with_hole c3 → Emits t c4 c5 Q B
+pub emits_loop : (t : Spot) (P Q : Type 0) (A B : CodeOf → Site → ℕ → ℕ → Type 0) (c1 c2 c3 c4 c5 c6 new : DraftOf) (start end : ℤ) (jump : ℕ) → start ≡ pos (length c1.instrs) → c2 ≡ with_instr c1 i.Tick 0 → Emits t c2 c3 P A → jump ≡ length c3.instrs → c4 ≡ with_hole c3 → Emits t c4 c5 Q B
     → c6 ≡ with_instr c5 (i.Jump start) 0 → end ≡ pos (length c6.instrs) → new ≡ filled_in c6 jump (i.JumpF end) → Emits t c1 new (P × Q) (λ final site p q. (y : ℕ) × (w : ℕ) × LoopAt final (A final site) (B final site) p y w q)
 unfolding with_instr filled_in
 emits_loop t P Q A B c1 c2 c3 c4 c5 c6 new start end jump es e2 a ej e4 b e6 ee en =
-    let test = emits_then t ⊤ P (λ f site p q. At f i.Tick 0 p q) A c1 c2 c3 (emits_at t c1 c2 i.Tick 0 e2 (λ z. cc)) a in
-    let body = emits_then t Q ⊤ B (λ f site p q. At f (i.Jump start) 0 p q) c4 c5 c6 b (emits_at t c5 c6 (i.Jump start) 0 e6 (λ z. cc)) in
+    let test = emits_then t ⊤ P (λ f site p q. At f i.Tick 0 p q) A c1 c2 c3 (emits_at t c1 c2 i.Tick 0 e2 (λ z. cc) refl) a in
+    let body = emits_then t Q ⊤ B (λ f site p q. At f (i.Jump start) 0 p q) c4 c5 c6 b (emits_at t c5 c6 (i.Jump start) 0 e6 (λ z. cc) refl) in
     let all = emits_when t (⊤ × P) (Q × ⊤) (λ f site p q. (x : ℕ) × At f i.Tick 0 p x × A f site x q) (λ f site p q. (x : ℕ) × B f site p x × At f (i.Jump start) 0 x q) c1 c3 c4 c6 new jump end test ej e4 body ee en in
     let l13 : Later c1 c3 = later_then c1 c2 c3 (later_instr c1 c2 i.Tick 0 e2) (later_emits t c2 c3 P A a) in
     let l35 : Later c3 c5 = later_then c3 c4 c5 (later_hole c3 c4 e4) (later_emits t c4 c5 Q B b) in
@@ -354,11 +416,55 @@ emits_loop t P Q A B c1 c2 c3 c4 c5 c6 new start end jump es e2 a ej e4 b e6 ee 
       rest = all.rest;
       front = all.front;
       roomier = all.roomier;
+      larger = all.larger;
       built = λ p w. all.built ((tt, p.0), (p.1, tt)) w;
       before = all.before;
+      only = λ w. (let r = all.only w in (r.0.1, r.1.0));
+      fits = all.fits;
       at = λ w final site g.
           let r = all.at w final site g in
           let on : length new.instrs ≡ suc r.first.0 = r.first.2.on in
           let back : At final (i.Jump (pos (length c1.instrs))) 0 r.first.0 (length new.instrs) = subst (λ z. At final (i.Jump z) 0 r.first.0 (length new.instrs)) es r.first.2 in
           (r.y, r.first.0, record { x = r.test.0; z = r.z; tick = record { line = 0; is = r.test.1 }; test = r.test.2; jump = r.jump; leads = r.leads; body = r.first.1; «back» = record { line = 0; is = back }; behind = omega (arith, on, same, n15, n56) });
     }
+
+-- a temp that code takes, which lies behind what is in use
+pub emits_temp : (t : Spot) (P : Type 0) (A : CodeOf → Site → ℕ → ℕ → Type 0) (a b c : DraftOf) (temp : ℕ) → temp ≡ t.used → b ≡ with_temp a temp → Emits t b c P A → Emits t a c P (λ final site p q. (site.used ≤ temp) × (temp < site.size) × A final site p q)
+unfolding with_temp
+emits_temp t P A a b c temp et e f =
+    let ei : b.instrs ≡ a.instrs = ap (λ z. z.instrs) e in
+    let er : b.room ≡ a.room = ap (λ z. z.room) e in
+    let es : b.size ≡ max a.size (suc temp) = ap (λ z. z.size) e in
+    let ew : b.whole ≡ a.whole = ap (λ z. z.whole) e in
+    let left = le-max_left a.size (suc temp) in
+    let right = le-max_right a.size (suc temp) in
+    let bc = f.roomier in
+    let bc' = f.larger in
+    record {
+      rest = f.rest;
+      front = f.front ∙ ap (λ z. z ++ f.rest) ei;
+      roomier = omega (arith, er, bc);
+      larger = omega (arith, es, left, bc');
+      built = λ p w. f.built p (ew ∙ w);
+      before = λ w. sym ew ∙ f.before w;
+      only = f.only;
+      fits = λ h. f.fits (subst AllRun (sym ei) h);
+      at = λ w final site g.
+          let taken = g.taken in
+          let sized = g.sized in
+          (omega (arith, taken, et), omega (arith, es, right, bc', sized), subst (λ n. A final site n (length c.instrs)) (ap length ei) (f.at w final site g));
+    }
+
+-- what stands where a temp more is in use
+pub emits_inside : (t u : Spot) (P : Type 0) (A : CodeOf → Site → ℕ → ℕ → Type 0) (a b : DraftOf) (temp : ℕ) → u.text ≡ t.text → u.used ≡ suc temp → Emits u a b P A → Emits t a b P (λ final site p q. A final (record site { used = suc temp }) p q)
+emits_inside t u P A a b temp et eu f = record {
+  rest = f.rest;
+  front = f.front;
+  roomier = f.roomier;
+  larger = f.larger;
+  built = f.built;
+  before = f.before;
+  only = f.only;
+  fits = f.fits;
+  at = λ w final site g. f.at w final (record site { used = suc temp }) (record { grows = g.grows; roomy = g.roomy; sized = g.sized; stands = g.stands ∙ sym et; taken = sym eu; follows = g.follows });
+}

@@ -1,5 +1,5 @@
 -- Expressions, one part behind another.
-use Rattle.std.proofs.Common.{◌≡◌, ◌≢◌, ◌<◌, ◌+◌, ◌-◌, ℕ, ℤ, pos, suc, Bool, List, [], ◌∷◌, length, map, drop, Option, Some, None, true, false, refl, sym, ap, ◌∙◌, subst, arith}
+use Rattle.std.proofs.Common.{◌≡◌, ◌≢◌, ◌<◌, ◌+◌, ◌-◌, ℕ, ℤ, pos, suc, Bool, if◌then◌else◌, List, [], ◌∷◌, length, map, drop, Option, Some, None, true, false, refl, sym, ap, ◌∙◌, subst, arith}
 use Rattle.std.proofs.lemmas.List.{drop_more}
 use Rattle.std.specs.Prelude.{⊤, slice_index_or}
 use Rattle.std.specs.declared.alloc.Global.{Global}
@@ -38,6 +38,8 @@ use Rattle.sim_tree.specs.declared.operator.Operator.TheVariants as o
 use Rattle.sim_tree.specs.Syntax.{Binary, Expression, Expressions, If, Named, NoMore, Signed, Then, expressions}
 use Rattle.sim_tree.specs.SyntaxOf.{Cast, Selection, Tail, Take, chain, factor_syntax, negated, operand_syntax, selected, selector_syntax, signed, syntax_of, term_syntax, with_operator}
 use Rattle.sim_tree.proofs.SyntaxLemmas as v
+use Rattle.sim_values.specs.Standard.{operands_of, row_of}
+use Rattle.codegen_expr.specs.declared.names.StandardCode.{StandardCode}
 use Rattle.sim_values.specs.declared.operators.Calculation.TheVariants as calculation
 use Rattle.sim_values.specs.declared.operators.Connective.TheVariants as connective
 use Rattle.sim_values.specs.declared.operators.Dyadic.{Dyadic}
@@ -45,20 +47,22 @@ use Rattle.sim_values.specs.declared.operators.Dyadic.TheVariants as dyadic
 use Rattle.sim_code.specs.declared.instr.Instr.{Instr}
 use Rattle.sim_code.specs.declared.instr.Instr.TheVariants as i
 use Rattle.sim_code.specs.Code.{CodeOf}
+use Rattle.sim_code.specs.Running.{runs, standard_runs}
 use Rattle.sim_meaning.specs.Closing.{Joining, Lazily, Negated, Plainly, Sort, is_text, sort_of}
 use Rattle.sim_scope.specs.declared.standard.Standard.{Standard}
 use Rattle.sim_values.specs.declared.standard.Standard.{Standard as Row}
 use Rattle.sim_meaning.specs.Names.{procedure_named}
 use Rattle.sim_meaning.specs.Pending.{Declared}
-use Rattle.codegen_expr.specs.declared.cells.Cells.{Cells}
+use Rattle.codegen_expr.specs.declared.spot.Spot.{Spot}
 use Rattle.codegen_expr.specs.declared.operators.Sorted.{Sorted}
 use Rattle.codegen_expr.specs.declared.operators.Sorted.TheVariants as sorted
-use Rattle.codegen_expr.specs.Built.{AreBuilt, AreSlots, IsBuilt, NamedBuilt, Numbered, StandardBuilt, SortBuilt, formal_has_cell, formal_has_elements, has_cell, has_elements, is_around, slot_in}
-use Rattle.codegen_expr.specs.CodeExpr.{ActualsAt, CellAt, DeclaredAt, ElementAt, ExprAt, ExprsAt, FormalAt, NamedAt, StandardAt, TwoAt, operands, two_instr}
+use Rattle.codegen_expr.specs.Built.{AreBuilt, IsBuilt, StandardBuilt, SortBuilt, is_around, is_there, slot_in}
+use Rattle.codegen_expr.specs.CodeExpr.{CellAt, ElementAt, ExprAt, ExprsAt, StandardAt, TwoAt, operands, two_instr}
 use Rattle.codegen_expr.specs.Drafts.{DraftOf, Emits, filled_in, given_up, with_hole, with_instr, with_push}
-use Rattle.codegen_expr.specs.Emit.{Known, OwesList, OwesTails, Puts, Steady, Writes, WritesCell, WritesDeclared, WritesElement, WritesList, WritesNamed, WritesNot, WritesOperand, WritesOperands, WritesSelected, WritesSign, WritesStandard, WritesTails, sorted_of}
-use Rattle.codegen_expr.specs.Sites.{At, IfAt, Inside, Is, Pushes, Site, slot_of}
+use Rattle.codegen_expr.specs.Emit.{Numbered, OwesList, OwesTails, Puts, Steady, Writes, WritesCell, WritesElement, WritesGiving, WritesList, WritesNot, WritesOperand, WritesOperands, WritesSelected, WritesSign, WritesStandard, WritesTails, sorted_of}
+use Rattle.codegen_expr.specs.Sites.{At, HasCell, IfAt, Inside, Is, Pushes, Site, slot_of}
 use Rattle.codegen_expr.proofs.Around.{inside}
+use Rattle.codegen_expr.proofs.Slots.{slot_found, slot_within}
 use Rattle.codegen_expr.proofs.Pieces.{emits_as, emits_at, emits_if, emits_none, emits_nothing, emits_push, emits_push_at, emits_then}
 
 two_real : (op : Dyadic) → two_instr op ≢ i.Halt
@@ -128,7 +132,7 @@ steady_Multiply multiplication.Divide texts = refl
 abbrev Place : Type 1
 Place = CodeOf → Site → ℕ → ℕ → Type 0
 
-module _ (b : Bound) (w : Cells) (n : ℕ) where
+module _ (b : Bound) (w : Spot) (n : ℕ) where
   pub puts_as : (c d : DraftOf) (x y : Expression) → x ≡ y → Puts (source_of b) w n c d x → Puts (source_of b) w n c d y
   puts_as c d x y e p = subst (Puts (source_of b) w n c d) e p
 
@@ -140,49 +144,81 @@ module _ (b : Bound) (w : Cells) (n : ℕ) where
       let s = source_of b in
       let same : If t.0 (syntax_of x) (syntax_of y) (syntax_of z) ≡ syntax_of a = ap (λ u. If t.0 (syntax_of u) (syntax_of y) (syntax_of z)) ex ∙ ap (λ u. If t.0 (syntax_of p.value) (syntax_of u) (syntax_of z)) ey ∙ ap (λ u. If t.0 (syntax_of p.value) (syntax_of q.value) (syntax_of u)) ez ∙ sym (ap syntax_of is ∙ v.syntax-If t p q r) in
       puts_as c0 c7 (If t.0 (syntax_of x) (syntax_of y) (syntax_of z)) (syntax_of a) same
-      (emits_if w.text (IsBuilt s w.slots.items w.text (syntax_of x)) (IsBuilt s w.slots.items w.text (syntax_of y)) (IsBuilt s w.slots.items w.text (syntax_of z))
+      (emits_if w (IsBuilt s w.text (syntax_of x)) (IsBuilt s w.text (syntax_of y)) (IsBuilt s w.text (syntax_of z))
       (λ f site. ExprAt s f site n (syntax_of x)) (λ f site. ExprAt s f site n (syntax_of y)) (λ f site. ExprAt s f site n (syntax_of z)) c0 c1 c2 c3 c4 c5 c6 c7 jump over start end f1 ej e2 f3 eo e4 es f5 ee e6 e7)
 
   -- an operator and its second operand, of which there are codes on n values and on one more
+  plain_runs : (x : Instr) (op : Dyadic) (r : Bool) → runs (two_instr op) ≡ r → sorted.Plain x ≡ (if r then sorted.Plain (two_instr op) else sorted.Other) → (two_instr op ≡ x) × (runs (two_instr op) ≡ true)
+  plain_runs x op true h e = (sym (plain_same x (two_instr op) e), h)
+  plain_runs x op false h e = absurd (cc)
+
+  negated_runs : (x : Instr) (op : Dyadic) (r : Bool) → runs (two_instr op) ≡ r → sorted.Negated x ≡ (if r then sorted.Negated (two_instr op) else sorted.Other) → (two_instr op ≡ x) × (runs (two_instr op) ≡ true)
+  negated_runs x op true h e = (sym (negated_same x (two_instr op) e), h)
+  negated_runs x op false h e = absurd (cc)
+
+  not_negated : (x : Instr) (op : Dyadic) (r : Bool) → sorted.Plain x ≡ (if r then sorted.Negated (two_instr op) else sorted.Other) → ⊥
+  not_negated x op true e = cc
+  not_negated x op false e = cc
+
+  not_plain : (x : Instr) (op : Dyadic) (r : Bool) → sorted.Negated x ≡ (if r then sorted.Plain (two_instr op) else sorted.Other) → ⊥
+  not_plain x op true e = cc
+  not_plain x op false e = cc
+
   plain_emits : (k : Sort) (line : ℕ) (A B C : Place) (P Q : Type 0) (c d : DraftOf) (x : Instr) → sorted.Plain x ≡ sorted_of k
-      → ((op : Dyadic) → two_instr op ≡ x → Emits w.text c d (P × ⊤ × Q) (λ f site p q. (y : ℕ) × (z : ℕ) × A f site p y × C f site y z × At f (two_instr op) line z q))
-      → Emits w.text c d (P × SortBuilt k × Q) (λ f site p q. TwoAt f site n k line (A f site) (B f site) (C f site) p q)
-  plain_emits (Plainly op) line A B C P Q c d x e f = f op (sym (plain_same x (two_instr op) e))
-  plain_emits (Negated op) line A B C P Q c d x e f = absurd (cc)
+      → ((op : Dyadic) → two_instr op ≡ x → runs (two_instr op) ≡ true → Emits w c d (P × ⊤ × Q) (λ f site p q. (y : ℕ) × (z : ℕ) × A f site p y × C f site y z × At f (two_instr op) line z q))
+      → Emits w c d (P × SortBuilt k × Q) (λ f site p q. TwoAt f site n k line (A f site) (B f site) (C f site) p q)
+  plain_emits (Plainly op) line A B C P Q c d x e f =
+      let r = plain_runs x op (runs (two_instr op)) refl e in
+      emits_as w (P × ⊤ × Q) (P × (runs (two_instr op) ≡ true) × Q) _ _ c d (λ t. (t.0, tt, t.2)) (λ t. (t.0, r.1, t.2)) (λ final site p q _ _ t. t) (f op r.0 r.1)
+  plain_emits (Negated op) line A B C P Q c d x e f = absurd (not_negated x op (runs (two_instr op)) e)
   plain_emits (Lazily true) line A B C P Q c d x e f = absurd (cc)
   plain_emits (Lazily false) line A B C P Q c d x e f = absurd (cc)
   plain_emits Joining line A B C P Q c d x e f = absurd (cc)
 
   negated_emits : (k : Sort) (line : ℕ) (A B C : Place) (P Q : Type 0) (c d : DraftOf) (x : Instr) → sorted.Negated x ≡ sorted_of k
-      → ((op : Dyadic) → two_instr op ≡ x → Emits w.text c d (P × ⊤ × Q) (λ f site p q. (y : ℕ) × (z : ℕ) × (u : ℕ) × A f site p y × C f site y z × At f (two_instr op) line z u × At f i.Not line u q))
-      → Emits w.text c d (P × SortBuilt k × Q) (λ f site p q. TwoAt f site n k line (A f site) (B f site) (C f site) p q)
-  negated_emits (Plainly op) line A B C P Q c d x e f = absurd (cc)
-  negated_emits (Negated op) line A B C P Q c d x e f = f op (sym (negated_same x (two_instr op) e))
+      → ((op : Dyadic) → two_instr op ≡ x → runs (two_instr op) ≡ true → Emits w c d (P × ⊤ × Q) (λ f site p q. (y : ℕ) × (z : ℕ) × (u : ℕ) × A f site p y × C f site y z × At f (two_instr op) line z u × At f i.Not line u q))
+      → Emits w c d (P × SortBuilt k × Q) (λ f site p q. TwoAt f site n k line (A f site) (B f site) (C f site) p q)
+  negated_emits (Plainly op) line A B C P Q c d x e f = absurd (not_plain x op (runs (two_instr op)) e)
+  negated_emits (Negated op) line A B C P Q c d x e f =
+      let r = negated_runs x op (runs (two_instr op)) refl e in
+      emits_as w (P × ⊤ × Q) (P × (runs (two_instr op) ≡ true) × Q) _ _ c d (λ t. (t.0, tt, t.2)) (λ t. (t.0, r.1, t.2)) (λ final site p q _ _ t. t) (f op r.0 r.1)
   negated_emits (Lazily true) line A B C P Q c d x e f = absurd (cc)
   negated_emits (Lazily false) line A B C P Q c d x e f = absurd (cc)
   negated_emits Joining line A B C P Q c d x e f = absurd (cc)
 
+  lazy_or : (op : Dyadic) {x : Sorted} → (r : Bool) → sorted.OrElse ≡ (if r then x else sorted.Other) → (sorted.OrElse ≡ x → ⊥) → ⊥
+  lazy_or op true e never = never e
+  lazy_or op false e never = cc
+
+  lazy_and : (op : Dyadic) {x : Sorted} → (r : Bool) → sorted.AndThen ≡ (if r then x else sorted.Other) → (sorted.AndThen ≡ x → ⊥) → ⊥
+  lazy_and op true e never = never e
+  lazy_and op false e never = cc
+
   or_emits : (k : Sort) (line : ℕ) (A B C : Place) (P Q : Type 0) (c d : DraftOf) → sorted.OrElse ≡ sorted_of k
-      → Emits w.text c d (P × ⊤ × Q) (λ f site p q. IfAt f (A f site) (Pushes f site n (i.Bool (pos 1))) (B f site) p q)
-      → Emits w.text c d (P × SortBuilt k × Q) (λ f site p q. TwoAt f site n k line (A f site) (B f site) (C f site) p q)
-  or_emits (Plainly op) line A B C P Q c d e f = absurd (cc)
-  or_emits (Negated op) line A B C P Q c d e f = absurd (cc)
+      → Emits w c d (P × ⊤ × Q) (λ f site p q. IfAt f (A f site) (Pushes f site n (i.Bool (pos 1))) (B f site) p q)
+      → Emits w c d (P × SortBuilt k × Q) (λ f site p q. TwoAt f site n k line (A f site) (B f site) (C f site) p q)
+  or_emits (Plainly op) line A B C P Q c d e f = absurd (lazy_or op (runs (two_instr op)) e (λ z. cc))
+  or_emits (Negated op) line A B C P Q c d e f = absurd (lazy_or op (runs (two_instr op)) e (λ z. cc))
   or_emits (Lazily true) line A B C P Q c d e f = f
   or_emits (Lazily false) line A B C P Q c d e f = absurd (cc)
   or_emits Joining line A B C P Q c d e f = absurd (cc)
 
   and_emits : (k : Sort) (line : ℕ) (A B C : Place) (P Q : Type 0) (c d : DraftOf) → sorted.AndThen ≡ sorted_of k
-      → Emits w.text c d (P × Q × ⊤) (λ f site p q. IfAt f (A f site) (B f site) (Pushes f site n (i.Bool (pos 0))) p q)
-      → Emits w.text c d (P × SortBuilt k × Q) (λ f site p q. TwoAt f site n k line (A f site) (B f site) (C f site) p q)
-  and_emits (Plainly op) line A B C P Q c d e f = absurd (cc)
-  and_emits (Negated op) line A B C P Q c d e f = absurd (cc)
+      → Emits w c d (P × Q × ⊤) (λ f site p q. IfAt f (A f site) (B f site) (Pushes f site n (i.Bool (pos 0))) p q)
+      → Emits w c d (P × SortBuilt k × Q) (λ f site p q. TwoAt f site n k line (A f site) (B f site) (C f site) p q)
+  and_emits (Plainly op) line A B C P Q c d e f = absurd (lazy_and op (runs (two_instr op)) e (λ z. cc))
+  and_emits (Negated op) line A B C P Q c d e f = absurd (lazy_and op (runs (two_instr op)) e (λ z. cc))
   and_emits (Lazily true) line A B C P Q c d e f = absurd (cc)
-  and_emits (Lazily false) line A B C P Q c d e f = emits_as w.text (P × Q × ⊤) (P × ⊤ × Q) _ _ c d (λ t. (t.0, t.2, t.1)) (λ final site p q _ t. t) f
+  and_emits (Lazily false) line A B C P Q c d e f = emits_as w (P × Q × ⊤) (P × ⊤ × Q) _ _ c d (λ t. (t.0, t.2, t.1)) (λ t. (t.0, t.2, t.1)) (λ final site p q _ _ t. t) f
   and_emits Joining line A B C P Q c d e f = absurd (cc)
 
+  other_runs : (op : Dyadic) {x : Sorted} → (r : Bool) → runs (two_instr op) ≡ r → sorted.Other ≡ (if r then x else sorted.Other) → (sorted.Other ≡ x → ⊥) → runs (two_instr op) ≡ true → ⊥
+  other_runs op true h e never k = never e
+  other_runs op false h e never k = cc
+
   other_built : (k : Sort) → sorted.Other ≡ sorted_of k → SortBuilt k → ⊥
-  other_built (Plainly op) e h = cc
-  other_built (Negated op) e h = cc
+  other_built (Plainly op) e h = other_runs op (runs (two_instr op)) refl e (λ z. cc) h
+  other_built (Negated op) e h = other_runs op (runs (two_instr op)) refl e (λ z. cc) h
   other_built (Lazily true) e h = cc
   other_built (Lazily false) e h = cc
   other_built Joining e h = h
@@ -191,25 +227,25 @@ module _ (b : Bound) (w : Cells) (n : ℕ) where
   unfolding Writes WritesOperand Puts
   write_plain c0 c1 c2 texts operator token a k x m line ek ex em f el e2 start left st l =
       let s = source_of b in
-      let f' = subst (λ z. Emits w.text c0 c1 (IsBuilt s w.slots.items w.text (syntax_of a)) (λ final site p q. ExprAt s final site z (syntax_of a) p q)) em f in
-      plain_emits (sort_of (is_text s left) operator) (line_at s token.0) (λ f site. ExprAt s f site n left) (λ f site. ExprAt s f site n (syntax_of a)) (λ f site. ExprAt s f site (suc n) (syntax_of a)) (IsBuilt s w.slots.items w.text left) (IsBuilt s w.slots.items w.text (syntax_of a)) start c2 x (sym ex ∙ ek ∙ ap sorted_of (sym st)) (λ op same.
-      emits_as w.text _ _ _ _ start c2 (λ t. (t.0, (t.2, tt))) (λ final site p q _ r. (r.0, r.2.0, r.1, r.2.1, r.2.2))
-      (emits_then w.text _ _ (λ z site. ExprAt s z site n left) (λ z site p q. (y : ℕ) × ExprAt s z site (suc n) (syntax_of a) p y × At z (two_instr op) (line_at s token.0) y q) start c0 c2 l
-      (emits_then w.text _ _ (λ z site. ExprAt s z site (suc n) (syntax_of a)) (λ z site. At z (two_instr op) (line_at s token.0)) c0 c1 c2 f'
-      (emits_at w.text c1 c2 (two_instr op) (line_at s token.0) (e2 ∙ ap (λ z. with_instr c1 z line) (sym same) ∙ ap (λ z. with_instr c1 (two_instr op) z) el) (two_real op)))))
+      let f' = subst (λ z. Emits w c0 c1 (IsBuilt s w.text (syntax_of a)) (λ final site p q. ExprAt s final site z (syntax_of a) p q)) em f in
+      plain_emits (sort_of (is_text s left) operator) (line_at s token.0) (λ f site. ExprAt s f site n left) (λ f site. ExprAt s f site n (syntax_of a)) (λ f site. ExprAt s f site (suc n) (syntax_of a)) (IsBuilt s w.text left) (IsBuilt s w.text (syntax_of a)) start c2 x (sym ex ∙ ek ∙ ap sorted_of (sym st)) (λ op same run.
+      emits_as w _ _ _ _ start c2 (λ t. (t.0, (t.2, tt))) (λ t. (t.0, tt, t.1.0)) (λ final site p q _ _ r. (r.0, r.2.0, r.1, r.2.1, r.2.2))
+      (emits_then w _ _ (λ z site. ExprAt s z site n left) (λ z site p q. (y : ℕ) × ExprAt s z site (suc n) (syntax_of a) p y × At z (two_instr op) (line_at s token.0) y q) start c0 c2 l
+      (emits_then w _ _ (λ z site. ExprAt s z site (suc n) (syntax_of a)) (λ z site. At z (two_instr op) (line_at s token.0)) c0 c1 c2 f'
+      (emits_at w c1 c2 (two_instr op) (line_at s token.0) (e2 ∙ ap (λ z. with_instr c1 z line) (sym same) ∙ ap (λ z. with_instr c1 (two_instr op) z) el) (two_real op) run))))
 
   pub write_negated : (c0 c1 c2 c3 : DraftOf) (texts : Bool) (operator : Operator) (token : TokenNo) (a : Expr) (k : Sorted) (x : Instr) (m line line2 : ℕ) → k ≡ sorted_of (sort_of texts operator) → k ≡ sorted.Negated x → m ≡ suc n → Writes b w m c0 c1 a → line ≡ line_at (source_of b) token.0 → c2 ≡ with_instr c1 x line → line2 ≡ line_at (source_of b) token.0 → c3 ≡ with_instr c2 i.Not line2 → WritesOperand b w n c0 c3 texts operator token a
   unfolding Writes WritesOperand Puts
   write_negated c0 c1 c2 c3 texts operator token a k x m line line2 ek ex em f el e2 el2 e3 start left st l =
       let s = source_of b in
-      let f' = subst (λ z. Emits w.text c0 c1 (IsBuilt s w.slots.items w.text (syntax_of a)) (λ final site p q. ExprAt s final site z (syntax_of a) p q)) em f in
-      negated_emits (sort_of (is_text s left) operator) (line_at s token.0) (λ f site. ExprAt s f site n left) (λ f site. ExprAt s f site n (syntax_of a)) (λ f site. ExprAt s f site (suc n) (syntax_of a)) (IsBuilt s w.slots.items w.text left) (IsBuilt s w.slots.items w.text (syntax_of a)) start c3 x (sym ex ∙ ek ∙ ap sorted_of (sym st)) (λ op same.
-      emits_as w.text _ _ _ _ start c3 (λ t. (t.0, (t.2, (tt, tt)))) (λ final site p q _ r. (r.0, r.2.0, r.2.2.0, r.1, r.2.1, r.2.2.1, r.2.2.2))
-      (emits_then w.text _ _ (λ z site. ExprAt s z site n left) (λ z site p q. (y : ℕ) × ExprAt s z site (suc n) (syntax_of a) p y × ((u : ℕ) × At z (two_instr op) (line_at s token.0) y u × At z i.Not (line_at s token.0) u q)) start c0 c3 l
-      (emits_then w.text _ _ (λ z site. ExprAt s z site (suc n) (syntax_of a)) (λ z site y q. (u : ℕ) × At z (two_instr op) (line_at s token.0) y u × At z i.Not (line_at s token.0) u q) c0 c1 c3 f'
-      (emits_then w.text _ _ (λ z site. At z (two_instr op) (line_at s token.0)) (λ z site. At z i.Not (line_at s token.0)) c1 c2 c3
-      (emits_at w.text c1 c2 (two_instr op) (line_at s token.0) (e2 ∙ ap (λ z. with_instr c1 z line) (sym same) ∙ ap (λ z. with_instr c1 (two_instr op) z) el) (two_real op))
-      (emits_at w.text c2 c3 i.Not (line_at s token.0) (e3 ∙ ap (λ z. with_instr c2 i.Not z) el2) (λ z. cc))))))
+      let f' = subst (λ z. Emits w c0 c1 (IsBuilt s w.text (syntax_of a)) (λ final site p q. ExprAt s final site z (syntax_of a) p q)) em f in
+      negated_emits (sort_of (is_text s left) operator) (line_at s token.0) (λ f site. ExprAt s f site n left) (λ f site. ExprAt s f site n (syntax_of a)) (λ f site. ExprAt s f site (suc n) (syntax_of a)) (IsBuilt s w.text left) (IsBuilt s w.text (syntax_of a)) start c3 x (sym ex ∙ ek ∙ ap sorted_of (sym st)) (λ op same run.
+      emits_as w _ _ _ _ start c3 (λ t. (t.0, (t.2, (tt, tt)))) (λ t. (t.0, tt, t.1.0)) (λ final site p q _ _ r. (r.0, r.2.0, r.2.2.0, r.1, r.2.1, r.2.2.1, r.2.2.2))
+      (emits_then w _ _ (λ z site. ExprAt s z site n left) (λ z site p q. (y : ℕ) × ExprAt s z site (suc n) (syntax_of a) p y × ((u : ℕ) × At z (two_instr op) (line_at s token.0) y u × At z i.Not (line_at s token.0) u q)) start c0 c3 l
+      (emits_then w _ _ (λ z site. ExprAt s z site (suc n) (syntax_of a)) (λ z site y q. (u : ℕ) × At z (two_instr op) (line_at s token.0) y u × At z i.Not (line_at s token.0) u q) c0 c1 c3 f'
+      (emits_then w _ _ (λ z site. At z (two_instr op) (line_at s token.0)) (λ z site. At z i.Not (line_at s token.0)) c1 c2 c3
+      (emits_at w c1 c2 (two_instr op) (line_at s token.0) (e2 ∙ ap (λ z. with_instr c1 z line) (sym same) ∙ ap (λ z. with_instr c1 (two_instr op) z) el) (two_real op) run)
+      (emits_at w c2 c3 i.Not (line_at s token.0) (e3 ∙ ap (λ z. with_instr c2 i.Not z) el2) (λ z. cc) refl)))))
 
   pub write_or : (c1 c2 c3 c4 c5 c6 c7 : DraftOf) (texts : Bool) (operator : Operator) (token : TokenNo) (a : Expr) (k : Sorted) (jump over : ℕ) (start end : ℤ) → k ≡ sorted_of (sort_of texts operator) → k ≡ sorted.OrElse
       → jump ≡ length c1.instrs → c2 ≡ with_hole c1 → c3 ≡ with_push c2 n (i.Bool (pos 1)) 0 → over ≡ length c3.instrs → c4 ≡ with_hole c3 → start ≡ pos (length c4.instrs) → Writes b w n c4 c5 a → end ≡ pos (length c5.instrs)
@@ -217,8 +253,8 @@ module _ (b : Bound) (w : Cells) (n : ℕ) where
   unfolding Writes WritesOperand Puts
   write_or c1 c2 c3 c4 c5 c6 c7 texts operator token a k jump over start end ek ex ej e2 e3 eo e4 es f5 ee e6 e7 begin left st l =
       let s = source_of b in
-      or_emits (sort_of (is_text s left) operator) (line_at s token.0) (λ f site. ExprAt s f site n left) (λ f site. ExprAt s f site n (syntax_of a)) (λ f site. ExprAt s f site (suc n) (syntax_of a)) (IsBuilt s w.slots.items w.text left) (IsBuilt s w.slots.items w.text (syntax_of a)) begin c7 (sym ex ∙ ek ∙ ap sorted_of (sym st))
-      (emits_if w.text (IsBuilt s w.slots.items w.text left) ⊤ (IsBuilt s w.slots.items w.text (syntax_of a)) (λ z site. ExprAt s z site n left) (λ z site. Pushes z site n (i.Bool (pos 1))) (λ z site. ExprAt s z site n (syntax_of a)) begin c1 c2 c3 c4 c5 c6 c7 jump over start end l ej e2 (emits_push w.text c2 c3 n (i.Bool (pos 1)) 0 e3 (λ z. cc)) eo e4 es f5 ee e6 e7)
+      or_emits (sort_of (is_text s left) operator) (line_at s token.0) (λ f site. ExprAt s f site n left) (λ f site. ExprAt s f site n (syntax_of a)) (λ f site. ExprAt s f site (suc n) (syntax_of a)) (IsBuilt s w.text left) (IsBuilt s w.text (syntax_of a)) begin c7 (sym ex ∙ ek ∙ ap sorted_of (sym st))
+      (emits_if w (IsBuilt s w.text left) ⊤ (IsBuilt s w.text (syntax_of a)) (λ z site. ExprAt s z site n left) (λ z site. Pushes z site n (i.Bool (pos 1))) (λ z site. ExprAt s z site n (syntax_of a)) begin c1 c2 c3 c4 c5 c6 c7 jump over start end l ej e2 (emits_push w c2 c3 n (i.Bool (pos 1)) 0 e3 (λ z. cc) refl) eo e4 es f5 ee e6 e7)
 
   pub write_and : (c1 c2 c3 c4 c5 c6 c7 : DraftOf) (texts : Bool) (operator : Operator) (token : TokenNo) (a : Expr) (k : Sorted) (jump over : ℕ) (start end : ℤ) → k ≡ sorted_of (sort_of texts operator) → k ≡ sorted.AndThen
       → jump ≡ length c1.instrs → c2 ≡ with_hole c1 → Writes b w n c2 c3 a → over ≡ length c3.instrs → c4 ≡ with_hole c3 → start ≡ pos (length c4.instrs) → c5 ≡ with_push c4 n (i.Bool (pos 0)) 0 → end ≡ pos (length c5.instrs)
@@ -226,20 +262,20 @@ module _ (b : Bound) (w : Cells) (n : ℕ) where
   unfolding Writes WritesOperand Puts
   write_and c1 c2 c3 c4 c5 c6 c7 texts operator token a k jump over start end ek ex ej e2 f3 eo e4 es e5 ee e6 e7 begin left st l =
       let s = source_of b in
-      and_emits (sort_of (is_text s left) operator) (line_at s token.0) (λ f site. ExprAt s f site n left) (λ f site. ExprAt s f site n (syntax_of a)) (λ f site. ExprAt s f site (suc n) (syntax_of a)) (IsBuilt s w.slots.items w.text left) (IsBuilt s w.slots.items w.text (syntax_of a)) begin c7 (sym ex ∙ ek ∙ ap sorted_of (sym st))
-      (emits_if w.text (IsBuilt s w.slots.items w.text left) (IsBuilt s w.slots.items w.text (syntax_of a)) ⊤ (λ z site. ExprAt s z site n left) (λ z site. ExprAt s z site n (syntax_of a)) (λ z site. Pushes z site n (i.Bool (pos 0))) begin c1 c2 c3 c4 c5 c6 c7 jump over start end l ej e2 f3 eo e4 es (emits_push w.text c4 c5 n (i.Bool (pos 0)) 0 e5 (λ z. cc)) ee e6 e7)
+      and_emits (sort_of (is_text s left) operator) (line_at s token.0) (λ f site. ExprAt s f site n left) (λ f site. ExprAt s f site n (syntax_of a)) (λ f site. ExprAt s f site (suc n) (syntax_of a)) (IsBuilt s w.text left) (IsBuilt s w.text (syntax_of a)) begin c7 (sym ex ∙ ek ∙ ap sorted_of (sym st))
+      (emits_if w (IsBuilt s w.text left) (IsBuilt s w.text (syntax_of a)) ⊤ (λ z site. ExprAt s z site n left) (λ z site. ExprAt s z site n (syntax_of a)) (λ z site. Pushes z site n (i.Bool (pos 0))) begin c1 c2 c3 c4 c5 c6 c7 jump over start end l ej e2 f3 eo e4 es (emits_push w c4 c5 n (i.Bool (pos 0)) 0 e5 (λ z. cc) refl) ee e6 e7)
 
   -- what stands behind something and is not built
-  gives_up : (P Q : Type 0) (A B : Place) (a c d : DraftOf) → Emits w.text a c P A → (Q → ⊥) → d ≡ given_up c → Emits w.text a d Q B
+  gives_up : (P Q : Type 0) (A B : Place) (a c d : DraftOf) → Emits w a c P A → (Q → ⊥) → d ≡ given_up c → Emits w a d Q B
   gives_up P Q A B a c d f never is =
-      emits_as w.text (P × ⊥) Q _ _ a d (λ q. absurd (never q)) (λ final site p q _ r. absurd r.2)
-      (emits_then w.text P ⊥ A (λ final site p q. ⊥) a c d f (emits_nothing w.text c d ⊥ (λ final site p q. ⊥) (λ z. z) is))
+      emits_as w (P × ⊥) Q _ _ a d (λ q. absurd (never q)) (λ q. absurd q.1) (λ final site p q _ _ r. absurd r.2)
+      (emits_then w P ⊥ A (λ final site p q. ⊥) a c d f (emits_nothing w c d ⊥ (λ final site p q. ⊥) (λ z. z) is))
 
   pub write_other : (c0 c1 : DraftOf) (texts : Bool) (operator : Operator) (token : TokenNo) (a : Expr) (k : Sorted) → k ≡ sorted_of (sort_of texts operator) → k ≡ sorted.Other → c1 ≡ given_up c0 → WritesOperand b w n c0 c1 texts operator token a
   unfolding WritesOperand Puts
   write_other c0 c1 texts operator token a k ek ex is start left st l =
       let s = source_of b in
-      gives_up (IsBuilt s w.slots.items w.text left) _ (λ f site. ExprAt s f site n left) _ start c0 c1 l (λ t. other_built (sort_of (is_text s left) operator) (sym ex ∙ ek ∙ ap sorted_of (sym st)) t.1) is
+      gives_up (IsBuilt s w.text left) _ (λ f site. ExprAt s f site n left) _ start c0 c1 l (λ t. other_built (sort_of (is_text s left) operator) (sym ex ∙ ek ∙ ap sorted_of (sym st)) t.1) is
 
   -- further operands
   pub owes_all : (a : DraftOf) (ts : List Tail) → OwesTails b w n a ts a ts
@@ -308,15 +344,15 @@ module _ (b : Bound) (w : Cells) (n : ℕ) where
 
   pub write_plus : (a : DraftOf) (k : Sign) (t : TokenNo) → k ≡ sign.Plus → WritesSign b w n a a k t
   unfolding WritesSign Puts
-  write_plus a k t is start x f = subst (λ z. Emits w.text start a (IsBuilt (source_of b) w.slots.items w.text (Signed z t.0 x)) (λ final site p q. ExprAt (source_of b) final site n (Signed z t.0 x) p q)) (sym is) f
+  write_plus a k t is start x f = subst (λ z. Emits w start a (IsBuilt (source_of b) w.text (Signed z t.0 x)) (λ final site p q. ExprAt (source_of b) final site n (Signed z t.0 x) p q)) (sym is) f
 
   pub write_minus : (a c : DraftOf) (k : Sign) (t : TokenNo) (line : ℕ) → k ≡ sign.Minus → line ≡ line_at (source_of b) t.0 → c ≡ with_instr a i.Neg line → WritesSign b w n a c k t
   unfolding WritesSign Puts
   write_minus a c k t line is el ec start x f =
       let s = source_of b in
-      subst (λ z. Emits w.text start c (IsBuilt s w.slots.items w.text (Signed z t.0 x)) (λ final site p q. ExprAt s final site n (Signed z t.0 x) p q)) (sym is)
-      (emits_as w.text _ _ _ _ start c (λ t. (t, tt)) (λ final site p q _ r. r)
-      (emits_then w.text _ _ (λ z site. ExprAt s z site n x) (λ z site. At z i.Neg (line_at s t.0)) start a c f (emits_at w.text a c i.Neg (line_at s t.0) (ec ∙ ap (λ z. with_instr a i.Neg z) el) (λ z. cc))))
+      subst (λ z. Emits w start c (IsBuilt s w.text (Signed z t.0 x)) (λ final site p q. ExprAt s final site n (Signed z t.0 x) p q)) (sym is)
+      (emits_as w _ _ _ _ start c (λ t. (t, tt)) (λ t. t.0) (λ final site p q _ _ r. r)
+      (emits_then w _ _ (λ z site. ExprAt s z site n x) (λ z site. At z i.Neg (line_at s t.0)) start a c f (emits_at w a c i.Neg (line_at s t.0) (ec ∙ ap (λ z. with_instr a i.Neg z) el) (λ z. cc) refl)))
 
   pub write_related : (c0 c1 c2 : DraftOf) (a x y : Expr) (p q : Box Expr Global) (t : TokenNo) (r : Relation) (texts : Bool) → a ≡ e.Related p t r q → x ≡ p.value → y ≡ q.value → Writes b w n c0 c1 x → texts ≡ is_text (source_of b) (syntax_of x) → WritesOperand b w n c1 c2 texts (o.Relate r) t y → Writes b w n c0 c2 a
   unfolding Writes WritesOperand
@@ -335,17 +371,17 @@ module _ (b : Bound) (w : Cells) (n : ℕ) where
   unfolding WritesNot Puts
   nots_next a c d ts us t x line is f el ed =
       let s = source_of b in
-      subst (λ z. Emits w.text a d (IsBuilt s w.slots.items w.text (negated z (syntax_of x))) (λ final site p q. ExprAt s final site n (negated z (syntax_of x)) p q)) (sym is)
-      (emits_as w.text _ _ _ _ a d (λ t. (t, tt)) (λ final site p q _ r. r)
-      (emits_then w.text _ _ (λ z site. ExprAt s z site n (negated ts (syntax_of x))) (λ z site. At z i.Not (line_at s t.0)) a c d f (emits_at w.text c d i.Not (line_at s t.0) (ed ∙ ap (λ z. with_instr c i.Not z) el) (λ z. cc))))
+      subst (λ z. Emits w a d (IsBuilt s w.text (negated z (syntax_of x))) (λ final site p q. ExprAt s final site n (negated z (syntax_of x)) p q)) (sym is)
+      (emits_as w _ _ _ _ a d (λ t. (t, tt)) (λ t. t.0) (λ final site p q _ _ r. r)
+      (emits_then w _ _ (λ z site. ExprAt s z site n (negated ts (syntax_of x))) (λ z site. At z i.Not (line_at s t.0)) a c d f (emits_at w c d i.Not (line_at s t.0) (ed ∙ ap (λ z. with_instr c i.Not z) el) (λ z. cc) refl)))
 
   -- what is taken of an object
-  unbuilt_selected : (s : Source) (x : Expression) (ys : List Selection) → (IsBuilt s w.slots.items w.text x → ⊥) → IsBuilt s w.slots.items w.text (selected x ys) → ⊥
+  unbuilt_selected : (s : Source) (x : Expression) (ys : List Selection) → (IsBuilt s w.text x → ⊥) → IsBuilt s w.text (selected x ys) → ⊥
   unbuilt_selected s x [] never h = never h
   unbuilt_selected s x (Take t y args ∷ ys) never h = unbuilt_selected s _ ys (λ z. z) h
   unbuilt_selected s x (Cast t y ∷ ys) never h = unbuilt_selected s _ ys (λ z. z) h
 
-  unbuilt_further : (s : Source) (x : Expression) (y : Selection) (ys : List Selection) → IsBuilt s w.slots.items w.text (selected x (y ∷ ys)) → ⊥
+  unbuilt_further : (s : Source) (x : Expression) (y : Selection) (ys : List Selection) → IsBuilt s w.text (selected x (y ∷ ys)) → ⊥
   unbuilt_further s x (Take t y args) ys h = unbuilt_selected s _ ys (λ z. z) h
   unbuilt_further s x (Cast t y) ys h = unbuilt_selected s _ ys (λ z. z) h
 
@@ -357,135 +393,60 @@ module _ (b : Bound) (w : Cells) (n : ℕ) where
   pub select_some : (a c : DraftOf) (xs : List Selector) → length xs ≢ 0 → c ≡ given_up a → WritesSelected b w n a c xs
   unfolding WritesSelected Puts
   select_some a c [] is ec start x f = absurd (is refl)
-  select_some a c (y ∷ ys) is ec start x f = gives_up (IsBuilt (source_of b) w.slots.items w.text x) _ (λ z site. ExprAt (source_of b) z site n x) _ start a c f (unbuilt_further (source_of b) x (selector_syntax y) (map selector_syntax ys)) ec
+  select_some a c (y ∷ ys) is ec start x f = gives_up (IsBuilt (source_of b) w.text x) _ (λ z site. ExprAt (source_of b) z site n x) _ start a c f (unbuilt_further (source_of b) x (selector_syntax y) (map selector_syntax ys)) ec
 
   pub write_postfix : (c0 c1 c2 : DraftOf) (a x : Expr) (p : Box Expr Global) (l : Vec Selector Global) (ts : List Selector) → a ≡ e.Postfix p l → x ≡ p.value → ts ≡ l.items → Writes b w n c0 c1 x → WritesSelected b w n c1 c2 ts → Writes b w n c0 c2 a
   unfolding Writes WritesSelected
   write_postfix c0 c1 c2 a x p l ts is ex et f g = puts_as c0 c2 (selected (syntax_of x) (map selector_syntax ts)) (syntax_of a)
       (ap (λ z. selected (syntax_of z) (map selector_syntax ts)) ex ∙ ap (λ z. selected (syntax_of p.value) (map selector_syntax z)) et ∙ sym (ap syntax_of is ∙ v.syntax-Postfix p l)) (g c0 (syntax_of x) f)
 
-  -- identifiers
-  pub write_named : (a c : DraftOf) (u : Expr) (x : Identifier) (l : Vec Expr Global) (es : List Expr) → u ≡ e.Named x l → es ≡ l.items → WritesNamed b w n a c x es → Writes b w n a c u
-  unfolding Writes WritesNamed
+  -- identifiers, of which there is what they write
+  pub write_named : (a c : DraftOf) (u : Expr) (x : Identifier) (l : Vec Expr Global) (es : List Expr) → u ≡ e.Named x l → es ≡ l.items → WritesGiving b w n a c x es → Writes b w n a c u
+  unfolding Writes WritesGiving
   write_named a c u x l es is ee f = puts_as a c (Named x (expressions (map syntax_of es))) (syntax_of u) (ap (λ z. Named x (expressions (map syntax_of z))) ee ∙ sym (ap syntax_of is ∙ v.syntax-Named x l)) f
 
-  cell_declared : (s : Source) (code : CodeOf) (site : Site) (line : ℕ) (d : DeclNo) (k : Option Entry) (Inner : ℕ → ℕ → Type 0) (Actuals : List Formal → ℕ → ℕ → Type 0) (p q : ℕ) → has_cell k ≡ true → CellAt s code site n d p q → DeclaredAt s code site n line d k NoMore Inner Actuals p q
-  cell_declared s code site line d None Inner Actuals p q h f = absurd (cc)
-  cell_declared s code site line d (Some (entry.Variable type)) Inner Actuals p q h f = f
-  cell_declared s code site line d (Some (entry.Constant type)) Inner Actuals p q h f = absurd (cc)
-  cell_declared s code site line d (Some (entry.Array element dimensions)) Inner Actuals p q h f = f
-  cell_declared s code site line d (Some (entry.Procedure result text)) Inner Actuals p q h f = absurd (cc)
-  cell_declared s code site line d (Some (entry.Class text)) Inner Actuals p q h f = absurd (cc)
-  cell_declared s code site line d (Some (entry.Virtual result own)) Inner Actuals p q h f = absurd (cc)
-  cell_declared s code site line d (Some (entry.Unspecified written)) Inner Actuals p q h f = absurd (cc)
-  cell_declared s code site line d (Some (entry.Formal x)) Inner Actuals p q h f = formal x.mode x.kind h
-    where
-      formal : (m : Mode) (k : FormalKind) → formal_has_cell m k ≡ true → FormalAt s code site n line d m k NoMore Inner p q
-      formal mode.ByName k h = absurd (cc)
-      formal mode.ByValue shape.Simple h = f
-      formal mode.ByValue shape.Array h = f
-      formal mode.ByValue shape.Procedure h = absurd (cc)
-      formal mode.ByReference shape.Simple h = f
-      formal mode.ByReference shape.Array h = f
-      formal mode.ByReference shape.Procedure h = absurd (cc)
-
-  element_declared : (s : Source) (code : CodeOf) (site : Site) (line : ℕ) (d : DeclNo) (k : Option Entry) (x : Expression) (xs : Expressions) (Inner : ℕ → ℕ → Type 0) (Actuals : List Formal → ℕ → ℕ → Type 0) (p q : ℕ) → has_elements k ≡ true → ((r : ℕ) × ElementAt s code site n line d (Then x xs) Inner p r × Is code i.Fetch r q) → DeclaredAt s code site n line d k (Then x xs) Inner Actuals p q
-  element_declared s code site line d None x xs Inner Actuals p q h f = absurd (cc)
-  element_declared s code site line d (Some (entry.Variable type)) x xs Inner Actuals p q h f = absurd (cc)
-  element_declared s code site line d (Some (entry.Constant type)) x xs Inner Actuals p q h f = absurd (cc)
-  element_declared s code site line d (Some (entry.Array element dimensions)) x xs Inner Actuals p q h f = f
-  element_declared s code site line d (Some (entry.Procedure result text)) x xs Inner Actuals p q h f = absurd (cc)
-  element_declared s code site line d (Some (entry.Class text)) x xs Inner Actuals p q h f = absurd (cc)
-  element_declared s code site line d (Some (entry.Virtual result own)) x xs Inner Actuals p q h f = absurd (cc)
-  element_declared s code site line d (Some (entry.Unspecified written)) x xs Inner Actuals p q h f = absurd (cc)
-  element_declared s code site line d (Some (entry.Formal y)) x xs Inner Actuals p q h f = formal y.mode y.kind h
-    where
-      formal : (m : Mode) (k : FormalKind) → formal_has_elements m k ≡ true → FormalAt s code site n line d m k (Then x xs) Inner p q
-      formal mode.ByName k h = absurd (cc)
-      formal mode.ByValue shape.Simple h = absurd (cc)
-      formal mode.ByValue shape.Array h = f
-      formal mode.ByValue shape.Procedure h = absurd (cc)
-      formal mode.ByReference shape.Simple h = absurd (cc)
-      formal mode.ByReference shape.Array h = f
-      formal mode.ByReference shape.Procedure h = absurd (cc)
-
-  -- what is denoted is known
-  named_as : (a c : DraftOf) (x : Identifier) (es : Expressions) (u : Option Denotation) (d : DeclNo) → u ≡ denoted (source_of b) x.token.0 → u ≡ Some (denotation.Declared d)
-      → Emits w.text a c (NamedBuilt (source_of b) w.slots.items w.text (Some (denotation.Declared d)) es (AreBuilt (source_of b) w.slots.items w.text es))
-      (λ final site p q. NamedAt (source_of b) final site n (line_at (source_of b) x.token.0) (Some (denotation.Declared d)) es (λ p q. ExprsAt (source_of b) final site n es p q) (λ p q. ExprsAt (source_of b) final site (suc n) es p q) (λ formals p q. ActualsAt (source_of b) final site (suc n) (line_at (source_of b) x.token.0) es formals p q) p q)
-      → Puts (source_of b) w n a c (Named x es)
-  unfolding Puts
-  named_as a c x es u d eu some f =
-      subst (λ z. Emits w.text a c (NamedBuilt (source_of b) w.slots.items w.text z es (AreBuilt (source_of b) w.slots.items w.text es))
-      (λ final site p q. NamedAt (source_of b) final site n (line_at (source_of b) x.token.0) z es (λ p q. ExprsAt (source_of b) final site n es p q) (λ p q. ExprsAt (source_of b) final site (suc n) es p q) (λ formals p q. ActualsAt (source_of b) final site (suc n) (line_at (source_of b) x.token.0) es formals p q) p q)) (sym some ∙ eu) f
-
-  pub write_cell_named : (a c : DraftOf) (x : Identifier) (es : List Expr) (d : DeclNo) (k : Option Entry) → length es ≡ 0 → k ≡ entry_of b.scopes d → has_cell k ≡ true → WritesCell b w n a c d → WritesDeclared b w n a c x d es
-  unfolding WritesDeclared WritesNamed WritesCell source_of
-  write_cell_named a c x [] d k none ek has f den =
-      let s = source_of b in
-      let has' : has_cell (entry_of s.tables d) ≡ true = ap has_cell (sym ek) ∙ has in
-      named_as a c x NoMore _ d refl den (emits_as w.text _ _ _ _ a c (λ t. t.1) (λ final site p q _ r. cell_declared s final site (line_at s x.token.0) d (entry_of s.tables d) _ _ p q has' r) f)
-  write_cell_named a c x (y ∷ ys) d k none ek has f den = absurd (omega (arith, none))
-
-  pub write_no_cell : (a c : DraftOf) (x : Identifier) (es : List Expr) (d : DeclNo) (k : Option Entry) → length es ≡ 0 → k ≡ entry_of b.scopes d → has_cell k ≡ false → c ≡ given_up a → WritesDeclared b w n a c x d es
-  unfolding WritesDeclared WritesNamed source_of
-  write_no_cell a c x [] d k none ek has ec den =
-      named_as a c x NoMore _ d refl den (emits_nothing w.text a c _ _ (λ h. let t = h.0 in let f : has_cell (entry_of b.scopes d) ≡ false = ap has_cell (sym ek) ∙ has in cc) ec)
-  write_no_cell a c x (y ∷ ys) d k none ek has ec den = absurd (omega (arith, none))
-
-  pub write_element_named : (a c0 c : DraftOf) (x : Identifier) (es : List Expr) (d : DeclNo) (k : Option Entry) → length es ≢ 0 → k ≡ entry_of b.scopes d → has_elements k ≡ true → WritesElement b w n a c0 x.token d es → c ≡ with_instr c0 i.Fetch 0 → WritesDeclared b w n a c x d es
-  unfolding WritesDeclared WritesNamed WritesElement source_of
-  write_element_named a c0 c x [] d k some' ek has f ec den = absurd (some' refl)
-  write_element_named a c0 c x (y ∷ ys) d k some' ek has f ec den =
-      let s = source_of b in
-      let es = expressions (map syntax_of (y ∷ ys)) in
-      let has' : has_elements (entry_of s.tables d) ≡ true = ap has_elements (sym ek) ∙ has in
-      named_as a c x es _ d refl den
-      (emits_as w.text _ _ _ _ a c (λ t. ((t.1, t.2), tt)) (λ final site p q _ r. element_declared s final site (line_at s x.token.0) d (entry_of s.tables d) _ _ _ _ p q has' (r.0, r.1, record { line = 0; is = r.2 }))
-      (emits_then w.text _ _ (λ z site p q. ElementAt s z site n (line_at s x.token.0) d es (λ p q. ExprsAt s z site (suc n) es p q) p q) (λ z site. At z i.Fetch 0) a c0 c f (emits_at w.text c0 c i.Fetch 0 ec (λ z. cc))))
-
-  pub write_no_element : (a c : DraftOf) (x : Identifier) (es : List Expr) (d : DeclNo) (k : Option Entry) → length es ≢ 0 → k ≡ entry_of b.scopes d → has_elements k ≡ false → c ≡ given_up a → WritesDeclared b w n a c x d es
-  unfolding WritesDeclared WritesNamed source_of
-  write_no_element a c x [] d k some' ek has ec den = absurd (some' refl)
-  write_no_element a c x (y ∷ ys) d k some' ek has ec den =
-      named_as a c x (expressions (map syntax_of (y ∷ ys))) _ d refl den (emits_nothing w.text a c _ _ (λ h. let t = h.0 in let f : has_elements (entry_of b.scopes d) ≡ false = ap has_elements (sym ek) ∙ has in cc) ec)
-
-  pub write_declared : (a c : DraftOf) (x : Identifier) (es : List Expr) (u : Option Denotation) (d : DeclNo) → u ≡ denoted (source_of b) x.token.0 → u ≡ Some (denotation.Declared d) → WritesDeclared b w n a c x d es → WritesNamed b w n a c x es
-  unfolding WritesDeclared
-  write_declared a c x es u d eu some f = f (sym eu ∙ some)
-
-  pub write_undeclared : (a c : DraftOf) (x : Identifier) (es : List Expr) (u : Option Denotation) → u ≡ denoted (source_of b) x.token.0 → u ≡ None → c ≡ given_up a → WritesNamed b w n a c x es
-  unfolding WritesNamed Puts
-  write_undeclared a c x es u eu none ec = emits_nothing w.text a c _ _ (λ h. subst (λ z. NamedBuilt (source_of b) w.slots.items w.text z (expressions (map syntax_of es)) (AreBuilt (source_of b) w.slots.items w.text (expressions (map syntax_of es)))) (sym eu ∙ none) h) ec
-
-  pub write_standard_named : (a c : DraftOf) (x : Identifier) (es : List Expr) (u : Option Denotation) (k : Standard) → u ≡ denoted (source_of b) x.token.0 → u ≡ Some (denotation.Standard k) → WritesStandard b w n a c x.token k es → WritesNamed b w n a c x es
-  unfolding WritesNamed WritesStandard Puts
-  write_standard_named a c x ys u k eu some f =
-      let es = expressions (map syntax_of ys) in
-      subst (λ z. Emits w.text a c (NamedBuilt (source_of b) w.slots.items w.text z es (AreBuilt (source_of b) w.slots.items w.text es))
-      (λ final site p q. NamedAt (source_of b) final site n (line_at (source_of b) x.token.0) z es (λ p q. ExprsAt (source_of b) final site n es p q) (λ p q. ExprsAt (source_of b) final site (suc n) es p q) (λ formals p q. ActualsAt (source_of b) final site (suc n) (line_at (source_of b) x.token.0) es formals p q) p q)) (sym some ∙ eu) f
-
   -- standard names
-  numbered_emits : (o : Option Row) (k line : ℕ) (A : Place) (P : Type 0) (a c : DraftOf) → Numbered (Some k) o → Emits w.text a c (P × ⊤) (λ final site p q. (x : ℕ) × A final site p x × (At final (i.Std (pos k)) line x q × (n < site.room))) → Emits w.text a c (StandardBuilt o × P) (λ final site p q. StandardAt final site n line o (A final site) p q)
-  numbered_emits None k line A P a c h f = absurd h
-  numbered_emits (Some name) k line A P a c h f = emits_as w.text _ _ _ _ a c (λ t. (t.1, tt)) (λ final site p q _ r. (r.0, r.1, record { number = k; numbered = h; is = r.2.0; fits = λ _. r.2.1 })) f
+  numbered_emits : (o : Option Row) (row : StandardCode) (count line : ℕ) (es : Expressions) (A : Place) (P : Type 0) (a c : DraftOf) → Numbered (Some row) o → operands es ≡ row.operands → runs (i.Std (pos row.number)) ≡ true → Emits w a c (P × ⊤) (λ final site p q. (x : ℕ) × A final site p x × (At final (i.Std (pos row.number)) line x q × (n < site.room)))
+      → Emits w a c (StandardBuilt o (operands es) × P) (λ final site p q. StandardAt final site n line o es (A final site) p q)
+  numbered_emits None row count line es A P a c h many run f = absurd h
+  numbered_emits (Some name) row count line es A P a c h many run f =
+      let as_many : operands es ≡ length (operands_of (row_of name).function) = many ∙ h.takes in
+      emits_as w _ _ _ _ a c (λ t. (t.1, tt)) (λ t. ((h.runs, as_many), t.0)) (λ final site p q _ _ r. (r.0, r.1, record { as_many = as_many; number = row.number; numbered = h.named; is = r.2.0; fits = λ _. r.2.1 })) f
 
-  pub write_standard : (a c0 c : DraftOf) (token : TokenNo) (name : Standard) (es : List Expr) (o : Option ℕ) (k line : ℕ) (x : Instr) → Numbered o (procedure_named name) → o ≡ Some k → WritesList b w n a c0 es → x ≡ i.Std (pos k) → line ≡ line_at (source_of b) token.0 → c ≡ with_push c0 n x line → WritesStandard b w n a c token name es
+  numbered_runs : (o : Option Row) (row : StandardCode) → Numbered (Some row) o → runs (i.Std (pos row.number)) ≡ true
+  numbered_runs None row h = absurd h
+  numbered_runs (Some name) row h = ap standard_runs h.named ∙ h.runs
+
+  count : (es : List Expr) → operands (expressions (map syntax_of es)) ≡ length es
+  count [] = refl
+  count (x ∷ xs) = ap suc (count xs)
+
+  pub write_standard : (a c0 c : DraftOf) (token : TokenNo) (name : Standard) (es : List Expr) (o : Option StandardCode) (row : StandardCode) (line : ℕ) (x : Instr) → Numbered o (procedure_named name) → o ≡ Some row → length es ≡ row.operands → WritesList b w n a c0 es → x ≡ i.Std (pos row.number) → line ≡ line_at (source_of b) token.0 → c ≡ with_push c0 n x line → WritesStandard b w n a c token name es
   unfolding WritesStandard WritesList
-  write_standard a c0 c token name ys o k line x h some f ex el ec =
+  write_standard a c0 c token name ys o row line x h some many f ex el ec =
       let s = source_of b in
       let es = expressions (map syntax_of ys) in
-      numbered_emits (procedure_named name) k (line_at s token.0) (λ z site p q. ExprsAt s z site n es p q) _ a c (subst (λ z. Numbered z (procedure_named name)) some h)
-      (emits_then w.text _ _ (λ z site p q. ExprsAt s z site n es p q) (λ z site p q. At z (i.Std (pos k)) (line_at s token.0) p q × (n < site.room)) a c0 c f
-      (emits_push_at w.text c0 c n (i.Std (pos k)) (line_at s token.0) (ec ∙ ap (λ z. with_push c0 n z line) ex ∙ ap (λ z. with_push c0 n (i.Std (pos k)) z) el) (λ z. cc)))
+      let is = subst (λ z. Numbered z (procedure_named name)) some h in
+      let run = numbered_runs (procedure_named name) row is in
+      numbered_emits (procedure_named name) row (operands es) (line_at s token.0) es (λ z site p q. ExprsAt s z site n es p q) _ a c is (count ys ∙ many) run
+      (emits_then w _ _ (λ z site p q. ExprsAt s z site n es p q) (λ z site p q. At z (i.Std (pos row.number)) (line_at s token.0) p q × (n < site.room)) a c0 c f
+      (emits_push_at w c0 c n (i.Std (pos row.number)) (line_at s token.0) (ec ∙ ap (λ z. with_push c0 n z line) ex ∙ ap (λ z. with_push c0 n (i.Std (pos row.number)) z) el) (λ z. cc) run))
 
-  no_number : (o : Option Row) → Numbered None o → StandardBuilt o → ⊥
-  no_number None h t = t
-  no_number (Some name) h t = h
+  no_number : (o : Option Row) (count : ℕ) → Numbered None o → StandardBuilt o count → ⊥
+  no_number None count h t = t
+  no_number (Some name) count h t = let k = t.0 in cc
 
-  pub write_no_number : (a c : DraftOf) (token : TokenNo) (name : Standard) (es : List Expr) (o : Option ℕ) → Numbered o (procedure_named name) → o ≡ None → c ≡ given_up a → WritesStandard b w n a c token name es
+  pub write_no_number : (a c : DraftOf) (token : TokenNo) (name : Standard) (es : List Expr) (o : Option StandardCode) → Numbered o (procedure_named name) → o ≡ None → c ≡ given_up a → WritesStandard b w n a c token name es
   unfolding WritesStandard
-  write_no_number a c token name es o h none ec = emits_nothing w.text a c _ _ (λ t. no_number (procedure_named name) (subst (λ z. Numbered z (procedure_named name)) none h) t.0) ec
+  write_no_number a c token name es o h none ec = emits_nothing w a c _ _ (λ t. no_number (procedure_named name) _ (subst (λ z. Numbered z (procedure_named name)) none h) t.0) ec
+
+  other_number : (o : Option Row) (row : StandardCode) (count : ℕ) → Numbered (Some row) o → count ≢ row.operands → StandardBuilt o count → ⊥
+  other_number None row count h other t = h
+  other_number (Some name) row count h other t = other (t.1 ∙ sym h.takes)
+
+  pub write_other_number : (a c : DraftOf) (token : TokenNo) (name : Standard) (es : List Expr) (o : Option StandardCode) (row : StandardCode) → Numbered o (procedure_named name) → o ≡ Some row → length es ≢ row.operands → c ≡ given_up a → WritesStandard b w n a c token name es
+  unfolding WritesStandard
+  write_other_number a c token name es o row h some other ec = emits_nothing w a c _ _ (λ t. other_number (procedure_named name) row _ (subst (λ z. Numbered z (procedure_named name)) some h) (λ z. other (sym (count es) ∙ z)) t.0) ec
 
   -- lists and elements
   pub lists_all : (a : DraftOf) (es : List Expr) → OwesList b w n a es n a es
@@ -496,75 +457,77 @@ module _ (b : Bound) (w : Cells) (n : ℕ) where
   unfolding OwesList WritesList Writes Puts
   lists_next a c d es r r' m m' x f is one em end rest =
       let s = source_of b in
-      let rest' = subst (λ z. Emits w.text d end (AreBuilt s w.slots.items w.text (expressions (map syntax_of r'))) (λ final site p q. ExprsAt s final site z (expressions (map syntax_of r')) p q)) em rest in
-      f end (subst (λ z. Emits w.text c end (AreBuilt s w.slots.items w.text (expressions (map syntax_of z))) (λ final site p q. ExprsAt s final site m (expressions (map syntax_of z)) p q)) (sym is)
-      (emits_then w.text _ _ (λ z site. ExprAt s z site m (syntax_of x)) (λ z site. ExprsAt s z site (suc m) (expressions (map syntax_of r'))) c d end one rest'))
+      let rest' = subst (λ z. Emits w d end (AreBuilt s w.text (expressions (map syntax_of r'))) (λ final site p q. ExprsAt s final site z (expressions (map syntax_of r')) p q)) em rest in
+      f end (subst (λ z. Emits w c end (AreBuilt s w.text (expressions (map syntax_of z))) (λ final site p q. ExprsAt s final site m (expressions (map syntax_of z)) p q)) (sym is)
+      (emits_then w _ _ (λ z site. ExprAt s z site m (syntax_of x)) (λ z site. ExprsAt s z site (suc m) (expressions (map syntax_of r'))) c d end one rest'))
 
   pub lists_none : (a c : DraftOf) (es r : List Expr) (m : ℕ) → OwesList b w n a es m c r → r ≡ [] → WritesList b w n a c es
   unfolding OwesList WritesList
   lists_none a c es r m f is =
       let s = source_of b in
-      f c (subst (λ z. Emits w.text c c (AreBuilt s w.slots.items w.text (expressions (map syntax_of z))) (λ final site p q. ExprsAt s final site m (expressions (map syntax_of z)) p q)) (sym is) (emits_none w.text c))
-
-  count : (es : List Expr) → operands (expressions (map syntax_of es)) ≡ length es
-  count [] = refl
-  count (x ∷ xs) = ap suc (count xs)
+      f c (subst (λ z. Emits w c c (AreBuilt s w.text (expressions (map syntax_of z))) (λ final site p q. ExprsAt s final site m (expressions (map syntax_of z)) p q)) (sym is) (emits_none w c))
 
   pub write_element : (a c0 c1 c : DraftOf) (token : TokenNo) (d : DeclNo) (es : List Expr) (m k line : ℕ) (x : Instr) → m ≡ suc n → WritesCell b w n a c0 d → WritesList b w m c0 c1 es → k ≡ length es → x ≡ i.Elem (pos k) (pos 0) → line ≡ line_at (source_of b) token.0 → c ≡ with_instr c1 x line → WritesElement b w n a c token d es
   unfolding WritesElement WritesCell WritesList
   write_element a c0 c1 c token d es m k line x em f g ek ex el ec =
       let s = source_of b in
       let xs = expressions (map syntax_of es) in
-      let g' = subst (λ z. Emits w.text c0 c1 (AreBuilt s w.slots.items w.text xs) (λ final site p q. ExprsAt s final site z xs p q)) em g in
+      let g' = subst (λ z. Emits w c0 c1 (AreBuilt s w.text xs) (λ final site p q. ExprsAt s final site z xs p q)) em g in
       let at : x ≡ i.Elem (pos (operands xs)) (pos 0) = ex ∙ ap (λ z. i.Elem (pos z) (pos 0)) (ek ∙ sym (count es)) in
-      emits_as w.text _ _ _ _ a c (λ t. (t.0, (t.1, tt))) (λ final site p q _ r. record { x = r.0; y = r.2.0; array = r.1; subscripts = r.2.1; found = r.2.2 })
-      (emits_then w.text _ _ (λ z site. CellAt s z site n d) (λ z site p q. (y : ℕ) × ExprsAt s z site (suc n) xs p y × At z (i.Elem (pos (operands xs)) (pos 0)) (line_at s token.0) y q) a c0 c f
-      (emits_then w.text _ _ (λ z site. ExprsAt s z site (suc n) xs) (λ z site. At z (i.Elem (pos (operands xs)) (pos 0)) (line_at s token.0)) c0 c1 c g'
-      (emits_at w.text c1 c (i.Elem (pos (operands xs)) (pos 0)) (line_at s token.0) (ec ∙ ap (λ z. with_instr c1 z line) at ∙ ap (λ z. with_instr c1 (i.Elem (pos (operands xs)) (pos 0)) z) el) (λ z. cc))))
+      emits_as w _ _ _ _ a c (λ t. (t.0, (t.1, tt))) (λ t. (t.0, t.1.0)) (λ final site p q _ _ r. record { x = r.0; y = r.2.0; array = r.1; subscripts = r.2.1; found = r.2.2 })
+      (emits_then w _ _ (λ z site. CellAt s z site n d) (λ z site p q. (y : ℕ) × ExprsAt s z site (suc n) xs p y × At z (i.Elem (pos (operands xs)) (pos 0)) (line_at s token.0) y q) a c0 c f
+      (emits_then w _ _ (λ z site. ExprsAt s z site (suc n) xs) (λ z site. At z (i.Elem (pos (operands xs)) (pos 0)) (line_at s token.0)) c0 c1 c g'
+      (emits_at w c1 c (i.Elem (pos (operands xs)) (pos 0)) (line_at s token.0) (ec ∙ ap (λ z. with_instr c1 z line) at ∙ ap (λ z. with_instr c1 (i.Elem (pos (operands xs)) (pos 0)) z) el) (λ z. cc) refl)))
 
-  pub write_load : (a c : DraftOf) (d : DeclNo) (x : Instr) (block k m : ℕ) (slot : Option ℕ) → Known b w → block ≡ block_of (source_of b) d → slot ≡ slot_in w.slots.items d → slot ≡ Some k → is_around b.scopes (length b.scopes.blocks) w.text block ≡ true → m ≡ level_of (source_of b) block → x ≡ i.Load (pos m) (pos k) → c ≡ with_push a n x 0 → WritesCell b w n a c d
-  unfolding WritesCell Known AreSlots source_of
-  write_load a c d x block k m slot known eb es some around em ex ec =
+  -- cells
+  pub write_load : (a c : DraftOf) (d : DeclNo) (x : Instr) (block k m : ℕ) (slot : Option ℕ) → block ≡ block_of (source_of b) d → slot ≡ slot_in (source_of b) (block_of (source_of b) d) (Declared d.0) → slot ≡ Some k → is_around b.scopes (length b.scopes.blocks) w.text block ≡ true → m ≡ level_of (source_of b) block → x ≡ i.Load (pos m) (pos k) → c ≡ with_push a n x 0 → WritesCell b w n a c d
+  unfolding WritesCell source_of
+  write_load a c d x block k m slot eb es some around em ex ec =
       let s = source_of b in
-      let ek : k ≡ slot_of s (block_of s d) (Declared d.0) = known d k (sym es ∙ some) in
+      let found : slot_in s (block_of s d) (Declared d.0) ≡ Some k = sym es ∙ some in
+      let ek : k ≡ slot_of s (block_of s d) (Declared d.0) = slot_found s (block_of s d) (Declared d.0) k found in
       let at : x ≡ i.Load (pos (level_of s (block_of s d))) (pos (slot_of s (block_of s d) (Declared d.0))) = ex ∙ ap (λ z. i.Load (pos z) (pos k)) (em ∙ ap (level_of s) eb) ∙ ap (λ z. i.Load (pos (level_of s (block_of s d))) (pos z)) ek in
-      let is : Inside s.tables w.text (block_of s d) = inside s.tables (block_of s d) (length s.tables.blocks) w.text (ap (λ z. is_around s.tables (length s.tables.blocks) w.text z) (sym eb) ∙ around) in
-      emits_as w.text _ _ _ _ a c (λ t. tt) (λ final site p q stands r. record { load = r; inside = subst (λ z. Inside s.tables z (block_of s d)) (sym stands) is })
-      (emits_push w.text a c n (i.Load (pos (level_of s (block_of s d))) (pos (slot_of s (block_of s d) (Declared d.0)))) 0 (ec ∙ ap (λ z. with_push a n z 0) at) (λ z. cc))
+      let there : is_around s.tables (length s.tables.blocks) w.text (block_of s d) ≡ true = ap (λ z. is_around s.tables (length s.tables.blocks) w.text z) (sym eb) ∙ around in
+      let is : Inside s.tables w.text (block_of s d) = inside s.tables (block_of s d) (length s.tables.blocks) w.text there in
+      let has : HasCell s (block_of s d) (Declared d.0) = slot_within s (block_of s d) (Declared d.0) k found in
+      emits_as w _ _ _ _ a c (λ t. tt) (λ t. record { has = ap is_there found; inside = record { found = there } }) (λ final site p q stands _ r. record { load = r; inside = subst (λ z. Inside s.tables z (block_of s d)) (sym stands) is; within = has })
+      (emits_push w a c n (i.Load (pos (level_of s (block_of s d))) (pos (slot_of s (block_of s d) (Declared d.0)))) 0 (ec ∙ ap (λ z. with_push a n z 0) at) (λ z. cc) refl)
 
-  pub write_no_slot : (a c : DraftOf) (d : DeclNo) (slot : Option ℕ) → slot ≡ slot_in w.slots.items d → slot ≡ None → c ≡ given_up a → WritesCell b w n a c d
+  pub write_no_slot : (a c : DraftOf) (d : DeclNo) (slot : Option ℕ) → slot ≡ slot_in (source_of b) (block_of (source_of b) d) (Declared d.0) → slot ≡ None → c ≡ given_up a → WritesCell b w n a c d
   unfolding WritesCell
-  write_no_slot a c d slot es none ec = emits_nothing w.text a c _ _ (λ h. let k = h.known in cc) ec
+  write_no_slot a c d slot es none ec = emits_nothing w a c _ _ (λ h. let k : true ≡ false = sym h.has ∙ ap is_there (sym es ∙ none) in cc) ec
 
   pub write_outside : (a c : DraftOf) (d : DeclNo) (block : ℕ) → block ≡ block_of (source_of b) d → is_around b.scopes (length b.scopes.blocks) w.text block ≡ false → c ≡ given_up a → WritesCell b w n a c d
   unfolding WritesCell source_of
-  write_outside a c d block eb out ec = emits_nothing w.text a c _ _ (λ h. let t : is_around b.scopes (length b.scopes.blocks) w.text block ≡ true = ap (λ z. is_around b.scopes (length b.scopes.blocks) w.text z) eb ∙ h.inside in cc) ec
+  write_outside a c d block eb out ec = emits_nothing w a c _ _ (λ h. let t : is_around b.scopes (length b.scopes.blocks) w.text block ≡ true = ap (λ z. is_around b.scopes (length b.scopes.blocks) w.text z) eb ∙ h.inside.found in cc) ec
 
   -- constants
   pub write_Integer : (a c : DraftOf) (u : Expr) (t : TokenNo) (z : ℤ) → u ≡ e.Integer t z → c ≡ with_push a n (i.Int z) 0 → Writes b w n a c u
   unfolding Writes Puts
-  write_Integer a c u t z is ec = puts_as a c _ (syntax_of u) (sym (ap syntax_of is ∙ v.syntax-Integer t z)) (emits_push w.text a c n (i.Int z) 0 ec (λ z. cc))
+  write_Integer a c u t z is ec = puts_as a c _ (syntax_of u) (sym (ap syntax_of is ∙ v.syntax-Integer t z)) (emits_push w a c n (i.Int z) 0 ec (λ z. cc) refl)
 
-  pub write_Character : (a c : DraftOf) (u : Expr) (t : TokenNo) (z : ℕ) → u ≡ e.Character t z → c ≡ with_push a n (i.Char (pos z)) 0 → Writes b w n a c u
+  pub write_Character : (a c : DraftOf) (u : Expr) (t : TokenNo) (z : ℕ) (x : Instr) → u ≡ e.Character t z → x ≡ i.Char (pos z) → z < 256 → c ≡ with_push a n x 0 → Writes b w n a c u
   unfolding Writes Puts
-  write_Character a c u t z is ec = puts_as a c _ (syntax_of u) (sym (ap syntax_of is ∙ v.syntax-Character t z)) (emits_push w.text a c n (i.Char (pos z)) 0 ec (λ z. cc))
+  write_Character a c u t z x is ex small ec =
+      puts_as a c _ (syntax_of u) (sym (ap syntax_of is ∙ v.syntax-Character t z))
+      (emits_as w ⊤ ⊤ (λ final site p q. Pushes final site n (i.Char (pos z)) p q) _ a c (λ t. t) (λ t. t) (λ final site p q _ _ r. (small, r)) (emits_push w a c n (i.Char (pos z)) 0 (ec ∙ ap (λ y. with_push a n y 0) ex) (λ z. cc) refl))
 
   pub write_True : (a c : DraftOf) (u : Expr) (t : TokenNo) → u ≡ e.True t → c ≡ with_push a n (i.Bool (pos 1)) 0 → Writes b w n a c u
   unfolding Writes Puts
-  write_True a c u t is ec = puts_as a c _ (syntax_of u) (sym (ap syntax_of is ∙ v.syntax-True t)) (emits_push w.text a c n (i.Bool (pos 1)) 0 ec (λ z. cc))
+  write_True a c u t is ec = puts_as a c _ (syntax_of u) (sym (ap syntax_of is ∙ v.syntax-True t)) (emits_push w a c n (i.Bool (pos 1)) 0 ec (λ z. cc) refl)
 
   pub write_False : (a c : DraftOf) (u : Expr) (t : TokenNo) → u ≡ e.False t → c ≡ with_push a n (i.Bool (pos 0)) 0 → Writes b w n a c u
   unfolding Writes Puts
-  write_False a c u t is ec = puts_as a c _ (syntax_of u) (sym (ap syntax_of is ∙ v.syntax-False t)) (emits_push w.text a c n (i.Bool (pos 0)) 0 ec (λ z. cc))
+  write_False a c u t is ec = puts_as a c _ (syntax_of u) (sym (ap syntax_of is ∙ v.syntax-False t)) (emits_push w a c n (i.Bool (pos 0)) 0 ec (λ z. cc) refl)
 
   pub write_parentheses : (a c : DraftOf) (u x : Expr) (t : TokenNo) (p : Box Expr Global) → u ≡ e.Parentheses t p → x ≡ p.value → Writes b w n a c x → Writes b w n a c u
   unfolding Writes Puts
-  write_parentheses a c u x t p is ex f = puts_as a c _ (syntax_of u) (sym (ap syntax_of is ∙ v.syntax-Parentheses t p)) (subst (λ z. Emits w.text a c (IsBuilt (source_of b) w.slots.items w.text (syntax_of z)) (λ final site p q. ExprAt (source_of b) final site n (syntax_of z) p q)) ex f)
+  write_parentheses a c u x t p is ex f = puts_as a c _ (syntax_of u) (sym (ap syntax_of is ∙ v.syntax-Parentheses t p)) (subst (λ z. Emits w a c (IsBuilt (source_of b) w.text (syntax_of z)) (λ final site p q. ExprAt (source_of b) final site n (syntax_of z) p q)) ex f)
 
   -- what is not built
-  unbuilt : (a c : DraftOf) (u : Expr) (y : Expression) → syntax_of u ≡ y → (IsBuilt (source_of b) w.slots.items w.text y → ⊥) → c ≡ given_up a → Writes b w n a c u
+  unbuilt : (a c : DraftOf) (u : Expr) (y : Expression) → syntax_of u ≡ y → (IsBuilt (source_of b) w.text y → ⊥) → c ≡ given_up a → Writes b w n a c u
   unfolding Writes Puts
-  unbuilt a c u y is never ec = emits_nothing w.text a c _ _ (λ h. never (subst (IsBuilt (source_of b) w.slots.items w.text) is h)) ec
+  unbuilt a c u y is never ec = emits_nothing w a c _ _ (λ h. never (subst (IsBuilt (source_of b) w.text) is h)) ec
 
   pub write_Member : (a c : DraftOf) (u : Expr) (p : Box Expr Global) (t : TokenNo) (r : Membership) (x : Identifier) → u ≡ e.Member p t r x → c ≡ given_up a → Writes b w n a c u
   write_Member a c u p t r x is ec = unbuilt a c u _ (ap syntax_of is ∙ v.syntax-Member p t r x) (λ z. z) ec
@@ -595,4 +558,4 @@ from_back xs i d le =
     let two : k ≡ length xs - 1 - i = omega arith in
     drop_more xs k d (omega arith) ∙ ap (λ n. slice_index_or xs k d ∷ drop n xs) one ∙ ap (λ n. slice_index_or xs n d ∷ drop (length xs - i) xs) two
 
-pub ruleset writes = (write_if, write_plain, write_negated, write_or, write_and, write_other, write_OrElse, write_AndThen, write_Eqv, write_Imp, write_Or, write_And, write_Concatenation, write_Power, write_product, write_sum, write_signed, write_plus, write_minus, write_related, write_not, select_none, select_some, write_postfix, write_named, write_cell_named, write_no_cell, write_element_named, write_no_element, write_element, write_declared, write_undeclared, write_standard_named, write_standard, write_no_number, write_load, write_no_slot, write_outside, write_Integer, write_Character, write_True, write_False, write_parentheses, write_Member, write_Text, write_NoObject, write_Notext, write_This, write_New)
+pub ruleset writes = (write_if, write_plain, write_negated, write_or, write_and, write_other, write_OrElse, write_AndThen, write_Eqv, write_Imp, write_Or, write_And, write_Concatenation, write_Power, write_product, write_sum, write_signed, write_plus, write_minus, write_related, write_not, select_none, select_some, write_postfix, write_named, write_element, write_standard, write_no_number, write_other_number, write_load, write_no_slot, write_outside, write_Integer, write_Character, write_True, write_False, write_parentheses, write_Member, write_Text, write_NoObject, write_Notext, write_This, write_New)

@@ -1,5 +1,5 @@
 -- Which code stands for an expression. At its beginning there are n values on the operand stack, at its end one more.
-use Rattle.std.specs.Prelude.{◌≡◌, ◌<◌, ℕ, zero, suc, Bool, true, false, ℤ, pos, List, [], ◌∷◌, slice_get, Option, Some, None}
+use Rattle.std.specs.Prelude.{◌≡◌, ◌<◌, ℕ, zero, suc, Bool, true, false, ℤ, pos, List, [], ◌∷◌, length, slice_get, Option, Some, None}
 use Rattle.sim_base.specs.declared.numbering.DeclNo.{DeclNo}
 use Rattle.sim_scope.specs.declared.scopes.Denotation.{Denotation}
 use Rattle.sim_scope.specs.declared.scopes.Denotation.TheVariants as denotation
@@ -29,17 +29,17 @@ use Rattle.sim_values.specs.declared.operators.Monadic.{Monadic}
 use Rattle.sim_values.specs.declared.operators.Monadic.TheVariants as monadic
 use Rattle.sim_values.specs.declared.standard.Standard.{Standard}
 use Rattle.sim_values.specs.Plain.{Plain, Integer, Truth, Character}
-use Rattle.sim_values.specs.Standard.{row_of}
+use Rattle.sim_values.specs.Standard.{operands_of, row_of}
 use Rattle.sim_code.specs.declared.instr.Instr.{Instr}
 use Rattle.sim_code.specs.declared.instr.Instr.TheVariants as i
 use Rattle.sim_code.specs.Code.{CodeOf}
 use Rattle.sim_code.specs.Names.{standard_names}
-use Rattle.sim_meaning.specs.Closing.{Joining, Lazily, Negated, Plainly, Sort, formals_at, is_text, sort_of}
+use Rattle.sim_meaning.specs.Closing.{has_type, Joining, Lazily, Negated, Plainly, Sort, formals_at, is_text, is_text_type, sort_of}
 use Rattle.sim_meaning.specs.Names.{procedure_named}
 use Rattle.sim_meaning.specs.Pending.{Declared}
-use Rattle.sim_meaning.specs.Statements.{has_value}
+use Rattle.sim_meaning.specs.Statements.{has_value, standard_leaves}
 use Rattle.sim_meaning.specs.Texts.{constant_of}
-use Rattle.codegen_expr.specs.Sites.{At, IfAt, Inside, Is, Pushes, Site, slot_of}
+use Rattle.codegen_expr.specs.Sites.{At, HasCell, IfAt, Inside, Is, Pushes, Site, slot_of}
 
 -- ---- operators
 
@@ -75,7 +75,7 @@ abbrev pub PlainAt : CodeOf → Site → ℕ → Plain → ℕ → ℕ → Type 
 PlainAt code site n (Integer z) p q = Pushes code site n (i.Int z) p q
 PlainAt code site n (Truth true) p q = Pushes code site n (i.Bool (pos 1)) p q
 PlainAt code site n (Truth false) p q = Pushes code site n (i.Bool (pos 0)) p q
-PlainAt code site n (Character c) p q = Pushes code site n (i.Char (pos c)) p q
+PlainAt code site n (Character c) p q = (c < 256) × Pushes code site n (i.Char (pos c)) p q
 PlainAt code site n _ p q = ⊥
 
 abbrev pub OneAt : CodeOf → Monadic → (line : ℕ) → (A : ℕ → ℕ → Type 0) → ℕ → ℕ → Type 0
@@ -101,10 +101,11 @@ LiteralAt code site n _ p q = ⊥
 
 -- ---- identifiers
 
--- the value in the cell of a declaration, which stands in a text around
+-- the value in the cell of a declaration, which stands in a text around whose frames have it
 pub record CellAt (s : Source) (code : CodeOf) (site : Site) (n : ℕ) (d : DeclNo) (p q : ℕ) : Type 0 where
   pub load : Pushes code site n (i.Load (pos (level_of s (block_of s d))) (pos (slot_of s (block_of s d) (Declared d.0)))) p q
   pub inside : Inside s.tables site.text (block_of s d)
+  pub within : HasCell s (block_of s d) (Declared d.0)
 
 abbrev pub VariableAt : Source → CodeOf → Site → ℕ → DeclNo → Expressions → ℕ → ℕ → Type 0
 VariableAt s code site n d NoMore p q = CellAt s code site n d p q
@@ -141,14 +142,14 @@ abbrev pub is_connection : BlockKind → Bool
 is_connection kind_of_block.Connection = true
 is_connection _ = false
 
+abbrev pub counted_unless : Bool → ℕ → ℕ
+counted_unless true n = n
+counted_unless false n = suc n
+
 abbrev pub blocks_before : ℕ → List BlockOf → ℕ
 blocks_before zero blocks = 0
 blocks_before (suc k) [] = 0
-blocks_before (suc k) (b ∷ blocks) = counted (is_connection b.kind) (blocks_before k blocks)
-  where
-    counted : Bool → ℕ → ℕ
-    counted true n = n
-    counted false n = suc n
+blocks_before (suc k) (b ∷ blocks) = counted_unless (is_connection b.kind) (blocks_before k blocks)
 
 unfoldable pub block_number : Source → (text : ℕ) → ℕ
 block_number s k = blocks_before k s.tables.blocks
@@ -170,31 +171,43 @@ DeclaredAt s code site n line d (Some (entry.Formal f)) es Operands Actuals p q 
 DeclaredAt s code site n line d (Some (entry.Procedure result text)) es Operands Actuals p q = CallAt s code site n line d text es (Actuals (formals_at s d)) p q
 DeclaredAt s code site n line d _ es Operands Actuals p q = ⊥
 
--- a standard name: its operands, then its instruction; where it leaves a value there is room for it
-pub record StandardIs (code : CodeOf) (site : Site) (n line : ℕ) (name : Standard) (p q : ℕ) : Type 0 where
+-- a standard name behind its operands, which are as many as it takes; where it leaves a value there is room for it
+pub record StandardIs (code : CodeOf) (site : Site) (n line : ℕ) (name : Standard) (count p q : ℕ) : Type 0 where
+  pub as_many : count ≡ length (operands_of (row_of name).function)
   pub number : ℕ
   pub numbered : slice_get standard_names number ≡ Some name
   pub is : At code (i.Std (pos number)) line p q
   pub fits : has_value (row_of name).result ≡ true → n < site.room
 
-abbrev pub StandardAt : CodeOf → Site → ℕ → (line : ℕ) → Option Standard → (Operands : ℕ → ℕ → Type 0) → ℕ → ℕ → Type 0
-StandardAt code site n line None Operands p q = ⊥
-StandardAt code site n line (Some name) Operands p q = (x : ℕ) × Operands p x × StandardIs code site n line name x q
+abbrev pub StandardAt : CodeOf → Site → ℕ → (line : ℕ) → Option Standard → Expressions → (Operands : ℕ → ℕ → Type 0) → ℕ → ℕ → Type 0
+StandardAt code site n line None es Operands p q = ⊥
+StandardAt code site n line (Some name) es Operands p q = (x : ℕ) × Operands p x × StandardIs code site n line name (operands es) x q
 
 -- Operands are those on n values, and Inner those on one value more, over an array or a link.
 abbrev pub NamedAt : Source → CodeOf → Site → ℕ → (line : ℕ) → Option Denotation → Expressions → (Operands Inner : ℕ → ℕ → Type 0) → (Actuals : List Formal → ℕ → ℕ → Type 0) → ℕ → ℕ → Type 0
 NamedAt s code site n line None es Operands Inner Actuals p q = ⊥
 NamedAt s code site n line (Some (denotation.Declared d)) es Operands Inner Actuals p q = DeclaredAt s code site n line d (entry_of s.tables d) es Inner Actuals p q
-NamedAt s code site n line (Some (denotation.Standard name)) es Operands Inner Actuals p q = StandardAt code site n line (procedure_named name) Operands p q
+NamedAt s code site n line (Some (denotation.Standard name)) es Operands Inner Actuals p q = StandardAt code site n line (procedure_named name) es Operands p q
 
--- an actual parameter: an array by value is copied
-abbrev pub ActualAt : CodeOf → (line : ℕ) → Mode → FormalKind → (A : ℕ → ℕ → Type 0) → ℕ → ℕ → Type 0
-ActualAt code line mode.ByValue shape.Array A p q = (x : ℕ) × A p x × At code i.CopyArr line x q
-ActualAt code line mode.ByReference shape.Array A p q = A p q
-ActualAt code line mode.ByValue shape.Simple A p q = A p q
-ActualAt code line mode.ByReference shape.Simple A p q = A p q
-ActualAt code line mode shape.Procedure A p q = ⊥
-ActualAt code line mode.ByName kind A p q = ⊥
+-- An operand is no call of a procedure without a result, and no standard name without one.
+abbrev pub gives_entry : Option Entry → Bool
+gives_entry (Some (entry.Procedure result text)) = has_type result
+gives_entry _ = true
+
+abbrev pub gives : Source → Option Denotation → Bool
+gives s None = true
+gives s (Some (denotation.Declared d)) = gives_entry (entry_of s.tables d)
+gives s (Some (denotation.Standard name)) = standard_leaves (procedure_named name)
+
+-- an actual parameter: an array by value is copied; a text by value, which would be, is not built
+abbrev pub ActualAt : CodeOf → (line : ℕ) → Mode → FormalKind → (text : Bool) → (A : ℕ → ℕ → Type 0) → ℕ → ℕ → Type 0
+ActualAt code line mode.ByValue shape.Array text A p q = (x : ℕ) × A p x × At code i.CopyArr line x q
+ActualAt code line mode.ByReference shape.Array text A p q = A p q
+ActualAt code line mode.ByValue shape.Simple true A p q = ⊥
+ActualAt code line mode.ByValue shape.Simple false A p q = A p q
+ActualAt code line mode.ByReference shape.Simple text A p q = A p q
+ActualAt code line mode shape.Procedure text A p q = ⊥
+ActualAt code line mode.ByName kind text A p q = ⊥
 
 -- ---- expressions
 
@@ -210,7 +223,7 @@ abbrev mutual
   ExprAt s code site n (syntax.Qua token a class) p q = ⊥
   ExprAt s code site n (syntax.Constant literal token) p q = LiteralAt code site n literal p q
   ExprAt s code site n (syntax.Named name es) p q =
-      NamedAt s code site n (line_at s name.token.0) (denoted s name.token.0) es (ExprsAt s code site n es) (ExprsAt s code site (suc n) es) (λ formals. ActualsAt s code site (suc n) (line_at s name.token.0) es formals) p q
+      (gives s (denoted s name.token.0) ≡ true) × NamedAt s code site n (line_at s name.token.0) (denoted s name.token.0) es (ExprsAt s code site n es) (ExprsAt s code site (suc n) es) (λ formals. ActualsAt s code site (suc n) (line_at s name.token.0) es formals) p q
   ExprAt s code site n (syntax.This token class) p q = ⊥
   ExprAt s code site n (syntax.New token class es) p q = ⊥
   ExprAt s code site n (syntax.Parentheses token a) p q = ExprAt s code site n a p q
@@ -225,4 +238,4 @@ abbrev mutual
   ActualsAt s code site n line NoMore (f ∷ fs) p q = ⊥
   ActualsAt s code site n line (Then e es) [] p q = ⊥
   ActualsAt s code site n line (Then e es) (f ∷ fs) p q =
-      (x : ℕ) × ActualAt code line f.mode f.kind (ExprAt s code site n e) p x × ActualsAt s code site (suc n) line es fs x q
+      (x : ℕ) × ActualAt code line f.mode f.kind (is_text_type f.ty) (ExprAt s code site n e) p x × ActualsAt s code site (suc n) line es fs x q

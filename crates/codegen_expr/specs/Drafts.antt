@@ -4,53 +4,65 @@ use Rattle.sim_code.specs.declared.instr.Instr.{Instr}
 use Rattle.sim_code.specs.declared.instr.Instr.TheVariants as i
 use Rattle.sim_code.specs.declared.instr.Lined.{Lined}
 use Rattle.sim_code.specs.Code.{CodeOf}
+use Rattle.sim_code.specs.Running.{AllRun}
+use Rattle.codegen_expr.specs.declared.spot.Spot.{Spot}
 use Rattle.codegen_expr.specs.Sites.{Site, lined}
 
--- What is written so far: the instructions, the room on the operand stack that is enough for them, and whether all that was to be written is
--- written. Where a form is not built yet, it is not.
+-- What is written so far: the instructions, the room on the operand stack that is enough for them, how many cells and temps are enough, and
+-- whether all that was to be written is written. Where a form is not built, it is not.
 pub record DraftOf : Type 0 where
   pub instrs : List Lined
   pub room : ℕ
+  pub size : ℕ
   pub whole : Bool
 
 -- one more instruction
 unfoldable pub with_instr : DraftOf → Instr → (line : ℕ) → DraftOf
-with_instr c x line = record { instrs = c.instrs ++ (lined x line ∷ []); room = c.room; whole = c.whole }
+with_instr c x line = record { instrs = c.instrs ++ (lined x line ∷ []); room = c.room; size = c.size; whole = c.whole }
 
 -- one more instruction, which may push a value on n others
 unfoldable pub with_push : DraftOf → (n : ℕ) → Instr → (line : ℕ) → DraftOf
-with_push c n x line = record { instrs = c.instrs ++ (lined x line ∷ []); room = max c.room (suc n); whole = c.whole }
+with_push c n x line = record { instrs = c.instrs ++ (lined x line ∷ []); room = max c.room (suc n); size = c.size; whole = c.whole }
+
+-- the frame has a temp of this number
+unfoldable pub with_temp : DraftOf → (temp : ℕ) → DraftOf
+with_temp c temp = record { instrs = c.instrs; room = c.room; size = max c.size (suc temp); whole = c.whole }
 
 -- a hole, in which an instruction is still to be written: a jump whose target is not known yet
 unfoldable pub with_hole : DraftOf → DraftOf
-with_hole c = record { instrs = c.instrs ++ (lined i.Halt 0 ∷ []); room = c.room; whole = c.whole }
+with_hole c = record { instrs = c.instrs ++ (lined i.Halt 0 ∷ []); room = c.room; size = c.size; whole = c.whole }
 
 -- an instruction in the place of a hole
 unfoldable pub filled_in : DraftOf → (place : ℕ) → Instr → DraftOf
-filled_in c k x = record { instrs = slice_set c.instrs k (lined x 0); room = c.room; whole = c.whole }
+filled_in c k x = record { instrs = slice_set c.instrs k (lined x 0); room = c.room; size = c.size; whole = c.whole }
 
 -- something is not built
 unfoldable pub given_up : DraftOf → DraftOf
-given_up c = record { instrs = c.instrs; room = c.room; whole = false }
+given_up c = record { instrs = c.instrs; room = c.room; size = c.size; whole = false }
 
 -- a later code keeps each instruction that is not a hole
 pub record Grows (code final : List Lined) : Type 0 where
   pub keeps : (k : ℕ) (x : Lined) → slice_get code k ≡ Some x → x.instr ≢ i.Halt → slice_get final k ≡ Some x
 
--- a code that a draft becomes in the end, for a place in a text: it keeps what is written, the operand stack has the room, and another
--- instruction follows
-pub record Becomes (text : ℕ) (c : DraftOf) (final : CodeOf) (site : Site) : Type 0 where
+-- a code that a draft becomes in the end, for a spot: it keeps what is written, the operand stack has the room and the frame the size, and
+-- another instruction follows
+pub record Becomes (spot : Spot) (c : DraftOf) (final : CodeOf) (site : Site) : Type 0 where
   pub grows : Grows c.instrs final.instrs
   pub roomy : c.room ≤ site.room
-  pub stands : site.text ≡ text
+  pub sized : c.size ≤ site.size
+  pub stands : site.text ≡ spot.text
+  pub taken : site.used ≡ spot.used
   pub follows : length c.instrs < length final.instrs
 
--- Behind old there is new. If all that is meant is built, then all is written; and if all is written, then whatever the code is in the end,
--- what is meant stands there in it.
-pub record Emits (text : ℕ) (old new : DraftOf) (Built : Type 0) (Here : CodeOf → Site → ℕ → ℕ → Type 0) : Type 0 where
+-- Behind old there is new. The draft stays whole just where all that is meant is built; and if it is whole, then whatever the code is in the
+-- end, what is meant stands there in it. What is written are instructions that the machine does.
+pub record Emits (spot : Spot) (old new : DraftOf) (Built : Type 0) (Here : CodeOf → Site → ℕ → ℕ → Type 0) : Type 0 where
   pub rest : List Lined
   pub front : new.instrs ≡ old.instrs ++ rest
   pub roomier : old.room ≤ new.room
+  pub larger : old.size ≤ new.size
   pub built : Built → old.whole ≡ true → new.whole ≡ true
   pub before : new.whole ≡ true → old.whole ≡ true
-  pub at : new.whole ≡ true → (final : CodeOf) (site : Site) → Becomes text new final site → Here final site (length old.instrs) (length new.instrs)
+  pub only : new.whole ≡ true → Built
+  pub fits : AllRun old.instrs → AllRun new.instrs
+  pub at : new.whole ≡ true → (final : CodeOf) (site : Site) → Becomes spot new final site → Here final site (length old.instrs) (length new.instrs)

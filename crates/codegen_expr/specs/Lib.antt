@@ -2,4 +2,5 @@ pub mod Sites
 pub mod CodeExpr
 pub mod Drafts
 pub mod Built
+pub mod Known
 pub mod Emit

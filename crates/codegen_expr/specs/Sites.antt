@@ -11,12 +11,12 @@ use Rattle.sim_meaning.specs.Entries.{first_cells}
 use Rattle.sim_meaning.specs.Pending.{Held, Key, same_key}
 use Rattle.sim_meaning.specs.Texts.{Text, text}
 
--- Where code stands: in which text, how many values its operand stack holds, how many cells the text has, and how many cells and temps
--- its frames have.
+-- Where code stands: in which text, how many values its operand stack holds, how many cells and temps of the frame are in use, and how many
+-- the frame has. A temp that code there takes lies behind those in use; the code inside that keeps it stands at a site with more in use.
 pub record Site : Type 0 where
   pub text : ℕ
   pub room : ℕ
-  pub cells : ℕ
+  pub used : ℕ
   pub size : ℕ
 
 abbrev pub lined : Instr → (line : ℕ) → Lined
@@ -95,3 +95,7 @@ place_of key (h ∷ hs) = if same_key h.key key then 0 else suc (place_of key hs
 -- the number of a cell in the frames of its text: its place among the cells of the text
 unfoldable pub slot_of : Source → (text : ℕ) → Key → ℕ
 slot_of s k key = place_of key (cells_in s k (text s k))
+
+-- the frames of the text have this cell
+abbrev pub HasCell : Source → (text : ℕ) → Key → Type 0
+HasCell s k key = slot_of s k key < length (cells_in s k (text s k))

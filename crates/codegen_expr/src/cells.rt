@@ -1,45 +1,33 @@
-//! Where cells lie.
-ghost use Rattle.std.specs.Prelude.{◌≡◌, length};
-ghost use Rattle.sim_scope.specs.Scopes.{encloser as encloser_of};
-ghost use Rattle.codegen_expr.specs.Built.{around_or, is_around as is_around_of, slot_in};
+//! Tables on the texts of a program, made once.
 
-use sim_base::DeclNo;
-use sim_scope::{Scopes, encloser};
+use sim_scope::Formal;
 
-/// The text in which code stands, and for each declaration the number of its cell in the frames of the text that it stands in, where it
-/// has one.
+/// The value of a declared constant.
+#[derive(Clone, Copy, Debug, PartialEq, Eq)]
+pub enum ConstantValue {
+    /// An integer.
+    Integer(i64),
+    /// A character.
+    Character(u8),
+    /// A truth value.
+    Truth(bool),
+}
+
+/// What is known of the texts, the blocks and the declarations of a program.
 #[derive(Drop)]
 pub struct Cells {
-    /// The text, by its number among the blocks.
-    pub text: u32,
-    /// The cells, by declaration.
+    /// For each declaration the number of its cell in the frames of the text that it stands in, where it has one.
     pub slots: Vec<Option<u32>>,
-}
-
-/// The cell of a declaration.
-#[tactic(auto, unfolding(crate::specs::Built::slot_in))]
-pub(crate) fn slot_of(cells: &Cells, declaration: DeclNo) -> Option<u32>
-    ensures { result ≡ slot_in cells.now.slots.items declaration }
-{
-    match cells.slots.get(declaration.0 as usize) {
-        Some(slot) => *slot,
-        None => None,
-    }
-}
-
-/// Whether a text is another one or stands somewhere in it.
-pub(crate) fn is_around(scopes: &Scopes, inner: u32, outer: u32) -> bool
-    ensures { result ≡ is_around_of scopes.now (length scopes.now.blocks) inner outer }
-{
-    let mut text = inner;
-    for step in 0..scopes.block_count() {
-        if text == outer {
-            return true;
-        }
-        match encloser(scopes, text) {
-            Some(around) => text = around,
-            None => return false,
-        }
-    }
-    false
+    /// For each declaration the value of a constant.
+    pub constants: Vec<Option<ConstantValue>>,
+    /// For each text whether it is a procedure with a result.
+    pub results: Vec<bool>,
+    /// For each text the number of its cells.
+    pub counts: Vec<u32>,
+    /// For each block of the tables its number among the blocks of code.
+    pub numbers: Vec<u32>,
+    /// How many blocks the code has.
+    pub block_count: u32,
+    /// For each block of the tables its formal parameters.
+    pub formals: Vec<Vec<Formal>>,
 }

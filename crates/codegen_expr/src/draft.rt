@@ -1,18 +1,19 @@
 //! Code that is being written.
 ghost use Rattle.std.specs.Prelude.{◌≡◌, [], IfOk, OnOk, length, pos, suc, true};
 ghost use Rattle.sim_code.specs.declared.instr.Instr.TheVariants as i;
-ghost use Rattle.codegen_expr.specs.Drafts.{filled_in, given_up, with_hole, with_instr, with_push};
+ghost use Rattle.codegen_expr.specs.Drafts.{filled_in, given_up, with_hole, with_instr, with_push, with_temp};
 
 use sim_base::Line;
 use sim_code::{Instr, Lined};
 use std::alloc::{AllocError, Global};
 use std::marker::Model;
 
-/// Instructions so far, with the room that they need on the operand stack.
+/// Instructions so far, with the room that they need on the operand stack, and the cells and temps of the frame.
 #[derive(Drop)]
 pub struct Draft {
     instrs: Vec<Lined>,
     room: u32,
+    size: u32,
     whole: bool,
 }
 
@@ -21,17 +22,18 @@ impl Model for Draft {
 
     ghost Value = { DraftOf };
 
-    ghost view = { λ d. record { instrs = d.instrs.items; room = d.room; whole = d.whole } };
+    ghost view = { λ d. record { instrs = d.instrs.items; room = d.room; size = d.size; whole = d.whole } };
 }
 
 impl Draft {
     /// No instruction yet.
     pub fn new(alloc: Global) -> Draft
-        ensures { result ≡ record { instrs = []; room = 0; whole = true } }
+        ensures { result ≡ record { instrs = []; room = 0; size = 0; whole = true } }
     {
         Draft {
             instrs: Vec::new(alloc),
             room: 0,
+            size: 0,
             whole: true,
         }
     }
@@ -48,6 +50,28 @@ impl Draft {
         ensures { result ≡ self.now.room }
     {
         self.room
+    }
+
+    /// How many cells and temps the frame must have so far.
+    pub fn size(&self) -> u32
+        ensures { result ≡ self.now.size }
+    {
+        self.size
+    }
+
+    /// The instructions, where no more are written.
+    pub fn into_instrs(self) -> Vec<Lined>
+        ensures { result.items ≡ self.instrs }
+    {
+        self.instrs
+    }
+
+    /// The code of a text begins, whose frames have so many cells.
+    pub fn restart(&mut self, cells: u32)
+        ensures { self.new ≡ record self.old { room = 0; size = cells } }
+    {
+        self.room = 0;
+        self.size = cells;
     }
 
     /// Whether all that was to be written is written.
@@ -74,6 +98,16 @@ impl Draft {
         let room = deeper(depth)?;
         self.instrs.push(Lined { instr, line })?;
         self.room = self.room.max(room);
+        Ok(())
+    }
+
+    /// The frame has a temp of this number.
+    #[tactic(auto, unfolding(crate::specs::Drafts::with_temp))]
+    pub fn take_temp(&mut self, temp: u32) -> Result<(), AllocError>
+        ensures { OnOk result (self.new ≡ with_temp self.old temp) }
+    {
+        let size = deeper(temp)?;
+        self.size = self.size.max(size);
         Ok(())
     }
 

@@ -1,18 +1,24 @@
 //! Expressions, from the tree to instructions.
-ghost use Rattle.std.specs.Prelude.{◌≡◌, IfOk, OnOk, map, pos};
-ghost use Rattle.sim_code.specs.declared.instr.Instr.TheVariants as i;
+ghost use Rattle.std.specs.Prelude.{OnOk, map};
 ghost use Rattle.sim_tree.specs.SyntaxOf.{factor_syntax, term_syntax};
-ghost use Rattle.codegen_expr.specs.Built.{has_cell as has_cell_of, has_elements as has_elements_of};
-ghost use Rattle.codegen_expr.specs.Emit.{Known, Writes, WritesCell, WritesDeclared, WritesElement, WritesList, WritesNamed, WritesNot, WritesOperand, WritesOperands, WritesSelected, WritesSign, WritesStandard, WritesTails};
+ghost use Rattle.codegen_expr.specs.Known.{Known};
+ghost use Rattle.codegen_expr.specs.Emit.{Writes, WritesActual, WritesActuals, WritesCall, WritesCell, WritesConstant, WritesElement, WritesGiving, WritesLink, WritesList, WritesNamed, WritesNot, WritesOperand, WritesOperands, WritesSeen, WritesSelected, WritesSign, WritesStandard, WritesTails};
 
-use crate::cells::{Cells, is_around, slot_of};
+use crate::cells::Cells;
 use crate::draft::{Draft, deeper};
-use crate::lookups::{block_of, denoted, is_text, level_of, line_at};
-use crate::names::standard_number;
-use crate::operators::{Sorted, sort_out};
+use crate::instructions::{
+    call_instr, character_instr, element_instr, link_instr, load_instr, standard_instr,
+};
+use crate::lookups::{
+    block_number, block_of, constant_value, denoted, formals_of_block, gives, is_around, is_text,
+    level_of, line_at, slot_of,
+};
+use crate::names::standard_code;
+use crate::operators::{Passed, Seen, Sorted, constant_instr, passed_of, seen_of, sort_out};
+use crate::spot::Spot;
 use sim_base::{DeclNo, Line, TokenNo};
 use sim_code::Instr;
-use sim_scope::{Bound, Denotation, Entry, FormalKind, Mode, Standard, entry_of};
+use sim_scope::{Bound, Denotation, Formal, Standard, entry_of};
 use sim_tree::{Expr, Factor, Identifier, Multiplication, Operand, Operator, Selector, Sign, Term};
 use std::alloc::AllocError;
 
@@ -23,12 +29,13 @@ use std::alloc::AllocError;
 pub fn emit_expr(
     bound: &Bound,
     cells: &Cells,
+    spot: Spot,
     draft: &mut Draft,
     depth: u32,
     expr: &Expr,
 ) -> Result<(), AllocError>
     requires cells { Known bound.now cells.now }
-    ensures { OnOk result (Writes bound.now cells.now depth draft.old draft.new expr.now) }
+    ensures { OnOk result (Writes bound.now spot depth draft.old draft.new expr.now) }
 {
     match expr {
         Expr::If {
@@ -37,51 +44,51 @@ pub fn emit_expr(
             second,
             ..
         } => {
-            emit_expr(bound, cells, draft, depth, condition)?;
+            emit_expr(bound, cells, spot, draft, depth, condition)?;
             let jump = draft.here();
             draft.leave_hole()?;
-            emit_expr(bound, cells, draft, depth, first)?;
+            emit_expr(bound, cells, spot, draft, depth, first)?;
             let over = draft.here();
             draft.leave_hole()?;
             let start = draft.place()?;
-            emit_expr(bound, cells, draft, depth, second)?;
+            emit_expr(bound, cells, spot, draft, depth, second)?;
             let end = draft.place()?;
             draft.fill_in(jump, Instr::JumpF(start));
             draft.fill_in(over, Instr::Jump(end));
             Ok(())
         }
         Expr::OrElse { first, rest } => {
-            emit_expr(bound, cells, draft, depth, first)?;
-            emit_operands(bound, cells, draft, depth, Operator::OrElse, rest)?;
+            emit_expr(bound, cells, spot, draft, depth, first)?;
+            emit_operands(bound, cells, spot, draft, depth, Operator::OrElse, rest)?;
             Ok(())
         }
         Expr::AndThen { first, rest } => {
-            emit_expr(bound, cells, draft, depth, first)?;
-            emit_operands(bound, cells, draft, depth, Operator::AndThen, rest)?;
+            emit_expr(bound, cells, spot, draft, depth, first)?;
+            emit_operands(bound, cells, spot, draft, depth, Operator::AndThen, rest)?;
             Ok(())
         }
         Expr::Eqv { first, rest } => {
-            emit_expr(bound, cells, draft, depth, first)?;
-            emit_operands(bound, cells, draft, depth, Operator::Equivalent, rest)?;
+            emit_expr(bound, cells, spot, draft, depth, first)?;
+            emit_operands(bound, cells, spot, draft, depth, Operator::Equivalent, rest)?;
             Ok(())
         }
         Expr::Imp { first, rest } => {
-            emit_expr(bound, cells, draft, depth, first)?;
-            emit_operands(bound, cells, draft, depth, Operator::Implies, rest)?;
+            emit_expr(bound, cells, spot, draft, depth, first)?;
+            emit_operands(bound, cells, spot, draft, depth, Operator::Implies, rest)?;
             Ok(())
         }
         Expr::Or { first, rest } => {
-            emit_expr(bound, cells, draft, depth, first)?;
-            emit_operands(bound, cells, draft, depth, Operator::Or, rest)?;
+            emit_expr(bound, cells, spot, draft, depth, first)?;
+            emit_operands(bound, cells, spot, draft, depth, Operator::Or, rest)?;
             Ok(())
         }
         Expr::And { first, rest } => {
-            emit_expr(bound, cells, draft, depth, first)?;
-            emit_operands(bound, cells, draft, depth, Operator::And, rest)?;
+            emit_expr(bound, cells, spot, draft, depth, first)?;
+            emit_operands(bound, cells, spot, draft, depth, Operator::And, rest)?;
             Ok(())
         }
         Expr::Not { tokens, operand } => {
-            emit_not(bound, cells, draft, depth, tokens, operand)?;
+            emit_not(bound, cells, spot, draft, depth, tokens, operand)?;
             Ok(())
         }
         Expr::Related {
@@ -90,11 +97,12 @@ pub fn emit_expr(
             relation,
             right,
         } => {
-            emit_expr(bound, cells, draft, depth, left)?;
+            emit_expr(bound, cells, spot, draft, depth, left)?;
             let texts = is_text(bound, left);
             emit_operand(
                 bound,
                 cells,
+                spot,
                 draft,
                 depth,
                 texts,
@@ -105,36 +113,44 @@ pub fn emit_expr(
             Ok(())
         }
         Expr::Concatenation { first, rest } => {
-            emit_expr(bound, cells, draft, depth, first)?;
-            emit_operands(bound, cells, draft, depth, Operator::Concatenate, rest)?;
+            emit_expr(bound, cells, spot, draft, depth, first)?;
+            emit_operands(
+                bound,
+                cells,
+                spot,
+                draft,
+                depth,
+                Operator::Concatenate,
+                rest,
+            )?;
             Ok(())
         }
         Expr::Sum { sign, first, rest } => match sign {
             Some(sign) => {
-                emit_expr(bound, cells, draft, depth, first)?;
-                emit_sign(bound, cells, draft, depth, sign.sign, sign.token)?;
-                emit_terms(bound, cells, draft, depth, rest)?;
+                emit_expr(bound, cells, spot, draft, depth, first)?;
+                emit_sign(bound, cells, spot, draft, depth, sign.sign, sign.token)?;
+                emit_terms(bound, cells, spot, draft, depth, rest)?;
                 Ok(())
             }
             None => {
-                emit_expr(bound, cells, draft, depth, first)?;
-                emit_terms(bound, cells, draft, depth, rest)?;
+                emit_expr(bound, cells, spot, draft, depth, first)?;
+                emit_terms(bound, cells, spot, draft, depth, rest)?;
                 Ok(())
             }
         },
         Expr::Product { first, rest } => {
-            emit_expr(bound, cells, draft, depth, first)?;
-            emit_factors(bound, cells, draft, depth, rest)?;
+            emit_expr(bound, cells, spot, draft, depth, first)?;
+            emit_factors(bound, cells, spot, draft, depth, rest)?;
             Ok(())
         }
         Expr::Power { first, rest } => {
-            emit_expr(bound, cells, draft, depth, first)?;
-            emit_operands(bound, cells, draft, depth, Operator::Power, rest)?;
+            emit_expr(bound, cells, spot, draft, depth, first)?;
+            emit_operands(bound, cells, spot, draft, depth, Operator::Power, rest)?;
             Ok(())
         }
         Expr::Postfix { primary, rest } => {
-            emit_expr(bound, cells, draft, depth, primary)?;
-            emit_selectors(bound, cells, draft, depth, rest);
+            emit_expr(bound, cells, spot, draft, depth, primary)?;
+            emit_selectors(bound, spot, draft, depth, rest);
             Ok(())
         }
         Expr::Integer { value, .. } => {
@@ -142,7 +158,7 @@ pub fn emit_expr(
             Ok(())
         }
         Expr::Character { value, .. } => {
-            draft.push(depth, Instr::Char(i64::from(*value)), Line(0))?;
+            draft.push(depth, character_instr(*value), Line(0))?;
             Ok(())
         }
         Expr::True { .. } => {
@@ -154,11 +170,11 @@ pub fn emit_expr(
             Ok(())
         }
         Expr::Named { name, arguments } => {
-            emit_named(bound, cells, draft, depth, name, arguments)?;
+            emit_operand_named(bound, cells, spot, draft, depth, name, arguments)?;
             Ok(())
         }
         Expr::Parentheses { inner, .. } => {
-            emit_expr(bound, cells, draft, depth, inner)?;
+            emit_expr(bound, cells, spot, draft, depth, inner)?;
             Ok(())
         }
         Expr::Member { .. } => {
@@ -193,12 +209,13 @@ pub fn emit_expr(
 fn emit_sign(
     bound: &Bound,
     cells: &Cells,
+    spot: Spot,
     draft: &mut Draft,
     depth: u32,
     sign: Sign,
     token: TokenNo,
 ) -> Result<(), AllocError>
-    ensures { OnOk result (WritesSign bound.now cells.now depth draft.old draft.new sign token) }
+    ensures { OnOk result (WritesSign bound.now spot depth draft.old draft.new sign token) }
 {
     match sign {
         Sign::Plus => Ok(()),
@@ -215,6 +232,7 @@ fn emit_sign(
 fn emit_operand(
     bound: &Bound,
     cells: &Cells,
+    spot: Spot,
     draft: &mut Draft,
     depth: u32,
     texts: bool,
@@ -223,18 +241,18 @@ fn emit_operand(
     operand: &Expr,
 ) -> Result<(), AllocError>
     requires cells { Known bound.now cells.now }
-    ensures { OnOk result (WritesOperand bound.now cells.now depth draft.old draft.new texts operator token operand.now) }
+    ensures { OnOk result (WritesOperand bound.now spot depth draft.old draft.new texts operator token operand.now) }
 {
     match sort_out(texts, operator) {
         Sorted::Plain(instr) => {
             let inside = deeper(depth)?;
-            emit_expr(bound, cells, draft, inside, operand)?;
+            emit_expr(bound, cells, spot, draft, inside, operand)?;
             draft.put(instr, line_at(bound, token))?;
             Ok(())
         }
         Sorted::Negated(instr) => {
             let inside = deeper(depth)?;
-            emit_expr(bound, cells, draft, inside, operand)?;
+            emit_expr(bound, cells, spot, draft, inside, operand)?;
             draft.put(instr, line_at(bound, token))?;
             draft.put(Instr::Not, line_at(bound, token))?;
             Ok(())
@@ -246,7 +264,7 @@ fn emit_operand(
             let over = draft.here();
             draft.leave_hole()?;
             let start = draft.place()?;
-            emit_expr(bound, cells, draft, depth, operand)?;
+            emit_expr(bound, cells, spot, draft, depth, operand)?;
             let end = draft.place()?;
             draft.fill_in(jump, Instr::JumpF(start));
             draft.fill_in(over, Instr::Jump(end));
@@ -255,7 +273,7 @@ fn emit_operand(
         Sorted::AndThen => {
             let jump = draft.here();
             draft.leave_hole()?;
-            emit_expr(bound, cells, draft, depth, operand)?;
+            emit_expr(bound, cells, spot, draft, depth, operand)?;
             let over = draft.here();
             draft.leave_hole()?;
             let start = draft.place()?;
@@ -278,18 +296,20 @@ fn emit_operand(
 fn emit_operands(
     bound: &Bound,
     cells: &Cells,
+    spot: Spot,
     draft: &mut Draft,
     depth: u32,
     operator: Operator,
     rest: &[Operand],
 ) -> Result<(), AllocError>
     requires cells { Known bound.now cells.now }
-    ensures { OnOk result (WritesOperands bound.now cells.now depth draft.old draft.new operator rest.now) }
+    ensures { OnOk result (WritesOperands bound.now spot depth draft.old draft.new operator rest.now) }
 {
     for item in rest {
         emit_operand(
             bound,
             cells,
+            spot,
             draft,
             depth,
             false,
@@ -307,17 +327,19 @@ fn emit_operands(
 fn emit_terms(
     bound: &Bound,
     cells: &Cells,
+    spot: Spot,
     draft: &mut Draft,
     depth: u32,
     rest: &[Term],
 ) -> Result<(), AllocError>
     requires cells { Known bound.now cells.now }
-    ensures { OnOk result (WritesTails bound.now cells.now depth draft.old draft.new (map term_syntax rest.now)) }
+    ensures { OnOk result (WritesTails bound.now spot depth draft.old draft.new (map term_syntax rest.now)) }
 {
     for item in rest {
         emit_operand(
             bound,
             cells,
+            spot,
             draft,
             depth,
             false,
@@ -335,17 +357,19 @@ fn emit_terms(
 fn emit_factors(
     bound: &Bound,
     cells: &Cells,
+    spot: Spot,
     draft: &mut Draft,
     depth: u32,
     rest: &[Factor],
 ) -> Result<(), AllocError>
     requires cells { Known bound.now cells.now }
-    ensures { OnOk result (WritesTails bound.now cells.now depth draft.old draft.new (map factor_syntax rest.now)) }
+    ensures { OnOk result (WritesTails bound.now spot depth draft.old draft.new (map factor_syntax rest.now)) }
 {
     for item in rest {
         emit_operand(
             bound,
             cells,
+            spot,
             draft,
             depth,
             false,
@@ -363,15 +387,16 @@ fn emit_factors(
 fn emit_not(
     bound: &Bound,
     cells: &Cells,
+    spot: Spot,
     draft: &mut Draft,
     depth: u32,
     tokens: &[TokenNo],
     expr: &Expr,
 ) -> Result<(), AllocError>
     requires cells { Known bound.now cells.now }
-    ensures { OnOk result (WritesNot bound.now cells.now depth draft.old draft.new tokens.now expr.now) }
+    ensures { OnOk result (WritesNot bound.now spot depth draft.old draft.new tokens.now expr.now) }
 {
-    emit_expr(bound, cells, draft, depth, expr)?;
+    emit_expr(bound, cells, spot, draft, depth, expr)?;
     for done in 0..tokens.len() {
         let token = tokens[tokens.len() - 1 - done];
         draft.put(Instr::Not, line_at(bound, token))?;
@@ -381,37 +406,11 @@ fn emit_not(
 
 /// What is taken of an object: not built.
 #[tactic(auto, using(crate::proofs::Written::writes))]
-fn emit_selectors(bound: &Bound, cells: &Cells, draft: &mut Draft, depth: u32, rest: &[Selector])
-    ensures { WritesSelected bound.now cells.now depth draft.old draft.new rest.now }
+fn emit_selectors(bound: &Bound, spot: Spot, draft: &mut Draft, depth: u32, rest: &[Selector])
+    ensures { WritesSelected bound.now spot depth draft.old draft.new rest.now }
 {
     if rest.len() != 0 {
         draft.give_up();
-    }
-}
-
-/// Whether what is declared is seen as the value of its cell.
-fn has_cell(entry: Option<Entry>) -> bool
-    ensures { result ≡ has_cell_of entry }
-{
-    match entry {
-        Some(Entry::Variable(_)) => true,
-        Some(Entry::Array { .. }) => true,
-        Some(Entry::Formal(formal)) => match (formal.mode, formal.kind) {
-            (Mode::ByName, _) => false,
-            (_, FormalKind::Procedure) => false,
-            _ => true,
-        },
-        _ => false,
-    }
-}
-
-/// The instruction that pushes the value of a cell.
-fn load(level: u32, cell: u32) -> Instr
-    ensures { result ≡ i.Load (pos level) (pos cell) }
-{
-    Instr::Load {
-        level: i64::from(level),
-        cell: i64::from(cell),
     }
 }
 
@@ -420,50 +419,25 @@ fn load(level: u32, cell: u32) -> Instr
 pub fn emit_cell(
     bound: &Bound,
     cells: &Cells,
+    spot: Spot,
     draft: &mut Draft,
     depth: u32,
     declaration: DeclNo,
 ) -> Result<(), AllocError>
     requires cells { Known bound.now cells.now }
-    ensures { OnOk result (WritesCell bound.now cells.now depth draft.old draft.new declaration) }
+    ensures { OnOk result (WritesCell bound.now spot depth draft.old draft.new declaration) }
 {
     let block = block_of(bound, declaration);
-    let Some(slot) = slot_of(cells, declaration) else {
+    let Some(slot) = slot_of(bound, cells, declaration) else {
         draft.give_up();
         return Ok(());
     };
-    if is_around(&bound.scopes, cells.text, block) {
-        draft.push(depth, load(level_of(bound, block), slot), Line(0))?;
+    if is_around(&bound.scopes, spot.text, block) {
+        draft.push(depth, load_instr(level_of(bound, block), slot), Line(0))?;
         return Ok(());
     }
     draft.give_up();
     Ok(())
-}
-
-/// Whether what is declared has elements.
-fn has_elements(entry: Option<Entry>) -> bool
-    ensures { result ≡ has_elements_of entry }
-{
-    match entry {
-        Some(Entry::Array { .. }) => true,
-        Some(Entry::Formal(formal)) => match (formal.mode, formal.kind) {
-            (Mode::ByName, _) => false,
-            (_, FormalKind::Array) => true,
-            _ => false,
-        },
-        _ => false,
-    }
-}
-
-/// The instruction that finds an element by so many subscripts.
-fn element(subscripts: usize) -> Result<Instr, AllocError>
-    ensures { IfOk result (λ x. x ≡ i.Elem (pos subscripts) (pos 0)) }
-{
-    let subscripts = i64::try_from(subscripts).map_err(|_| AllocError)?;
-    Ok(Instr::Elem {
-        subscripts,
-        class: 0,
-    })
 }
 
 /// Expressions, one value after the other.
@@ -472,16 +446,17 @@ fn element(subscripts: usize) -> Result<Instr, AllocError>
 pub fn emit_list(
     bound: &Bound,
     cells: &Cells,
+    spot: Spot,
     draft: &mut Draft,
     depth: u32,
     list: &[Expr],
 ) -> Result<(), AllocError>
     requires cells { Known bound.now cells.now }
-    ensures { OnOk result (WritesList bound.now cells.now depth draft.old draft.new list.now) }
+    ensures { OnOk result (WritesList bound.now spot depth draft.old draft.new list.now) }
 {
     let mut inside = depth;
     for item in list {
-        emit_expr(bound, cells, draft, inside, item)?;
+        emit_expr(bound, cells, spot, draft, inside, item)?;
         inside = deeper(inside)?;
     }
     Ok(())
@@ -493,6 +468,7 @@ pub fn emit_list(
 pub fn emit_element(
     bound: &Bound,
     cells: &Cells,
+    spot: Spot,
     draft: &mut Draft,
     depth: u32,
     token: TokenNo,
@@ -500,20 +476,13 @@ pub fn emit_element(
     subscripts: &[Expr],
 ) -> Result<(), AllocError>
     requires cells { Known bound.now cells.now }
-    ensures { OnOk result (WritesElement bound.now cells.now depth draft.old draft.new token declaration subscripts.now) }
+    ensures { OnOk result (WritesElement bound.now spot depth draft.old draft.new token declaration subscripts.now) }
 {
     let inside = deeper(depth)?;
-    emit_cell(bound, cells, draft, depth, declaration)?;
-    emit_list(bound, cells, draft, inside, subscripts)?;
-    draft.put(element(subscripts.len())?, line_at(bound, token))?;
+    emit_cell(bound, cells, spot, draft, depth, declaration)?;
+    emit_list(bound, cells, spot, draft, inside, subscripts)?;
+    draft.put(element_instr(subscripts.len())?, line_at(bound, token))?;
     Ok(())
-}
-
-/// The instruction of a standard name.
-fn standard(number: u32) -> Instr
-    ensures { result ≡ i.Std (pos number) }
-{
-    Instr::Std(i64::from(number))
 }
 
 /// A standard name with its operands. The token is that of the identifier.
@@ -522,6 +491,7 @@ fn standard(number: u32) -> Instr
 pub fn emit_standard(
     bound: &Bound,
     cells: &Cells,
+    spot: Spot,
     draft: &mut Draft,
     depth: u32,
     token: TokenNo,
@@ -529,79 +499,254 @@ pub fn emit_standard(
     operands: &[Expr],
 ) -> Result<(), AllocError>
     requires cells { Known bound.now cells.now }
-    ensures { OnOk result (WritesStandard bound.now cells.now depth draft.old draft.new token name operands.now) }
+    ensures { OnOk result (WritesStandard bound.now spot depth draft.old draft.new token name operands.now) }
 {
-    let Some(number) = standard_number(name) else {
+    let Some(row) = standard_code(name) else {
         draft.give_up();
         return Ok(());
     };
-    emit_list(bound, cells, draft, depth, operands)?;
-    draft.push(depth, standard(number), line_at(bound, token))?;
-    Ok(())
-}
-
-/// An identifier that is declared.
-#[cycle(emit)]
-#[tactic(auto, using(crate::proofs::Written::writes))]
-fn emit_declared(
-    bound: &Bound,
-    cells: &Cells,
-    draft: &mut Draft,
-    depth: u32,
-    name: &Identifier,
-    declaration: DeclNo,
-    arguments: &[Expr],
-) -> Result<(), AllocError>
-    requires cells { Known bound.now cells.now }
-    ensures { OnOk result (WritesDeclared bound.now cells.now depth draft.old draft.new name.now declaration arguments.now) }
-{
-    let entry = entry_of(&bound.scopes, declaration);
-    if arguments.len() == 0 {
-        if has_cell(entry) {
-            emit_cell(bound, cells, draft, depth, declaration)?;
-            return Ok(());
-        }
+    if operands.len() != row.operands {
         draft.give_up();
         return Ok(());
     }
-    if has_elements(entry) {
-        emit_element(
-            bound,
-            cells,
-            draft,
-            depth,
-            name.token,
-            declaration,
-            arguments,
-        )?;
-        draft.put(Instr::Fetch, Line(0))?;
+    emit_list(bound, cells, spot, draft, depth, operands)?;
+    draft.push(depth, standard_instr(row.number), line_at(bound, token))?;
+    Ok(())
+}
+
+/// The value of a declared constant.
+#[tactic(auto, using(crate::proofs::Seen::sees))]
+fn emit_constant(
+    bound: &Bound,
+    cells: &Cells,
+    spot: Spot,
+    draft: &mut Draft,
+    depth: u32,
+    declaration: DeclNo,
+) -> Result<(), AllocError>
+    requires cells { Known bound.now cells.now }
+    ensures { OnOk result (WritesConstant bound.now spot depth draft.old draft.new declaration) }
+{
+    let Some(value) = constant_value(bound, cells, declaration) else {
+        draft.give_up();
+        return Ok(());
+    };
+    draft.push(depth, constant_instr(value), Line(0))?;
+    Ok(())
+}
+
+/// The link to the instance in which a procedure is declared.
+#[tactic(auto, using(crate::proofs::Seen::sees))]
+fn emit_link(
+    bound: &Bound,
+    spot: Spot,
+    draft: &mut Draft,
+    depth: u32,
+    declaration: DeclNo,
+) -> Result<(), AllocError>
+    ensures { OnOk result (WritesLink bound.now spot depth draft.old draft.new declaration) }
+{
+    let block = block_of(bound, declaration);
+    if is_around(&bound.scopes, spot.text, block) {
+        draft.push(depth, link_instr(level_of(bound, block)), Line(0))?;
         return Ok(());
     }
     draft.give_up();
     Ok(())
 }
 
-/// An identifier.
+/// An actual parameter. The token is that of the procedure's identifier.
 #[cycle(emit)]
-#[tactic(auto, using(crate::proofs::Written::writes))]
-fn emit_named(
+#[tactic(auto, using(crate::proofs::Seen::sees))]
+fn emit_actual(
     bound: &Bound,
     cells: &Cells,
+    spot: Spot,
     draft: &mut Draft,
     depth: u32,
-    name: &Identifier,
-    arguments: &[Expr],
+    token: TokenNo,
+    expr: &Expr,
+    formal: Formal,
 ) -> Result<(), AllocError>
     requires cells { Known bound.now cells.now }
-    ensures { OnOk result (WritesNamed bound.now cells.now depth draft.old draft.new name.now arguments.now) }
+    ensures { OnOk result (WritesActual bound.now spot depth draft.old draft.new token expr.now formal) }
 {
-    match denoted(bound, name.token) {
+    emit_expr(bound, cells, spot, draft, depth, expr)?;
+    match passed_of(formal) {
+        Passed::Plain => Ok(()),
+        Passed::Copied => {
+            draft.put(Instr::CopyArr, line_at(bound, token))?;
+            Ok(())
+        }
+        Passed::Other => {
+            draft.give_up();
+            Ok(())
+        }
+    }
+}
+
+/// Actual parameters, one for each formal. The token is that of the procedure's identifier.
+#[cycle(emit)]
+#[tactic(auto, using(crate::proofs::Seen::sees))]
+fn emit_actuals(
+    bound: &Bound,
+    cells: &Cells,
+    spot: Spot,
+    draft: &mut Draft,
+    depth: u32,
+    token: TokenNo,
+    list: &[Expr],
+    formals: &[Formal],
+) -> Result<(), AllocError>
+    requires cells { Known bound.now cells.now }
+    ensures { OnOk result (WritesActuals bound.now spot depth draft.old draft.new token list.now formals.now) }
+{
+    if list.len() != formals.len() {
+        draft.give_up();
+        return Ok(());
+    }
+    let mut inside = depth;
+    for index in 0..list.len() {
+        emit_actual(
+            bound,
+            cells,
+            spot,
+            draft,
+            inside,
+            token,
+            &list[index],
+            formals[index],
+        )?;
+        inside = deeper(inside)?;
+    }
+    Ok(())
+}
+
+/// A call of a procedure, whose text is a block of the tables. The token is that of its identifier.
+#[cycle(emit)]
+#[tactic(auto, using(crate::proofs::Seen::sees))]
+fn emit_call(
+    bound: &Bound,
+    cells: &Cells,
+    spot: Spot,
+    draft: &mut Draft,
+    depth: u32,
+    token: TokenNo,
+    declaration: DeclNo,
+    block: u32,
+    list: &[Expr],
+) -> Result<(), AllocError>
+    requires cells { Known bound.now cells.now }
+    ensures { OnOk result (WritesCall bound.now spot depth draft.old draft.new token declaration block list.now) }
+{
+    let inside = deeper(depth)?;
+    emit_link(bound, spot, draft, depth, declaration)?;
+    let formals = formals_of_block(bound, cells, block);
+    emit_actuals(bound, cells, spot, draft, inside, token, list, formals)?;
+    let number = block_number(bound, cells, block);
+    draft.put(call_instr(number, list.len())?, line_at(bound, token))?;
+    Ok(())
+}
+
+/// A declared identifier with its operands, as it is seen. The token is that of the identifier.
+#[cycle(emit)]
+#[tactic(auto, using(crate::proofs::Seen::sees))]
+fn emit_seen(
+    bound: &Bound,
+    cells: &Cells,
+    spot: Spot,
+    draft: &mut Draft,
+    depth: u32,
+    token: TokenNo,
+    declaration: DeclNo,
+    seen: Seen,
+    list: &[Expr],
+) -> Result<(), AllocError>
+    requires cells { Known bound.now cells.now }
+    ensures { OnOk result (WritesSeen bound.now spot depth draft.old draft.new token declaration seen list.now) }
+{
+    match seen {
+        Seen::Variable => {
+            if list.len() == 0 {
+                emit_cell(bound, cells, spot, draft, depth, declaration)?;
+                return Ok(());
+            }
+            draft.give_up();
+            Ok(())
+        }
+        Seen::Constant => {
+            if list.len() == 0 {
+                emit_constant(bound, cells, spot, draft, depth, declaration)?;
+                return Ok(());
+            }
+            draft.give_up();
+            Ok(())
+        }
+        Seen::Array => {
+            if list.len() == 0 {
+                emit_cell(bound, cells, spot, draft, depth, declaration)?;
+                return Ok(());
+            }
+            emit_element(bound, cells, spot, draft, depth, token, declaration, list)?;
+            draft.put(Instr::Fetch, Line(0))?;
+            Ok(())
+        }
+        Seen::Call(block) => {
+            emit_call(
+                bound,
+                cells,
+                spot,
+                draft,
+                depth,
+                token,
+                declaration,
+                block,
+                list,
+            )?;
+            Ok(())
+        }
+        Seen::Nothing => {
+            draft.give_up();
+            Ok(())
+        }
+    }
+}
+
+/// An identifier with its operands, also where it is a call that leaves no value. The token is that of the identifier, and what it denotes
+/// is given.
+#[cycle(emit)]
+#[tactic(auto, using(crate::proofs::Seen::sees))]
+pub fn emit_named(
+    bound: &Bound,
+    cells: &Cells,
+    spot: Spot,
+    draft: &mut Draft,
+    depth: u32,
+    token: TokenNo,
+    denoted: Option<Denotation>,
+    list: &[Expr],
+) -> Result<(), AllocError>
+    requires cells { Known bound.now cells.now }
+    ensures { OnOk result (WritesNamed bound.now spot depth draft.old draft.new token denoted list.now) }
+{
+    match denoted {
         Some(Denotation::Declared(declaration)) => {
-            emit_declared(bound, cells, draft, depth, name, declaration, arguments)?;
+            let seen = seen_of(entry_of(&bound.scopes, declaration));
+            emit_seen(
+                bound,
+                cells,
+                spot,
+                draft,
+                depth,
+                token,
+                declaration,
+                seen,
+                list,
+            )?;
             Ok(())
         }
         Some(Denotation::Standard(standard)) => {
-            emit_standard(bound, cells, draft, depth, name.token, standard, arguments)?;
+            emit_standard(bound, cells, spot, draft, depth, token, standard, list)?;
             Ok(())
         }
         None => {
@@ -609,4 +754,28 @@ fn emit_named(
             Ok(())
         }
     }
+}
+
+/// An identifier with its operands, which is an operand itself.
+#[cycle(emit)]
+#[tactic(auto, using(crate::proofs::Seen::sees))]
+fn emit_operand_named(
+    bound: &Bound,
+    cells: &Cells,
+    spot: Spot,
+    draft: &mut Draft,
+    depth: u32,
+    name: &Identifier,
+    list: &[Expr],
+) -> Result<(), AllocError>
+    requires cells { Known bound.now cells.now }
+    ensures { OnOk result (WritesGiving bound.now spot depth draft.old draft.new name.now list.now) }
+{
+    let denoted = denoted(bound, name.token);
+    if gives(bound, denoted) {
+        emit_named(bound, cells, spot, draft, depth, name.token, denoted, list)?;
+        return Ok(());
+    }
+    draft.give_up();
+    Ok(())
 }

@@ -4,10 +4,21 @@
 mod cells;
 mod draft;
 mod emit;
+mod instructions;
 mod lookups;
 mod names;
 mod operators;
+mod spot;
 
-pub use cells::Cells;
-pub use draft::Draft;
-pub use emit::{emit_cell, emit_element, emit_expr, emit_list, emit_standard};
+pub use cells::{Cells, ConstantValue};
+pub use draft::{Draft, deeper};
+pub use emit::{emit_cell, emit_element, emit_expr, emit_list, emit_named, emit_standard};
+pub use instructions::{
+    call_instr, character_instr, element_instr, link_instr, load_instr, standard_instr, store_instr,
+};
+pub use lookups::{
+    block_number, block_of, cell_count, constant_value, denoted, formals_of_block, gives,
+    has_result, is_around, is_text, level_of, line_at, slot_of,
+};
+pub use names::{StandardCode, standard_leaves};
+pub use spot::Spot;

@@ -1,16 +1,26 @@
-//! What the emitter looks up by token and declaration.
-ghost use Rattle.std.specs.Prelude.{◌≡◌};
+//! What the emitter looks up by token, declaration and block.
+ghost use Rattle.std.specs.Prelude.{◌≡◌, length, option_map};
 ghost use Rattle.sim_scope.specs.Source.{block_of, denoted as denoted_of, level_of as level_of_block, line_at as line_at_of, source_of};
+ghost use Rattle.sim_scope.specs.Scopes.{encloser as encloser_of};
 ghost use Rattle.sim_meaning.specs.Closing.{is_text as is_text_of};
+ghost use Rattle.sim_meaning.specs.Pending.{Declared};
+ghost use Rattle.sim_meaning.specs.Texts.{constant_of, text as text_of};
+ghost use Rattle.codegen_expr.specs.Built.{around_or, is_around as is_around_of, slot_in};
+ghost use Rattle.codegen_expr.specs.CodeExpr.{block_number as block_number_of, gives as gives_of, gives_entry as gives_entry_of};
+ghost use Rattle.codegen_expr.specs.Emit.{formals_of_block as formals_of_block_by};
+ghost use Rattle.codegen_expr.specs.Known.{Known, has_result as has_result_of, plain_of};
+ghost use Rattle.codegen_expr.specs.Sites.{cells_in};
 ghost use Rattle.sim_tree.specs.SyntaxOf.{syntax_of};
 
+use crate::cells::{Cells, ConstantValue};
+use crate::names::standard_leaves;
 use sim_base::{DeclNo, Line, TokenNo};
-use sim_scope::{Bound, Denotation, SimType};
+use sim_scope::{Bound, Denotation, Entry, Formal, Scopes, SimType, encloser, entry_of};
 use sim_tree::{Expr, naming_token};
 
 /// What an identifier denotes.
 #[tactic(auto, unfolding(sim_scope::specs::Source::denoted, sim_scope::specs::Source::source_of))]
-pub(crate) fn denoted(bound: &Bound, token: TokenNo) -> Option<Denotation>
+pub fn denoted(bound: &Bound, token: TokenNo) -> Option<Denotation>
     ensures { result ≡ denoted_of (source_of bound.now) token.0 }
 {
     match bound.uses.get(token.0 as usize) {
@@ -21,7 +31,7 @@ pub(crate) fn denoted(bound: &Bound, token: TokenNo) -> Option<Denotation>
 
 /// The line of a token.
 #[tactic(auto, unfolding(sim_scope::specs::Source::line_at, sim_scope::specs::Source::source_of))]
-pub(crate) fn line_at(bound: &Bound, token: TokenNo) -> Line
+pub fn line_at(bound: &Bound, token: TokenNo) -> Line
     ensures { result.0 ≡ line_at_of (source_of bound.now) token.0 }
 {
     match bound.program.lines.get(token.0 as usize) {
@@ -32,7 +42,7 @@ pub(crate) fn line_at(bound: &Bound, token: TokenNo) -> Line
 
 /// The block in which a declaration stands.
 #[tactic(auto, unfolding(sim_scope::specs::Source::block_of, sim_scope::specs::Source::source_of))]
-pub(crate) fn block_of(bound: &Bound, declaration: DeclNo) -> u32
+pub fn block_of(bound: &Bound, declaration: DeclNo) -> u32
     ensures { result ≡ block_of (source_of bound.now) declaration }
 {
     match bound.scopes.declarations().get(declaration.0 as usize) {
@@ -43,7 +53,7 @@ pub(crate) fn block_of(bound: &Bound, declaration: DeclNo) -> u32
 
 /// The level of a block.
 #[tactic(auto, unfolding(sim_scope::specs::Source::level_of, sim_scope::specs::Source::source_of))]
-pub(crate) fn level_of(bound: &Bound, block: u32) -> u32
+pub fn level_of(bound: &Bound, block: u32) -> u32
     ensures { result ≡ level_of_block (source_of bound.now) block }
 {
     match bound.scopes.blocks().get(block as usize) {
@@ -54,12 +64,126 @@ pub(crate) fn level_of(bound: &Bound, block: u32) -> u32
 
 /// Whether an expression is a text.
 #[tactic(auto, unfolding(sim_meaning::specs::Closing::is_text, sim_scope::specs::Source::type_at, sim_scope::specs::Source::source_of, sim_tree::specs::SyntaxOf::NamingIs))]
-pub(crate) fn is_text(bound: &Bound, expr: &Expr) -> bool
+pub fn is_text(bound: &Bound, expr: &Expr) -> bool
     ensures { result ≡ is_text_of (source_of bound.now) (syntax_of expr.now) }
 {
     let token = naming_token(expr);
     match bound.types.get(token.0 as usize) {
         Some(Some(SimType::Text)) => true,
         _ => false,
+    }
+}
+
+/// Whether a text is another one or stands somewhere in it.
+pub fn is_around(scopes: &Scopes, inner: u32, outer: u32) -> bool
+    ensures { result ≡ is_around_of scopes.now (length scopes.now.blocks) inner outer }
+{
+    let mut text = inner;
+    for step in 0..scopes.block_count() {
+        if text == outer {
+            return true;
+        }
+        match encloser(scopes, text) {
+            Some(around) => text = around,
+            None => return false,
+        }
+    }
+    false
+}
+
+/// The cell of a declaration in the frames of the text that it stands in, where they have one.
+#[tactic(auto, unfolding(crate::specs::Known::Known))]
+pub fn slot_of(bound: &Bound, cells: &Cells, declaration: DeclNo) -> Option<u32>
+    requires cells { Known bound.now cells.now }
+    ensures { result ≡ slot_in (source_of bound.now) (block_of (source_of bound.now) declaration) (Declared declaration.0) }
+{
+    match cells.slots.get(declaration.0 as usize) {
+        Some(slot) => *slot,
+        None => None,
+    }
+}
+
+/// The value of a constant; none where that is a text.
+#[tactic(auto, unfolding(crate::specs::Known::Known))]
+pub fn constant_value(bound: &Bound, cells: &Cells, declaration: DeclNo) -> Option<ConstantValue>
+    requires cells { Known bound.now cells.now }
+    ensures { option_map plain_of result ≡ constant_of (source_of bound.now) declaration }
+{
+    match cells.constants.get(declaration.0 as usize) {
+        Some(value) => *value,
+        None => None,
+    }
+}
+
+/// Whether a text is a procedure with a result, whose cell is then the first.
+#[tactic(auto, unfolding(crate::specs::Known::Known))]
+pub fn has_result(bound: &Bound, cells: &Cells, text: u32) -> bool
+    requires cells { Known bound.now cells.now }
+    ensures { result ≡ has_result_of (text_of (source_of bound.now) text) }
+{
+    match cells.results.get(text as usize) {
+        Some(truth) => *truth,
+        None => false,
+    }
+}
+
+/// The number of cells in the frames of a text, without temps.
+#[tactic(auto, unfolding(crate::specs::Known::Known))]
+pub fn cell_count(bound: &Bound, cells: &Cells, text: u32) -> u32
+    requires cells { Known bound.now cells.now }
+    ensures { result ≡ length (cells_in (source_of bound.now) text (text_of (source_of bound.now) text)) }
+{
+    match cells.counts.get(text as usize) {
+        Some(count) => *count,
+        None => 0,
+    }
+}
+
+/// The number that a block of the tables has in code, where connections are not counted.
+#[tactic(auto, unfolding(crate::specs::Known::Known))]
+pub fn block_number(bound: &Bound, cells: &Cells, block: u32) -> u32
+    requires cells { Known bound.now cells.now }
+    ensures { result ≡ block_number_of (source_of bound.now) block }
+{
+    match cells.numbers.get(block as usize) {
+        Some(number) => *number,
+        None => cells.block_count,
+    }
+}
+
+/// The formal parameters of a block.
+#[tactic(auto, unfolding(crate::specs::Known::Known))]
+pub fn formals_of_block<'a>(bound: &Bound, cells: &'a Cells, block: u32) -> &'a [Formal]
+    requires cells { Known bound.now cells.now }
+    ensures { result.now ≡ formals_of_block_by (source_of bound.now) block }
+{
+    match cells.formals.get(block as usize) {
+        Some(formals) => formals,
+        None => &[],
+    }
+}
+
+/// Whether what is declared is no procedure without a result.
+fn gives_entry(entry: Option<Entry>) -> bool
+    ensures { result ≡ gives_entry_of entry }
+{
+    match entry {
+        Some(Entry::Procedure { result, .. }) => result.is_some(),
+        _ => true,
+    }
+}
+
+/// Whether what is denoted may be an operand: it is no call that leaves no value.
+#[tactic(auto, unfolding(sim_scope::specs::Source::source_of))]
+pub fn gives(bound: &Bound, denoted: Option<Denotation>) -> bool
+    ensures { result ≡ gives_of (source_of bound.now) denoted }
+{
+    match denoted {
+        Some(Denotation::Declared(declaration)) => gives_entry(entry_of(
+            &bound.scopes,
+            declaration,
+        )),
+        Some(Denotation::Standard(name)) => standard_leaves(name),
+        None => true,
     }
 }

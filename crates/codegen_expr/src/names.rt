@@ -1,61 +1,137 @@
-//! The numbers of standard names.
+//! The standard names in code.
+ghost use Rattle.std.specs.Prelude.{◌≡◌, Some};
 ghost use Rattle.sim_meaning.specs.Names.{procedure_named};
-ghost use Rattle.codegen_expr.specs.Built.{Numbered};
+ghost use Rattle.sim_meaning.specs.Statements.{standard_leaves as standard_leaves_of};
+ghost use Rattle.codegen_expr.specs.Emit.{Numbered};
 
 use sim_scope::Standard;
 
-/// The number that code has for a standard name; none for `sysin` and `sysout`, which are no procedures.
-pub(crate) fn standard_number(name: Standard) -> Option<u32>
+/// A standard name in code.
+#[derive(Clone, Copy, Debug, PartialEq, Eq)]
+pub struct StandardCode {
+    /// Its number.
+    pub number: u32,
+    /// How many operands it takes.
+    pub operands: usize,
+}
+
+/// A standard name with its number and its operands.
+fn built(number: u32, operands: usize) -> Option<StandardCode>
+    ensures { result ≡ Some (record { number = number; operands = operands }) }
+{
+    Some(StandardCode { number, operands })
+}
+
+/// What code has of a standard name; nothing where it is not built, as for those that make or read texts or read the input.
+#[tactic(auto, unfolding(sim_values::specs::Standard::row_of))]
+pub(crate) fn standard_code(name: Standard) -> Option<StandardCode>
     ensures { Numbered result (procedure_named name) }
 {
     match name {
-        Standard::Abs => Some(0),
-        Standard::Sign => Some(1),
-        Standard::Min => Some(2),
-        Standard::Max => Some(3),
-        Standard::Mod => Some(4),
-        Standard::Rem => Some(5),
-        Standard::Maxint => Some(6),
-        Standard::Minint => Some(7),
-        Standard::Char => Some(8),
-        Standard::Rank => Some(9),
-        Standard::Isochar => Some(10),
-        Standard::Isorank => Some(11),
-        Standard::Digit => Some(12),
-        Standard::Letter => Some(13),
-        Standard::Blanks => Some(14),
-        Standard::Copy => Some(15),
-        Standard::Upcase => Some(16),
-        Standard::Lowcase => Some(17),
-        Standard::TextConstant => Some(18),
-        Standard::TextStart => Some(19),
-        Standard::TextLength => Some(20),
-        Standard::TextPos => Some(21),
-        Standard::TextMore => Some(22),
-        Standard::TextMain => Some(23),
-        Standard::TextSetpos => Some(24),
-        Standard::TextGetchar => Some(25),
-        Standard::TextPutchar => Some(26),
-        Standard::TextSub => Some(27),
-        Standard::TextStrip => Some(28),
-        Standard::TextGetint => Some(29),
-        Standard::TextPutint => Some(30),
-        Standard::Inimage => Some(31),
-        Standard::Inchar => Some(32),
-        Standard::Inint => Some(33),
-        Standard::Intext => Some(34),
-        Standard::Lastitem => Some(35),
-        Standard::Endfile => Some(36),
-        Standard::Outimage => Some(37),
-        Standard::Outchar => Some(38),
-        Standard::Outtext => Some(39),
-        Standard::Outint => Some(40),
-        Standard::Image => Some(41),
-        Standard::Pos => Some(42),
-        Standard::Setpos => Some(43),
-        Standard::More => Some(44),
-        Standard::Length => Some(45),
+        Standard::Abs => built(0, 1),
+        Standard::Sign => built(1, 1),
+        Standard::Min => built(2, 2),
+        Standard::Max => built(3, 2),
+        Standard::Mod => built(4, 2),
+        Standard::Rem => built(5, 2),
+        Standard::Maxint => built(6, 0),
+        Standard::Minint => built(7, 0),
+        Standard::Char => built(8, 1),
+        Standard::Rank => built(9, 1),
+        Standard::Isochar => built(10, 1),
+        Standard::Isorank => built(11, 1),
+        Standard::Digit => built(12, 1),
+        Standard::Letter => built(13, 1),
+        Standard::Blanks => None,
+        Standard::Copy => None,
+        Standard::Upcase => None,
+        Standard::Lowcase => None,
+        Standard::TextConstant => None,
+        Standard::TextStart => None,
+        Standard::TextLength => None,
+        Standard::TextPos => None,
+        Standard::TextMore => None,
+        Standard::TextMain => None,
+        Standard::TextSetpos => None,
+        Standard::TextGetchar => None,
+        Standard::TextPutchar => None,
+        Standard::TextSub => None,
+        Standard::TextStrip => None,
+        Standard::TextGetint => None,
+        Standard::TextPutint => None,
+        Standard::Inimage => None,
+        Standard::Inchar => None,
+        Standard::Inint => None,
+        Standard::Intext => None,
+        Standard::Lastitem => None,
+        Standard::Endfile => None,
+        Standard::Outimage => built(37, 0),
+        Standard::Outchar => built(38, 1),
+        Standard::Outtext => None,
+        Standard::Outint => built(40, 2),
+        Standard::Image => None,
+        Standard::Pos => None,
+        Standard::Setpos => None,
+        Standard::More => None,
+        Standard::Length => None,
         Standard::Sysin => None,
         Standard::Sysout => None,
+    }
+}
+
+/// Whether a standard name leaves a value.
+#[tactic(auto, unfolding(sim_values::specs::Standard::row_of))]
+pub fn standard_leaves(name: Standard) -> bool
+    ensures { result ≡ standard_leaves_of (procedure_named name) }
+{
+    match name {
+        Standard::Abs => true,
+        Standard::Sign => true,
+        Standard::Min => true,
+        Standard::Max => true,
+        Standard::Mod => true,
+        Standard::Rem => true,
+        Standard::Maxint => true,
+        Standard::Minint => true,
+        Standard::Char => true,
+        Standard::Rank => true,
+        Standard::Isochar => true,
+        Standard::Isorank => true,
+        Standard::Digit => true,
+        Standard::Letter => true,
+        Standard::Blanks => true,
+        Standard::Copy => true,
+        Standard::Upcase => true,
+        Standard::Lowcase => true,
+        Standard::TextConstant => true,
+        Standard::TextStart => true,
+        Standard::TextLength => true,
+        Standard::TextPos => true,
+        Standard::TextMore => true,
+        Standard::TextMain => true,
+        Standard::TextSetpos => false,
+        Standard::TextGetchar => true,
+        Standard::TextPutchar => false,
+        Standard::TextSub => true,
+        Standard::TextStrip => true,
+        Standard::TextGetint => true,
+        Standard::TextPutint => false,
+        Standard::Inimage => false,
+        Standard::Inchar => true,
+        Standard::Inint => true,
+        Standard::Intext => true,
+        Standard::Lastitem => true,
+        Standard::Endfile => true,
+        Standard::Outimage => false,
+        Standard::Outchar => false,
+        Standard::Outtext => false,
+        Standard::Outint => false,
+        Standard::Image => true,
+        Standard::Pos => true,
+        Standard::Setpos => false,
+        Standard::More => true,
+        Standard::Length => true,
+        Standard::Sysin => false,
+        Standard::Sysout => false,
     }
 }

@@ -1,10 +1,12 @@
-//! How operators are done.
+//! How operators are done, identifiers seen and actual parameters passed.
 ghost use Rattle.std.specs.Prelude.{◌≡◌};
-ghost use Rattle.sim_meaning.specs.Closing.{same as same_of, sort_of, sort_of_relation};
-ghost use Rattle.codegen_expr.specs.CodeExpr.{two_instr};
-ghost use Rattle.codegen_expr.specs.Emit.{sorted_of};
+ghost use Rattle.sim_meaning.specs.Closing.{is_text_type, sort_of, sort_of_relation};
+ghost use Rattle.codegen_expr.specs.Emit.{IsSmall, instr_of, passed_of as passed_by, seen_of as seen_by, sorted_of};
 
+use crate::cells::ConstantValue;
+use crate::instructions::character_instr;
 use sim_code::Instr;
+use sim_scope::{Entry, Formal, FormalKind, Mode, SimType};
 use sim_tree::{Multiplication, Operator, Relation, Sign};
 
 /// How an operator is done.
@@ -22,14 +24,7 @@ pub(crate) enum Sorted {
     Other,
 }
 
-/// `==` of references or of texts.
-fn same(texts: bool) -> Instr
-    ensures { result ≡ two_instr (same_of texts) }
-{
-    if texts { Instr::SameT } else { Instr::Same }
-}
-
-/// How a relation is done.
+/// How a relation is done. Those of texts are not built.
 fn sort_out_relation(texts: bool, relation: Relation) -> Sorted
     ensures { result ≡ sorted_of (sort_of_relation texts relation) }
 {
@@ -40,14 +35,16 @@ fn sort_out_relation(texts: bool, relation: Relation) -> Sorted
         (Relation::GreaterEqual, false) => Sorted::Plain(Instr::Rel(3)),
         (Relation::Greater, false) => Sorted::Plain(Instr::Rel(4)),
         (Relation::NotEqual, false) => Sorted::Plain(Instr::Rel(5)),
-        (Relation::Less, true) => Sorted::Plain(Instr::RelT(0)),
-        (Relation::LessEqual, true) => Sorted::Plain(Instr::RelT(1)),
-        (Relation::Equal, true) => Sorted::Plain(Instr::RelT(2)),
-        (Relation::GreaterEqual, true) => Sorted::Plain(Instr::RelT(3)),
-        (Relation::Greater, true) => Sorted::Plain(Instr::RelT(4)),
-        (Relation::NotEqual, true) => Sorted::Plain(Instr::RelT(5)),
-        (Relation::SameReference, texts) => Sorted::Plain(same(texts)),
-        (Relation::OtherReference, texts) => Sorted::Negated(same(texts)),
+        (Relation::SameReference, false) => Sorted::Plain(Instr::Same),
+        (Relation::OtherReference, false) => Sorted::Negated(Instr::Same),
+        (Relation::Less, true) => Sorted::Other,
+        (Relation::LessEqual, true) => Sorted::Other,
+        (Relation::Equal, true) => Sorted::Other,
+        (Relation::GreaterEqual, true) => Sorted::Other,
+        (Relation::Greater, true) => Sorted::Other,
+        (Relation::NotEqual, true) => Sorted::Other,
+        (Relation::SameReference, true) => Sorted::Other,
+        (Relation::OtherReference, true) => Sorted::Other,
     }
 }
 
@@ -69,5 +66,76 @@ pub(crate) fn sort_out(texts: bool, operator: Operator) -> Sorted
         Operator::Multiply(Multiplication::Times) => Sorted::Plain(Instr::Mul),
         Operator::Multiply(Multiplication::Divide) => Sorted::Plain(Instr::Div),
         Operator::Power => Sorted::Plain(Instr::Pow),
+    }
+}
+
+/// What a declared identifier is seen as.
+#[derive(Clone, Copy, Debug, PartialEq, Eq)]
+pub(crate) enum Seen {
+    /// A variable, or a parameter that is one: the value of its cell.
+    Variable,
+    /// A constant.
+    Constant,
+    /// An array, or a parameter that is one: its cell, or one of its elements.
+    Array,
+    /// A procedure with its text.
+    Call(u32),
+    /// It is not built.
+    Nothing,
+}
+
+/// What a declared identifier is seen as.
+pub(crate) fn seen_of(entry: Option<Entry>) -> Seen
+    ensures { result ≡ seen_by entry }
+{
+    match entry {
+        Some(Entry::Variable(_)) => Seen::Variable,
+        Some(Entry::Constant(_)) => Seen::Constant,
+        Some(Entry::Array { .. }) => Seen::Array,
+        Some(Entry::Procedure { block, .. }) => Seen::Call(block),
+        Some(Entry::Formal(formal)) => match (formal.mode, formal.kind) {
+            (Mode::ByName, _) => Seen::Nothing,
+            (_, FormalKind::Simple) => Seen::Variable,
+            (_, FormalKind::Array) => Seen::Array,
+            (_, FormalKind::Procedure) => Seen::Nothing,
+        },
+        _ => Seen::Nothing,
+    }
+}
+
+/// How an actual parameter is passed.
+#[derive(Clone, Copy, Debug, PartialEq, Eq)]
+pub(crate) enum Passed {
+    /// As it is.
+    Plain,
+    /// As a copy.
+    Copied,
+    /// It is not built.
+    Other,
+}
+
+/// How an actual parameter is passed.
+pub(crate) fn passed_of(formal: Formal) -> Passed
+    ensures { result ≡ passed_by formal.mode formal.kind (is_text_type formal.ty) }
+{
+    match (formal.mode, formal.kind, formal.ty) {
+        (Mode::ByName, _, _) => Passed::Other,
+        (_, FormalKind::Procedure, _) => Passed::Other,
+        (Mode::ByValue, FormalKind::Array, _) => Passed::Copied,
+        (Mode::ByValue, FormalKind::Simple, Some(SimType::Text)) => Passed::Other,
+        (_, _, _) => Passed::Plain,
+    }
+}
+
+/// The instruction that pushes the value of a constant.
+pub(crate) fn constant_instr(value: ConstantValue) -> Instr
+    ensures is { result ≡ instr_of value }
+    ensures small { IsSmall value }
+{
+    match value {
+        ConstantValue::Integer(value) => Instr::Int(value),
+        ConstantValue::Character(value) => character_instr(value),
+        ConstantValue::Truth(true) => Instr::Bool(1),
+        ConstantValue::Truth(false) => Instr::Bool(0),
     }
 }

@@ -25,7 +25,7 @@ const MODELS: [&str; 7] = [
 // The collections of data/ whose sources are run, in the order in which they are shown.
 const COLLECTIONS: [&str; 4] = [
     "messages.cases",
-    "small_form.cases",
+    "programs.cases",
     "grammar.cases",
     "whole_language.cases",
 ];

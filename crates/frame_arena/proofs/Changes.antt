@@ -73,7 +73,7 @@ apart_kept f g f2 g2 a b c d h = elim h [ inl e ↦ inl (omega (arith, a, b, c, 
 -- ---- a frame is given back
 
 module _ (m : Frames) (j : ℕ) (x : Instance Cells) where
-  given_is : slice_get m.instances j ≡ Some x → given m j ≡ with_instance m j (record x { given_back = true })
+  pub given_is : slice_get m.instances j ≡ Some x → given m j ≡ with_instance m j (record x { given_back = true })
   given_is e = ap (given_in m j) e
 
   gone_now : slice_get m.instances j ≡ Some x → live (with_instance m j (record x { given_back = true })) j ≡ None
@@ -82,7 +82,7 @@ module _ (m : Frames) (j : ℕ) (x : Instance Cells) where
   pub live_other : (y : Instance Cells) (n : ℕ) → (n ≡ j → ⊥) → live (with_instance m j y) n ≡ live m n
   live_other y n h = ap unless_given (get_set_other m.instances n j y h)
 
-leads_given : (fs : List Frame) (cells : List Slot) (m : Frames) (place j : ℕ) (f : Frame) (x : Instance Cells) (r : FrameRef) → Holds fs cells m → Has fs place j → slice_get m.instances j ≡ Some x →
+pub leads_given : (fs : List Frame) (cells : List Slot) (m : Frames) (place j : ℕ) (f : Frame) (x : Instance Cells) (r : FrameRef) → Holds fs cells m → Has fs place j → slice_get m.instances j ≡ Some x →
     Leads fs m r → Leads (set fs place f) (with_instance m j (record x { given_back = true })) r
 leads_given fs cells m place j f x r h has e leads = (
   subst (λ l. r.stamp < l) (sym (length-set m.instances j (record x { given_back = true }))) leads.0,

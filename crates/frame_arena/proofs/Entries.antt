@@ -1,7 +1,7 @@
 -- An entry into a region that is free, and writes into cells.
 use Rattle.std.proofs.Common.{◌≡◌, ℕ, zero, suc, ◌+◌, ◌<◌, ◌≤◌, ◌⊎◌, inl, inr, List, [], ◌∷◌, ◌++◌, length, length-append, set, sym, subst, refl, length-set, ap, ◌∙◌, arith, get_or-set_same, get_or-set_other}
 use Rattle.std.proofs.lemmas.Option.{slice_get_within}
-use Rattle.std.specs.Prelude.{true, false, Some, None, slice_get, nat_lt, if◌then◌else◌}
+use Rattle.std.specs.Prelude.{true, false, Option, Some, None, slice_get, nat_lt, if◌then◌else◌}
 use Rattle.sim_values.specs.declared.value.FrameRef.{FrameRef}
 use Rattle.sim_chains.specs.Components.{Standing}
 use Rattle.sim_code.specs.Instances.{Instance, cells_in, cells_put, entered, is_live, is_live_in, live, unless_given, with_instance}
@@ -17,12 +17,12 @@ use Rattle.frame_arena.proofs.Changes.{apart_kept, base_kept, cells_kept, frame_
 -- ---- an entry
 
 module _ {X : Type 0} where
-  get_old : (xs ys : List X) (n : ℕ) → n < length xs → slice_get (xs ++ ys) n ≡ slice_get xs n
+  pub get_old : (xs ys : List X) (n : ℕ) → n < length xs → slice_get (xs ++ ys) n ≡ slice_get xs n
   get_old [] ys n h = absurd (omega (arith, h))
   get_old (x ∷ xs) ys zero h = refl
   get_old (x ∷ xs) ys (suc n) h = get_old xs ys n (omega (arith, h))
 
-  get_new : (xs : List X) (y : X) → slice_get (xs ++ y ∷ []) (length xs) ≡ Some y
+  pub get_new : (xs : List X) (y : X) → slice_get (xs ++ y ∷ []) (length xs) ≡ Some y
   get_new [] y = refl
   get_new (x ∷ xs) y = get_new xs y
 
@@ -32,7 +32,7 @@ live_old m x s n h = ap unless_given (get_old m.instances (x ∷ []) n h)
 known_below : (fs : List Frame) (cells : List Slot) (m : Frames) (q n : ℕ) → Holds fs cells m → Has fs q n → n < length m.instances
 known_below fs cells m q n h e = slice_get_within m.instances n _ (h.known q n e)
 
-leads_entered : (fs : List Frame) (m : Frames) (place : ℕ) (f : Frame) (x : Instance Cells) (s : Standing Activation) (r : FrameRef) → (frame_at fs place).live ≡ false →
+pub leads_entered : (fs : List Frame) (m : Frames) (place : ℕ) (f : Frame) (x : Instance Cells) (s : Standing Activation) (r : FrameRef) → (frame_at fs place).live ≡ false →
     Leads fs m r → Leads (set fs place f) (entered m x s) r
 leads_entered fs m place f x s r free leads =
     let e : length (m.instances ++ x ∷ []) ≡ length m.instances + 1 = length-append m.instances (x ∷ []) in (
@@ -41,6 +41,9 @@ leads_entered fs m place f x s r free leads =
           let old : Has fs r.frame r.stamp = leads.1 (sym (ap is_live_in (live_old m x s r.stamp leads.0)) ∙ on) in
           has_to fs place f r.frame r.stamp (λ p. off (sym free ∙ ap (λ z. (frame_at fs z).live) (sym p) ∙ old.1)) old,
     )
+
+pub here_entered : (fs : List Frame) (place : ℕ) (f : Frame) → place < length fs → f.live ≡ true → Has (set fs place f) place f.number
+here_entered fs place f there on = (subst (λ l. place < l) (sym (length-set fs place f)) there, ap (λ g. g.live) (frame_same fs place f there) ∙ on, ap (λ g. g.number) (frame_same fs place f there))
 
 pub enters : (fs : List Frame) (cells : List Slot) (m : Frames) (place : ℕ) (f : Frame) (s : Standing Activation) → Holds fs cells m → place < length fs → (frame_at fs place).live ≡ false →
     f.number ≡ length m.instances → f.base ≡ (frame_at fs place).base → f.cells ≡ (frame_at fs place).cells → ((r : FrameRef) → f.parent ≡ Some r → Leads fs m r) →
@@ -85,10 +88,17 @@ enters fs cells m place f s h there free numbered b0 c0 parent =
 
 -- ---- writes into cells
 
-written_here : (cells : List Slot) (k : ℕ) (s : Slot) → k < length cells → slot_at (set cells k s) k ≡ s
+abbrev some_type : {X : Type 0} → Option X → Type 0
+some_type None = Unit {0}
+some_type (Some x) = ⊥
+
+pub no_some : {X : Type 0} (x : X) → ◌≡◌ {A = Option X} None (Some x) → ⊥
+no_some x e = subst some_type e tt
+
+pub written_here : (cells : List Slot) (k : ℕ) (s : Slot) → k < length cells → slot_at (set cells k s) k ≡ s
 written_here cells k s h = get_or-set_same cells k s empty_slot h
 
-written_elsewhere : (cells : List Slot) (k q : ℕ) (s : Slot) → (q ≡ k → ⊥) → slot_at (set cells k s) q ≡ slot_at cells q
+pub written_elsewhere : (cells : List Slot) (k q : ℕ) (s : Slot) → (q ≡ k → ⊥) → slot_at (set cells k s) q ≡ slot_at cells q
 written_elsewhere cells k q s h = get_or-set_other cells k q s empty_slot h
 
 cells_elsewhere : (cells : List Slot) (base count k : ℕ) (s : Slot) → (k < base) ⊎ (base + count ≤ k) → cells_at (set cells k s) base count ≡ cells_at cells base count
@@ -143,8 +153,16 @@ frees fs cells m place c s h there free h1 h2 leads =
       apart = h.apart;
     }
 
+-- what was found is within
+unless_within : (m : Frames) (j : ℕ) (x : Instance Cells) (o : Option (Instance Cells)) → slice_get m.instances j ≡ o → unless_given o ≡ Some x → j < length m.instances
+unless_within m j x None e e2 = absurd (no_some x e2)
+unless_within m j x (Some y) e e2 = slice_get_within m.instances j y e
+
+pub live_within : (m : Frames) (j : ℕ) (x : Instance Cells) → live m j ≡ Some x → j < length m.instances
+live_within m j x e = unless_within m j x (slice_get m.instances j) refl e
+
 -- a write into a cell of a frame
-leads_written : (fs : List Frame) (m : Frames) (j : ℕ) (x y : Instance Cells) (r : FrameRef) → live m j ≡ Some x → j < length m.instances → Leads fs m r → Leads fs (with_instance m j y) r
+pub leads_written : (fs : List Frame) (m : Frames) (j : ℕ) (x y : Instance Cells) (r : FrameRef) → live m j ≡ Some x → j < length m.instances → Leads fs m r → Leads fs (with_instance m j y) r
 leads_written fs m j x y r e below leads = (
   subst (λ l. r.stamp < l) (sym (length-set m.instances j y)) leads.0,
   λ on.
@@ -228,7 +246,7 @@ no_write fs cells m place j c v h has h1 =
 
 -- ---- a frame is kept
 
-kept_by : {X : Type 0} (p : Frame → X) (fs : List Frame) (place : ℕ) (f : Frame) (q : ℕ) → place < length fs → p f ≡ p (frame_at fs place) → p (frame_at (set fs place f) q) ≡ p (frame_at fs q)
+pub kept_by : {X : Type 0} (p : Frame → X) (fs : List Frame) (place : ℕ) (f : Frame) (q : ℕ) → place < length fs → p f ≡ p (frame_at fs place) → p (frame_at (set fs place f) q) ≡ p (frame_at fs q)
 kept_by p fs place f q h e =
     elim (same_or_not q place) [
       | inl s ↦ subst (λ z. p (frame_at (set fs place f) z) ≡ p (frame_at fs z)) (sym s) (ap p (frame_same fs place f h) ∙ e)

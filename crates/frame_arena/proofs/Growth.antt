@@ -7,6 +7,8 @@ use Rattle.frame_arena.specs.declared.slot.Slot.{Slot}
 use Rattle.frame_arena.specs.declared.frames.Frame.{Frame}
 use Rattle.frame_arena.specs.Slots.{cell_value, empty_slot}
 use Rattle.frame_arena.specs.Stacks.{slot_at}
+use Rattle.sim_code.specs.Outcome.{ArrayOf}
+use Rattle.frame_arena.specs.Arrays.{AllLeadArrays, RegionOf, SlotLeadsArray}
 use Rattle.frame_arena.specs.Frames.{Apart, Has, Holds, Leads, SlotLeads, cells_at, frame_at, instance_of}
 use Rattle.frame_arena.proofs.Changes.{off, same_or_not}
 
@@ -61,7 +63,7 @@ module _ (fs : List Frame) (f : Frame) (free : f.live ≡ false) where
       let l = longer fs f in
       (omega (arith, h.0, l), ap (λ g. g.live) (frame_before fs f q h.0) ∙ h.1, ap (λ g. g.number) (frame_before fs f q h.0) ∙ h.2)
 
-  leads_more : (m : Frames) (r : FrameRef) → Leads fs m r → Leads (fs ++ f ∷ []) m r
+  pub leads_more : (m : Frames) (r : FrameRef) → Leads fs m r → Leads (fs ++ f ∷ []) m r
   leads_more m r leads = (leads.0, λ on. has_more r.frame r.stamp (leads.1 on))
 
 turned : (f g : Frame) → Apart f g → Apart g f
@@ -104,3 +106,7 @@ adds fs old cells m f ho h free base inside =
             ]
           ];
     }
+
+-- the new slots name no array
+pub grows_leading : (cells : List Slot) (regions : List RegionOf) (arrays : List ArrayOf) → AllLeadArrays regions arrays cells → AllLeadArrays regions arrays (cells ++ empty_slot ∷ [])
+grows_leading cells regions arrays all q = subst (λ s. SlotLeadsArray regions arrays s) (sym (grown_at cells q)) (all q)

@@ -5,3 +5,12 @@ pub mod Entries
 pub mod Growth
 pub mod Pairs
 pub mod Rooms
+pub mod Leading
+pub mod Operands
+pub mod Places
+pub mod ArrayFacts
+pub mod ArrayCalls
+pub mod Giving
+pub mod Subscripts
+pub mod Finding
+pub mod Budgets

@@ -47,12 +47,16 @@ names_frame kind.Procedure = true
 names_frame kind.Thunk = true
 names_frame _ = false
 
-abbrev pub reference_of : Slot → FrameRef
-reference_of s = record { frame = s.name; stamp = count_of s.«data» }
+abbrev pub frame_reference : Slot → FrameRef
+frame_reference s = record { frame = s.name; stamp = count_of s.«data» }
 
 -- the reference in a slot, if it has one, leads to its frame
 abbrev pub SlotLeads : List Frame → Frames → Slot → Type 0
-SlotLeads frames m s = names_frame s.kind ≡ true → Leads frames m (reference_of s)
+SlotLeads frames m s = names_frame s.kind ≡ true → Leads frames m (frame_reference s)
+
+-- each slot of a list leads
+abbrev pub AllLead : List Frame → Frames → List Slot → Type 0
+AllLead frames m slots = (at : ℕ) → SlotLeads frames m (slot_at slots at)
 
 -- regions that have no cell in common
 abbrev pub Apart : Frame → Frame → Type 0
@@ -76,6 +80,11 @@ found_value (Some s) = Some (value_of s)
 abbrev pub HoldsAfter : Bool → List Frame → List Slot → Option Frames → Type 0
 HoldsAfter written frames cells None = written ≡ false
 HoldsAfter written frames cells (Some m) = (written ≡ true) × Holds frames cells m
+
+-- a reference leads after a write into a cell, where there is such a cell
+abbrev pub LeadsAfter : List Frame → Option Frames → FrameRef → Type 0
+LeadsAfter frames None r = Unit {0}
+LeadsAfter frames (Some m) r = Leads frames m r
 
 -- the machine's memory before its first step
 abbrev pub empty_memory : Frames

@@ -1,3 +1,6 @@
 pub mod Slots
 pub mod Stacks
 pub mod Frames
+pub mod Arrays
+pub mod Operators
+pub mod Budget

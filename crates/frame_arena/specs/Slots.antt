@@ -1,6 +1,7 @@
 -- What slots stand for.
 use Rattle.std.specs.Prelude.{ℕ, zero, suc, ℤ, pos, negsuc, Bool, true, false, Option, Some, None}
-use Rattle.sim_values.specs.Plain.{Integer, Truth, Character, Text, Object, Nothing}
+use Rattle.sim_values.specs.Plain.{Plain, Integer, Truth, Character, Text, Object, Nothing}
+use Rattle.sim_code.specs.Events.{integer_in, truth_in}
 use Rattle.sim_code.specs.Instances.{CellPlace, ElementPlace, ImagePlace}
 use Rattle.sim_code.specs.Machine.{Value, Of, Link, Address, ArrayValue, ProcedureValue, ThunkValue}
 use Rattle.frame_arena.specs.declared.slot.Slot.{Slot}
@@ -21,7 +22,7 @@ abbrev pub value_by : SlotKind → Slot → Value
 value_by kind.Empty s = Of Nothing
 value_by kind.Integer s = Of (Integer s.«data»)
 value_by kind.Truth s = Of (Truth (is_on s.«data»))
-value_by kind.Character s = Of (Character (count_of s.«data»))
+value_by kind.Character s = Of (Character s.code)
 value_by kind.Text s = Of (Text (record { text_frame = s.name; start = s.more; length = s.class; pos = count_of s.«data» }))
 value_by kind.Nothing s = Of Nothing
 value_by kind.Object s = Of (Object (count_of s.«data»))
@@ -46,4 +47,48 @@ cell_value s = unless_empty s.kind (value_of s)
 
 -- the slot with no value
 abbrev pub empty_slot : Slot
-empty_slot = record { kind = kind.Empty; name = 0; more = 0; class = 0; «data» = pos 0 }
+empty_slot = record { kind = kind.Empty; code = 0; name = 0; more = 0; class = 0; «data» = pos 0 }
+
+-- ---- what kind of value it is
+
+abbrev pub integer_of : Value → Option ℤ
+integer_of (Of p) = integer_in p
+integer_of _ = None
+
+abbrev pub truth_of : Value → Option Bool
+truth_of (Of p) = truth_in p
+truth_of _ = None
+
+abbrev pub character_in : Plain → Option ℕ
+character_in (Character c) = Some c
+character_in _ = None
+
+abbrev pub character_of : Value → Option ℕ
+character_of (Of p) = character_in p
+character_of _ = None
+
+-- a reference is an instance or none
+abbrev pub reference_in : Plain → Option (Option ℕ)
+reference_in (Object i) = Some (Some i)
+reference_in Nothing = Some None
+reference_in _ = None
+
+abbrev pub reference_of : Value → Option (Option ℕ)
+reference_of (Of p) = reference_in p
+reference_of _ = None
+
+abbrev pub is_plain : Value → Bool
+is_plain (Of p) = true
+is_plain _ = false
+
+-- the plain value of a slot, `none` where it is of another kind
+abbrev pub plain_by : SlotKind → Slot → Plain
+plain_by kind.Integer s = Integer s.«data»
+plain_by kind.Truth s = Truth (is_on s.«data»)
+plain_by kind.Character s = Character s.code
+plain_by kind.Text s = Text (record { text_frame = s.name; start = s.more; length = s.class; pos = count_of s.«data» })
+plain_by kind.Object s = Object (count_of s.«data»)
+plain_by _ s = Nothing
+
+abbrev pub plain_of : Slot → Plain
+plain_of s = plain_by s.kind s

@@ -41,3 +41,13 @@ with_integers (Some at) count stack o go = go (integers_from stack at count) (va
 abbrev pub with_two : Option ℕ → List Slot → World → (ℤ → ℤ → List Value → Run Machine) → Run Machine
 with_two None stack o go = no_rule o
 with_two (Some at) stack o go = go (slot_at stack at).«data» (slot_at stack (at + 1)).«data» (values_of at stack)
+
+-- as many values from a place on
+abbrev pub values_from : List Slot → (at count : ℕ) → List Value
+values_from stack at zero = []
+values_from stack at (suc n) = value_of (slot_at stack at) ∷ values_from stack (suc at) n
+
+-- as many values from a place on, in the order in which they came, and the values before it
+abbrev pub with_many : Option ℕ → (count : ℕ) → List Slot → World → (List Value → List Value → Run Machine) → Run Machine
+with_many None count stack o go = no_rule o
+with_many (Some at) count stack o go = go (values_from stack at count) (values_of at stack)

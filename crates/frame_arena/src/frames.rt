@@ -1,13 +1,16 @@
 //! Frames, and their cells in one list of slots. A frame lies in a region, which is used again when the frame is given back; its number
 //! in the order of entry is never used again. A reference to a frame has its region and, as its stamp, its number.
-ghost use Rattle.std.specs.Prelude.{◌≡◌, ◌<◌, List, IfSome, Some, None, length, slice_get, slice_set, nat_lt, true, false};
+ghost use Rattle.std.specs.Prelude.{◌≡◌, ℕ, ◌<◌, List, IfSome, Some, None, length, slice_get, slice_set, nat_lt, true, false};
 ghost use Rattle.sim_values.specs.declared.value.FrameRef.{FrameRef};
 ghost use Rattle.sim_chains.specs.Components.{Standing};
-ghost use Rattle.sim_code.specs.Instances.{at_level as frame_of_level, entered, given, is_given_at_end as ends_for_good, is_live, with_instance};
-ghost use Rattle.sim_code.specs.Machine.{Activation, Frames, joined, cell as cell_of_frame, cell_set};
+ghost use Rattle.sim_code.specs.Instances.{Instance, at_level as frame_of_level, entered, given, is_given_at_end as ends_for_good, is_live, with_instance};
+ghost use Rattle.sim_code.specs.Machine.{Activation, Cells, Frames, Value, joined, cell as cell_of_frame, cell_set};
 ghost use Rattle.frame_arena.specs.declared.slot.Slot.{Slot};
-ghost use Rattle.frame_arena.specs.Frames.{Has, Holds, HoldsAfter, Leads, SlotLeads, cells_at, found_value, frame_at, instance_of, number_in, rooms};
+ghost use Rattle.frame_arena.specs.Frames.{Has, Holds, HoldsAfter, Leads, LeadsAfter, SlotLeads, cells_at, found_value, frame_at, instance_of, number_in, rooms};
 ghost use Rattle.frame_arena.specs.Slots.{cell_value, value_of};
+ghost use Rattle.frame_arena.specs.Stacks.{slot_at};
+ghost use Rattle.sim_code.specs.Outcome.{ArrayOf};
+ghost use Rattle.frame_arena.specs.Arrays.{AllLeadArrays, RegionOf, SlotLeadsArray};
 
 use crate::slot::{Slot, SlotKind};
 use sim_values::FrameRef;
@@ -60,13 +63,14 @@ pub fn find(frames: &[Frame], at: FrameRef) -> Option<usize>
 
 // The slot of a cell among as many from a place on, if it has a value.
 #[inline(always)]
-fn slot_in(cells: &[Slot], base: u32, count: u32, cell: u32) -> Option<Slot>
-    ensures { found_value result ≡ joined (slice_get (cells_at cells.now base count) cell) }
+fn slot_in(cells: &[Slot], base: u32, count: u32, cell: usize) -> Option<Slot>
+    ensures value { found_value result ≡ joined (slice_get (cells_at cells.now base count) cell) }
+    ensures lies { IfSome result (λ s. (k : ℕ) × (s ≡ slot_at cells.now k)) }
 {
-    if cell >= count {
+    if cell >= count as usize {
         return None;
     }
-    let at = base as usize + cell as usize;
+    let at = base as usize + cell;
     if at >= cells.len() {
         return None;
     }
@@ -78,8 +82,9 @@ fn slot_in(cells: &[Slot], base: u32, count: u32, cell: u32) -> Option<Slot>
 
 /// The value of a cell, where its frame was not given back, has such a cell, and there is a value in it.
 #[inline(always)]
-pub fn cell(frames: &[Frame], cells: &[Slot], at: FrameRef, cell: u32) -> Option<Slot>
-    ensures { (m : Frames) → Holds frames.now cells.now m → Leads frames.now m at → found_value result ≡ cell_of_frame m at.stamp cell }
+pub fn cell(frames: &[Frame], cells: &[Slot], at: FrameRef, cell: usize) -> Option<Slot>
+    ensures value { (m : Frames) → Holds frames.now cells.now m → Leads frames.now m at → found_value result ≡ cell_of_frame m at.stamp cell }
+    ensures lies { IfSome result (λ s. (k : ℕ) × (s ≡ slot_at cells.now k)) }
 {
     let Some(place) = find(frames, at) else {
         return None;
@@ -88,7 +93,7 @@ pub fn cell(frames: &[Frame], cells: &[Slot], at: FrameRef, cell: u32) -> Option
 }
 
 /// The frame of a level among a frame and its textual enclosers.
-pub fn at_level(frames: &[Frame], home: FrameRef, level: u32) -> Option<FrameRef>
+pub fn at_level(frames: &[Frame], home: FrameRef, level: usize) -> Option<FrameRef>
     ensures there { IfSome result (λ f. Has frames.now f.frame f.stamp) }
     ensures level { (cells : List Slot) (m : Frames) → Holds frames.now cells m → Leads frames.now m home → number_in result ≡ frame_of_level m level home.stamp }
 {
@@ -98,7 +103,7 @@ pub fn at_level(frames: &[Frame], home: FrameRef, level: u32) -> Option<FrameRef
             return None;
         };
         let frame = &frames[place];
-        if frame.level == level {
+        if frame.level as usize == level {
             return Some(at);
         }
         match frame.parent {
@@ -130,6 +135,7 @@ pub fn give_back(frames: &mut [Frame], heads: &mut [u32], place: u32)
     ensures free { (frame_at frames.new place).live ≡ false }
     ensures first { let block = (frame_at frames.old place).block in
         block < length heads.old → slice_get heads.new block ≡ Some place }
+    ensures leads { (cells : List Slot) (m : Frames) (r : FrameRef) → Holds frames.old cells m → Leads frames.old m r → Leads frames.new (given m (frame_at frames.old place).number) r }
 {
     let frame = &mut frames[place as usize];
     frame.live = false;
@@ -161,6 +167,8 @@ pub fn enter(frames: &mut [Frame], place: usize, entry: Entry)
     requires there { place < length frames.old }
     requires free { (frame_at frames.old place).live ≡ false }
     ensures stacks { rooms frames.new ≡ rooms frames.old }
+    ensures here { Has frames.new place entry.number }
+    ensures leads { (m : Frames) (x : Instance Cells) (standing : Standing Activation) (r : FrameRef) → Leads frames.old m r → Leads frames.new (entered m x standing) r }
     ensures holds { (cells : List Slot) (m : Frames) (standing : Standing Activation) → Holds frames.old cells m → entry.number ≡ length m.instances → ((r : FrameRef) → entry.parent ≡ Some r → Leads frames.old m r) →
         let region = frame_at frames.old place in
         Holds frames.new cells (entered m (record { text = entry.block; level = entry.level; encloser = number_in entry.parent; cells = cells_at cells region.base region.cells; passing = entry.passing; kept = false; given_back = false }) standing) }
@@ -177,18 +185,20 @@ pub fn enter(frames: &mut [Frame], place: usize, entry: Entry)
 
 /// Puts a value into a cell, where its frame was not given back and has such a cell.
 #[inline(always)]
-pub fn set_cell(frames: &[Frame], cells: &mut [Slot], at: FrameRef, cell: u32, slot: Slot) -> bool
-    ensures { (m : Frames) → Holds frames.now cells.old m → Leads frames.now m at → SlotLeads frames.now m slot → cell_value slot ≡ Some (value_of slot) →
+pub fn set_cell(frames: &[Frame], cells: &mut [Slot], at: FrameRef, cell: usize, slot: Slot) -> bool
+    ensures holds { (m : Frames) → Holds frames.now cells.old m → Leads frames.now m at → SlotLeads frames.now m slot → cell_value slot ≡ Some (value_of slot) →
         HoldsAfter result frames.now cells.new (cell_set m at.stamp cell (value_of slot)) }
+    ensures leads { (m : Frames) (v : Value) (r : FrameRef) → Leads frames.now m r → LeadsAfter frames.now (cell_set m at.stamp cell v) r }
+    ensures arrays { (regions : List RegionOf) (arrays : List ArrayOf) → AllLeadArrays regions arrays cells.old → SlotLeadsArray regions arrays slot → AllLeadArrays regions arrays cells.new }
 {
     let Some(place) = find(frames, at) else {
         return false;
     };
     let frame = &frames[place];
-    if cell >= frame.cells {
+    if cell >= frame.cells as usize {
         return false;
     }
-    let k = frame.base as usize + cell as usize;
+    let k = frame.base as usize + cell;
     if k >= cells.len() {
         return false;
     }
@@ -198,18 +208,19 @@ pub fn set_cell(frames: &[Frame], cells: &mut [Slot], at: FrameRef, cell: u32, s
 
 /// Puts a value, or none, into a cell of a region that is free, where it has such a cell.
 #[inline(always)]
-pub fn set_free(frames: &[Frame], cells: &mut [Slot], place: usize, cell: u32, slot: Slot) -> bool
+pub fn set_free(frames: &[Frame], cells: &mut [Slot], place: usize, cell: usize, slot: Slot) -> bool
     requires there { place < length frames.now }
     requires free { (frame_at frames.now place).live ≡ false }
     ensures holds { (m : Frames) → Holds frames.now cells.old m → SlotLeads frames.now m slot → Holds frames.now cells.new m }
     ensures written { (m : Frames) → Holds frames.now cells.old m → result ≡ nat_lt cell (frame_at frames.now place).cells }
     ensures cells { result ≡ true → let region = frame_at frames.now place in cells_at cells.new region.base region.cells ≡ slice_set (cells_at cells.old region.base region.cells) cell (cell_value slot) }
+    ensures arrays { (regions : List RegionOf) (arrays : List ArrayOf) → AllLeadArrays regions arrays cells.old → SlotLeadsArray regions arrays slot → AllLeadArrays regions arrays cells.new }
 {
     let frame = &frames[place];
-    if cell >= frame.cells {
+    if cell >= frame.cells as usize {
         return false;
     }
-    let k = frame.base as usize + cell as usize;
+    let k = frame.base as usize + cell;
     if k >= cells.len() {
         return false;
     }
@@ -226,6 +237,9 @@ pub fn keep(frames: &mut [Frame], place: usize)
     ensures holds { (cells : List Slot) (m : Frames) → Holds frames.old cells m →
         let frame = frame_at frames.old place in
         Holds frames.new cells (with_instance m frame.number (record (instance_of cells frame) { kept = true })) }
+    ensures leads { (cells : List Slot) (m : Frames) (r : FrameRef) → Holds frames.old cells m → Leads frames.old m r →
+        let frame = frame_at frames.old place in
+        Leads frames.new (with_instance m frame.number (record (instance_of cells frame) { kept = true })) r }
 {
     frames[place].kept = true;
 }

@@ -2,10 +2,17 @@
 #![tactic(auto)]
 
 mod arena;
+pub mod arrays;
+mod contents;
 pub mod frames;
+pub mod operators;
+mod region;
 pub mod regions;
 mod slot;
 pub mod stack;
+pub mod words;
 
 pub use arena::Arena;
+pub use arrays::Arrays;
+pub use operators::Applied;
 pub use slot::{EMPTY, NOTHING, Slot, SlotKind};

@@ -2,7 +2,10 @@
 ghost use Rattle.std.specs.Prelude.{◌≡◌, ◌+◌, ◌<◌, ℕ, List, IfOk, IfSome, Some, length, slice_get, false};
 ghost use Rattle.sim_code.specs.Machine.{Frames};
 ghost use Rattle.frame_arena.specs.declared.frames.Frame.{Frame};
-ghost use Rattle.frame_arena.specs.Frames.{Holds, frame_at, HasShape, Laid, rooms};
+ghost use Rattle.sim_code.specs.Outcome.{ArrayOf};
+ghost use Rattle.frame_arena.specs.Arrays.{AllLeadArrays, RegionOf};
+ghost use Rattle.frame_arena.specs.Frames.{Holds, frame_at, HasShape, Laid, Leads, rooms};
+ghost use Rattle.sim_values.specs.declared.value.FrameRef.{FrameRef};
 
 use crate::frames::Frame;
 use crate::slot::{EMPTY, Slot};
@@ -12,6 +15,7 @@ use std::alloc::AllocError;
 fn grow(slots: &mut Vec<Slot>, count: u32) -> Result<(), AllocError>
     ensures long { IfOk result (λ _. length slots.new.items ≡ length slots.old.items + count) }
     ensures holds { IfOk result (λ _. (frames : List Frame) (m : Frames) → Holds frames slots.old.items m → Holds frames slots.new.items m) }
+    ensures arrays { IfOk result (λ _. (regions : List RegionOf) (arrays : List ArrayOf) → AllLeadArrays regions arrays slots.old.items → AllLeadArrays regions arrays slots.new.items) }
 {
     for _ in 0..count {
         slots.push(EMPTY)?;
@@ -35,6 +39,8 @@ pub fn add_region(
     ensures room { IfOk result (λ place. (frame_at frames.new.items place).room ≡ room) }
     ensures operands { IfOk result (λ place. (frame_at frames.new.items place).floor + room ≡ length stacks.new.items) }
     ensures holds { IfOk result (λ place. (m : Frames) → Holds frames.old.items cells.old.items m → Holds frames.new.items cells.new.items m) }
+    ensures leads { IfOk result (λ place. (m : Frames) (r : FrameRef) → Leads frames.old.items m r → Leads frames.new.items m r) }
+    ensures arrays { IfOk result (λ place. (regions : List RegionOf) (arrays : List ArrayOf) → AllLeadArrays regions arrays cells.old.items → AllLeadArrays regions arrays cells.new.items) }
     ensures stacks { IfOk result (λ place. Laid 0 (rooms frames.old.items) (length stacks.old.items) → Laid 0 (rooms frames.new.items) (length stacks.new.items)) }
 {
     let Ok(base) = u32::try_from(cells.len()) else {

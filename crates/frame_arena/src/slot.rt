@@ -1,11 +1,13 @@
 //! Values packed into slots.
-ghost use Rattle.std.specs.Prelude.{◌≡◌, ◌<◌, ◌^◌, List, IfSome};
+ghost use Rattle.std.specs.Prelude.{◌≡◌, false, ◌<◌, ◌^◌, List, IfSome};
 ghost use Rattle.sim_values.specs.Plain.{Integer, Truth, Character, Text, Object, Nothing};
 ghost use Rattle.sim_code.specs.Instances.{CellPlace, ElementPlace, ImagePlace};
 ghost use Rattle.sim_code.specs.Machine.{Frames, frame_in, Of, Link, Address, ArrayValue, ProcedureValue, ThunkValue};
 ghost use Rattle.frame_arena.specs.declared.frames.Frame.{Frame};
+ghost use Rattle.sim_code.specs.Outcome.{ArrayOf};
+ghost use Rattle.frame_arena.specs.Arrays.{ArrayLeads, RegionOf, SlotLeadsArray, names_array};
 ghost use Rattle.frame_arena.specs.Slots.{value_of, cell_value};
-ghost use Rattle.frame_arena.specs.Frames.{Leads, SlotLeads, number_in};
+ghost use Rattle.frame_arena.specs.Frames.{Leads, SlotLeads, names_frame, number_in};
 
 use sim_values::{ArrayRef, FrameRef, TextVal};
 
@@ -42,13 +44,15 @@ pub enum SlotKind {
     Thunk,
 }
 
-/// A value in 24 bytes. `data` is an integer, a code, the position in a text, or the number of a frame in the order of entry or of an
+/// A value in 24 bytes. `code` is a character. `data` is an integer, a truth value, the position in a text, or the number of a frame in the order of entry or of an
 /// array in the order in which they were made; `name` then says where that frame or array lies. `more` is the number of a cell, an
 /// element, an image, a block or a thunk, or where a text starts; `class` is a qualification, or how long a text is.
 #[derive(Clone, Copy, Debug, PartialEq, Eq)]
 pub struct Slot {
     /// What kind of value it is.
     pub kind: SlotKind,
+    /// The code of a character.
+    pub code: u8,
     /// Where the frame or array lies, or the frame of a text.
     pub name: u32,
     /// A number within the frame or array, or of a block or thunk.
@@ -62,6 +66,7 @@ pub struct Slot {
 /// No value.
 pub const EMPTY: Slot = Slot {
     kind: SlotKind::Empty,
+    code: 0,
     name: 0,
     more: 0,
     class: 0,
@@ -71,6 +76,7 @@ pub const EMPTY: Slot = Slot {
 /// The reference `none`.
 pub const NOTHING: Slot = Slot {
     kind: SlotKind::Nothing,
+    code: 0,
     name: 0,
     more: 0,
     class: 0,
@@ -112,7 +118,7 @@ impl Slot {
     {
         Slot {
             kind: SlotKind::Character,
-            data: i64::from(code),
+            code,
             ..EMPTY
         }
     }
@@ -154,6 +160,8 @@ impl Slot {
         requires { frame.stamp < 2 ^ 63 }
         ensures value { value_of result ≡ Link frame.stamp }
         ensures held { cell_value result ≡ Some (value_of result) }
+        ensures leads { (frames : List Frame) (m : Frames) → Leads frames m frame → SlotLeads frames m result }
+        ensures no_array { names_array result.kind ≡ false }
     {
         Slot {
             kind: SlotKind::Link,
@@ -168,6 +176,8 @@ impl Slot {
     pub fn cell(frame: FrameRef, cell: u32, class: u32) -> Slot
         requires { frame.stamp < 2 ^ 63 }
         ensures value { value_of result ≡ Address (CellPlace frame.stamp cell class) }
+        ensures leads { (frames : List Frame) (m : Frames) → Leads frames m frame → SlotLeads frames m result }
+        ensures no_array { names_array result.kind ≡ false }
         ensures held { cell_value result ≡ Some (value_of result) }
     {
         Slot {
@@ -185,6 +195,8 @@ impl Slot {
     pub fn element(array: ArrayRef, index: u32, class: u32) -> Slot
         requires { array.stamp < 2 ^ 63 }
         ensures value { value_of result ≡ Address (ElementPlace array.stamp index class) }
+        ensures leads { (regions : List RegionOf) (arrays : List ArrayOf) → ArrayLeads regions arrays array → SlotLeadsArray regions arrays result }
+        ensures no_frame { names_frame result.kind ≡ false }
         ensures held { cell_value result ≡ Some (value_of result) }
     {
         Slot {
@@ -215,6 +227,8 @@ impl Slot {
     pub fn array(array: ArrayRef) -> Slot
         requires { array.stamp < 2 ^ 63 }
         ensures value { value_of result ≡ ArrayValue array.stamp }
+        ensures leads { (regions : List RegionOf) (arrays : List ArrayOf) → ArrayLeads regions arrays array → SlotLeadsArray regions arrays result }
+        ensures no_frame { names_frame result.kind ≡ false }
         ensures held { cell_value result ≡ Some (value_of result) }
     {
         Slot {

@@ -12,10 +12,18 @@ ghost use Rattle.sim_values.specs.declared.operators.Dyadic.{Dyadic};
 ghost use Rattle.sim_values.specs.Operators.{two_of};
 ghost use Rattle.sim_values.specs.Plain.{Integer, Plain};
 ghost use Rattle.sim_code.specs.Events.{answering, applying_two};
-ghost use Rattle.frame_arena.specs.Stacks.{slot_at, with_two};
+ghost use Rattle.frame_arena.specs.Stacks.{slot_at, with_two, with_many};
+ghost use Rattle.std.specs.Prelude.{◌∷◌};
+ghost use Rattle.sim_code.specs.Outcome.{ArrayOf};
+ghost use Rattle.sim_code.specs.Events.{pop_many};
+ghost use Rattle.sim_code.specs.Machine.{Frames};
+ghost use Rattle.frame_arena.specs.declared.frames.Frame.{Frame};
+ghost use Rattle.frame_arena.specs.Frames.{AllLead, SlotLeads};
+ghost use Rattle.frame_arena.specs.Arrays.{AllLeadArrays, RegionOf, SlotLeadsArray};
 
 use crate::slot::{Slot, SlotKind};
 
+/// Puts a value behind the others where there is room, and answers how many there are then.
 /// Puts a value behind the others where there is room, and answers how many there are then.
 #[inline(always)]
 pub fn push(stack: &mut [Slot], depth: usize, slot: Slot) -> Option<usize>
@@ -23,6 +31,9 @@ pub fn push(stack: &mut [Slot], depth: usize, slot: Slot) -> Option<usize>
     ensures deeper { IfSome result (λ n. n ≡ depth + 1) }
     ensures within { IfSome result (λ n. n ≤ length stack.new) }
     ensures same { result ≡ None → stack.new ≡ stack.old }
+    ensures long { length stack.new ≡ length stack.old }
+    ensures leads { (frames : List Frame) (m : Frames) → AllLead frames m stack.old → SlotLeads frames m slot → AllLead frames m stack.new }
+    ensures leads_arrays { (regions : List RegionOf) (arrays : List ArrayOf) → AllLeadArrays regions arrays stack.old → SlotLeadsArray regions arrays slot → AllLeadArrays regions arrays stack.new }
     ensures row { (o : World) (go : List Value → Run Machine) → pushing (length stack.old) (values_of depth stack.old) (value_of slot) o go ≡ with_values result stack.new o go }
 {
     if depth < stack.len() {
@@ -104,4 +115,52 @@ pub fn two_integers(stack: &[Slot], depth: usize) -> Option<usize>
         (SlotKind::Integer, SlotKind::Integer) => Some(at),
         _ => None,
     }
+}
+
+/// Puts the last value behind the others once more where there is room.
+#[inline(always)]
+pub fn dup(stack: &mut [Slot], depth: usize) -> Option<usize>
+    requires fits { depth ≤ length stack.old }
+    ensures within { IfSome result (λ n. n ≤ length stack.new) }
+    ensures long { length stack.new ≡ length stack.old }
+    ensures leads { (frames : List Frame) (m : Frames) → AllLead frames m stack.old → AllLead frames m stack.new }
+    ensures leads_arrays { (regions : List RegionOf) (arrays : List ArrayOf) → AllLeadArrays regions arrays stack.old → AllLeadArrays regions arrays stack.new }
+    ensures row { (o : World) (go : List Value → Run Machine) → popping (values_of depth stack.old) o (λ v rest. pushing (length stack.old) (values_of depth stack.old) v o go) ≡ with_values result stack.new o go }
+{
+    let at = pop(stack, depth)?;
+    let slot = stack[at];
+    push(stack, depth, slot)
+}
+
+/// Exchanges the two last values.
+#[inline(always)]
+pub fn swap(stack: &mut [Slot], depth: usize) -> Option<usize>
+    requires fits { depth ≤ length stack.old }
+    ensures within { IfSome result (λ n. n ≤ length stack.new) }
+    ensures long { length stack.new ≡ length stack.old }
+    ensures leads { (frames : List Frame) (m : Frames) → AllLead frames m stack.old → AllLead frames m stack.new }
+    ensures leads_arrays { (regions : List RegionOf) (arrays : List ArrayOf) → AllLeadArrays regions arrays stack.old → AllLeadArrays regions arrays stack.new }
+    ensures row { (o : World) (go : List Value → Run Machine) → popping (values_of depth stack.old) o (λ y rest. popping rest o (λ x rest. go (x ∷ y ∷ rest))) ≡ with_values result stack.new o go }
+{
+    if depth < 2 {
+        return None;
+    }
+    let below = stack[depth - 2];
+    let top = stack[depth - 1];
+    stack[depth - 2] = top;
+    stack[depth - 1] = below;
+    Some(depth)
+}
+
+/// The place of the first of as many last values.
+#[inline(always)]
+pub fn pop_values(stack: &[Slot], depth: usize, count: usize) -> Option<usize>
+    requires fits { depth ≤ length stack.now }
+    ensures places { IfSome result (λ at. at + count ≡ depth) }
+    ensures row { (o : World) (go : List Value → List Value → Run Machine) → pop_many count [] (values_of depth stack.now) o go ≡ with_many result count stack.now o go }
+{
+    if depth < count {
+        return None;
+    }
+    Some(depth - count)
 }

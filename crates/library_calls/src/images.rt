@@ -284,3 +284,91 @@ fn texts_read(rt: HostRuntime) -> Result<(), Fail> {
     assert_eq!(rt; behind, Err(IntextFault::NotRead(IoFault::Run(InputAtEnd))));
     Ok(())
 }
+
+// What an `intext` answers as characters behind an empty line, in an image of two places that is used up, of an input of which the
+// call with this number fails; and whether that call is made by the next one that needs a byte.
+fn held_text(
+    alloc: Global,
+    bytes: &[u8],
+    failing: u64,
+    count: i64,
+) -> Result<(Vec<u8>, bool), Fail> {
+    let mut texts = Texts::new(alloc);
+    let mut image = InImage::new(alloc, &mut texts, 2)?;
+    let mut input = MemSource::new(alloc, bytes, &[failing])?;
+    image.inimage(&mut texts, &mut input)?;
+    image.set_pos(3);
+    let t = image.intext(&mut texts, &mut input, count, 10)?;
+    let characters = Vec::from_slice(alloc, texts.characters(t))?;
+    image.set_pos(3);
+    let next = image.intext(&mut texts, &mut input, 1, 10);
+    let failed = next == Err(IntextFault::NotRead(IoFault::InputFault));
+    Ok((characters, failed))
+}
+
+// Each piece that is read has three bytes, or as many as there is room for behind those that are held. A text is read with no piece more than
+// it wants.
+#[test]
+fn texts_that_are_held(rt: HostRuntime) -> Result<(), Fail> {
+    let cases: [(&[u8], u64, i64, &[u8]); 4] = [
+        (b"\na\n", 1, 2, b"a "),
+        (b"\n\na", 1, 1, b" "),
+        (b"\nab\ncd\n", 2, 2, b"ab"),
+        (b"\nab\ncd\n", 3, 3, b"abc"),
+    ];
+    for (bytes, failing, count, want) in cases {
+        let (characters, failed) = held_text(rt.alloc(), bytes, failing, count)?;
+        assert_eq!(rt; characters.as_slice(), want);
+        assert!(rt; failed);
+    }
+    Ok(())
+}
+
+#[test]
+fn no_text_of_a_negative_length(rt: HostRuntime) -> Result<(), Fail> {
+    let mut texts = Texts::new(rt.alloc());
+    let mut image = InImage::new(rt.alloc(), &mut texts, 2)?;
+    let mut input = Dripping {
+        bytes: b"a\n",
+        place: 0,
+    };
+    let negative = image.intext(&mut texts, &mut input, -1, 10);
+    assert_eq!(rt;
+        negative,
+        Err(IntextFault::NoText(TextFault::Run(NegativeLength)))
+    );
+    assert_eq!(rt;
+        (input.place, image.image().pos, image.endfile()),
+        (0, 3, false)
+    );
+    let t = image.intext(&mut texts, &mut input, 3, 10)?;
+    assert_eq!(rt; texts.characters(t), b"a \x19".as_slice());
+    let negative = image.intext(&mut texts, &mut input, -1, 10);
+    assert_eq!(rt;
+        negative,
+        Err(IntextFault::NoText(TextFault::Run(NegativeLength)))
+    );
+    assert_eq!(rt;
+        (input.place, image.image().pos, image.endfile()),
+        (2, 2, true)
+    );
+    Ok(())
+}
+
+#[test]
+fn a_character_behind_a_full_image(rt: HostRuntime) -> Result<(), Fail> {
+    let mut texts = Texts::new(rt.alloc());
+    let mut image = OutImage::new(&mut texts, 2)?;
+    let mut out = MemSink::new(rt.alloc(), &[0], 100)?;
+    image.outchar(&mut texts, &mut out, b'a')?;
+    image.outchar(&mut texts, &mut out, b'b')?;
+    let answer = image.outchar(&mut texts, &mut out, b'c');
+    assert_eq!(rt; answer, Err(IoFault::WriteFault));
+    assert_eq!(rt; texts.characters(image.image()), b"ab".as_slice());
+    assert_eq!(rt; image.image().pos, 3);
+    assert_eq!(rt; out.bytes(), b"".as_slice());
+    image.outchar(&mut texts, &mut out, b'c')?;
+    assert_eq!(rt; texts.characters(image.image()), b"c ".as_slice());
+    assert_eq!(rt; out.bytes(), b"ab\n".as_slice());
+    Ok(())
+}

@@ -7,6 +7,8 @@ ghost use Rattle.notices.specs.declared.activation.Placement.TheVariants.{At, De
 ghost use Rattle.notices.specs.Runs.{currents_of, activation, process, Hold, Passivate};
 ghost use Rattle.notices.specs.Notices.{is_of, removed, placed_at, placed_direct, placed_near};
 ghost use Rattle.notices.specs.Schedule.{IsOrdered, IsSchedule};
+ghost use Rattle.notices.specs.Scheduling.{ProcessTests, seen_as};
+ghost use Rattle.notices.specs.declared.activation.ProcessRef.TheVariants.{NoProcess, OfAnother, OfThis};
 
 /// Whatever is placed or removed, the list stays ordered by time, with each process in it at most once and
 /// below the room.
@@ -54,4 +56,12 @@ pub fn worked_schedules()
     ensures old_notice_stands { currents_of (activation false 1 (At (pos 9) false) ∷ activation true 0 (Delay (pos 2) false) ∷ []) ≡ Ok (pos 0, 0) ∷ Ok (pos 0, 0) ∷ Ok (pos 2, 0) ∷ [] }
     ensures no_notice_left { currents_of (Passivate ∷ []) ≡ Ok (pos 0, 0) ∷ Err NoNoticeLeft ∷ [] }
     ensures time_too_large { currents_of (Hold (pos 9223372036854775807) ∷ Hold (pos 1) ∷ []) ≡ Ok (pos 0, 0) ∷ Ok (pos 9223372036854775807, 0) ∷ Err TimeTooLarge ∷ [] }
+{}
+
+/// How a simulation block sees a reference: whether the object is a process comes first, then whether it is one of the block.
+pub fn references_seen()
+    ensures no_process { (tests : ProcessTests) (x : ℕ) → tests.is_process x ≡ false → seen_as tests x ≡ NoProcess }
+    ensures of_another { (tests : ProcessTests) (x : ℕ) → tests.is_process x ≡ true → tests.is_of_block x ≡ false → seen_as tests x ≡ OfAnother }
+    ensures of_this { (tests : ProcessTests) (x : ℕ) → tests.is_process x ≡ true → tests.is_of_block x ≡ true
+        → seen_as tests x ≡ OfThis (record { 0 = tests.number x }) (tests.has_ended x) }
 {}

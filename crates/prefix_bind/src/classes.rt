@@ -47,12 +47,19 @@ impl Classes {
     }
 }
 
+/// The levels of a class, from the outermost prefix inward, as they stand in the table; none where the declaration is no class.
+pub fn levels_in(classes: &Classes, class: DeclNo) -> &[DeclNo]
+    ensures { result.now ≡ levels_of classes.now class }
+{
+    match classes.rows.get(class.0 as usize) {
+        Some(row) => &row.classes,
+        None => &[],
+    }
+}
+
 /// The levels of a class, from the outermost prefix inward; none where the declaration is no class.
 pub fn levels(alloc: Global, classes: &Classes, class: DeclNo) -> Result<Vec<DeclNo>, Memory>
     ensures { IfOk result (λ list. list.items ≡ levels_of classes.now class) }
 {
-    match classes.rows.get(class.0 as usize) {
-        Some(row) => Ok(Vec::from_slice(alloc, &row.classes)?),
-        None => Ok(Vec::new(alloc)),
-    }
+    Ok(Vec::from_slice(alloc, levels_in(classes, class))?)
 }

@@ -7,4 +7,4 @@ mod cells;
 mod classes;
 
 pub use cells::concat;
-pub use classes::{Classes, levels};
+pub use classes::{Classes, levels, levels_in};

@@ -11,6 +11,8 @@ mod expression_calls;
 #[cfg(test)]
 mod forms_in_memory;
 #[cfg(test)]
+mod limited_runs;
+#[cfg(test)]
 mod nesting;
 #[cfg(test)]
 mod sim_base_calls;
@@ -18,7 +20,5 @@ mod sim_base_calls;
 mod sim_lexer_calls;
 #[cfg(test)]
 mod sim_tree_calls;
-#[cfg(test)]
-mod small_form_calls;
 #[cfg(test)]
 mod top_call;

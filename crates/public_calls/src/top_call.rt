@@ -1,6 +1,7 @@
 // Whole commands over files, output and diagnostic output in memory: the words, the limit of a source, and calls that fail.
 // Whole sources stand in the data of the crate `examples`.
 
+use sim_base::Line;
 use sim_driver::{Status, simula};
 use sim_lexer::SOURCE_LIMIT;
 use sim_ports::{MemFiles, MemSink, MemSource};
@@ -182,9 +183,11 @@ fn outputs_that_fail(rt: HostRuntime) -> Result<(), Fail> {
         &'a [u8],
         &'a [u8],
     );
-    let rows: [Row; 9] = [
+    let rows: [Row; 11] = [
         (runs, &[0], 4096, &[], 4096, 8, b"", fault),
-        (runs, &[1], 4096, &[], 4096, 8, b"  42\n", fault),
+        (runs, &[1], 4096, &[], 4096, 8, b"  42", fault),
+        (runs, &[2], 4096, &[], 4096, 8, b"  42\n", fault),
+        (runs, &[3], 4096, &[], 4096, 8, b"  42\n  43", fault),
         (runs, &[], 7, &[], 4096, 8, b"  42\n  ", fault),
         (runs, &[0], 4096, &[0], 4096, 8, b"", b""),
         (runs, &[], 4096, &[0], 4096, 0, b"  42\n  43\n", b""),
@@ -213,6 +216,81 @@ fn outputs_that_fail(rt: HostRuntime) -> Result<(), Fail> {
             setting,
             Wanted { status, out, diag },
         )?;
+    }
+    Ok(())
+}
+
+// What the static rules refuse is named before a form that does not run, but a source that needs classes is not asked them.
+#[test]
+fn forms_that_do_not_run(rt: HostRuntime) -> Result<(), Fail> {
+    let text = b"begin outtext(\"x\") end".as_slice();
+    let with_text = b"begin outtext(\"x\");\ni := 1 end".as_slice();
+    let with_class = b"begin class a;;\ni := 1 end".as_slice();
+    let not_built = b"line 1: Z1 form not built\n".as_slice();
+    let undeclared = b"line 2: S10 identifier not declared\n".as_slice();
+    let rows = [
+        ("run", text, 1, not_built),
+        ("check", text, 0, b"".as_slice()),
+        ("run", with_text, 1, undeclared),
+        ("check", with_text, 1, undeclared),
+        ("run", with_class, 1, not_built),
+        ("check", with_class, 1, not_built),
+    ];
+    for (row, (command, source, status, diag)) in rows.into_iter().enumerate() {
+        let wanted = Wanted {
+            status,
+            out: b"",
+            diag,
+        };
+        let words = [command, "source.sim"];
+        check(&rt, rt.alloc(), row, &words, sound(source), wanted)?;
+    }
+    Ok(())
+}
+
+#[test]
+fn storage_that_is_exhausted(rt: HostRuntime) -> Result<(), Fail> {
+    let source = b"begin\ninteger array a(1:4000000); outimage end";
+    let wanted = Wanted {
+        status: 3,
+        out: b"",
+        diag: b"line 2: storage exhausted, 5 of 4000000 words used, 4000005 wanted\n",
+    };
+    check(
+        &rt,
+        rt.alloc(),
+        0,
+        &["run", "source.sim"],
+        sound(source),
+        wanted,
+    )
+}
+
+// The statuses that no short source comes to.
+#[test]
+fn statuses(rt: HostRuntime) -> Result<(), Fail> {
+    let exhausted = Status::StorageExhausted {
+        line: Line(2),
+        used: 5,
+        budget: 4_000_000,
+        wanted: 4_000_005,
+    };
+    let ticks = Status::TickLimit {
+        ticks: 1_000_000_000,
+    };
+    let rows = [
+        (
+            exhausted,
+            3,
+            "line 2: storage exhausted, 5 of 4000000 words used, 4000005 wanted",
+        ),
+        (ticks, 4, "tick limit 1000000000 reached"),
+        (Status::NoRule, 10, "no rule"),
+    ];
+    for (status, number, text) in rows {
+        assert_eq!(rt; status.number(), number);
+        let shown = format!(in rt.alloc(); "{status}")?;
+        assert_eq!(rt; shown.as_str(), text);
     }
     Ok(())
 }

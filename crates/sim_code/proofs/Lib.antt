@@ -1,3 +1,5 @@
+pub mod Growing
+pub mod GrowingRows
 pub mod Lifts
 pub mod Simulation
 pub mod Worked

@@ -6,4 +6,6 @@ pub mod Instances
 pub mod Machine
 pub mod Names
 pub mod Rows
+pub mod Running
+pub mod Growing
 pub mod Examples

@@ -10,20 +10,20 @@ use Rattle.sim_expr_parser.specs.declared.refusal.SyntaxRefusal.TheVariants as s
 use Rattle.sim_lexer.specs.Spelling.{Lexed, Broken, Reads, Spelled}
 use Rattle.sim_lexer.proofs.OneAnswer as spelling
 use Rattle.sim_parser.specs.Parsing.{Parses}
-use Rattle.sim_tree.specs.Grammar as g
-use Rattle.sim_tree.specs.Reading.{Forest, TooDeep, Unexpected, done, node}
-use Rattle.sim_tree.specs.ShownProgram.{program_shown}
+use Rattle.sim_tree.specs.Reading.{TooDeep, Unexpected}
+use Rattle.sim_tree.specs.Syntax.{Program}
 use Rattle.sim_tree.specs.SyntaxOfProgram.{program_syntax}
 use Rattle.sim_tree.specs.Tree.{IsTree, limit}
 use Rattle.sim_tree.specs.declared.program.Program.{Program as Tree}
-use Rattle.sim_tree.proofs.Laws.{never_both, one_fault, one_reading}
-use Rattle.sim_static.specs.Check.{answer, check_of}
+use Rattle.sim_tree.proofs.Laws.{never_both, one_fault}
+use Rattle.sim_scope.specs.declared.bound.Bound.{Bound}
+use Rattle.sim_scope.specs.declared.scopes.Denotation.{Denotation}
+use Rattle.sim_scope.specs.declared.types.SimType.{SimType}
+use Rattle.sim_scope.specs.Source.{Source, source_of}
+use Rattle.sim_scope.specs.Tables.{Tables}
+use Rattle.sim_static.specs.Check.{Allowed, Checked, Refused, answer, check_of}
 use Rattle.sim_static.specs.NeedsClasses.{NeedsClasses, needs_from}
-use Rattle.small_form.specs.Formed.{form_of}
-use Rattle.sim_driver.specs.Compiling.{Answers, Bad, Compiled, Deep, IsParsed, LexedCompiles, Parsed, Rejected, SourceCompiles, SourceRejects, TokensCompile, TokensReject, Whole, check_compiled, checked, formed, parsed_compiled, run_compiled, token_line, tree_compiled, without_classes}
-use Rattle.sim_driver.specs.OutputAfter.{OutputAfter}
-use Rattle.sim_driver.specs.declared.failure.RunFailure.{RunFailure}
-use Rattle.sim_driver.specs.declared.failure.RunFailure.TheVariants.{Memory, Output}
+use Rattle.sim_driver.specs.Compiling.{Answers, Bad, BoundCompiles, CheckBinds, CheckRejects, CheckedCompiles, Compiled, Deep, IsBad, IsDeep, IsParsed, LexedCompiles, Parsed, ParsedCompiles, Rejected, Same, SourceBinds, SourceCompiles, SourceRejects, TokensCompile, TokensReject, TreeBinds, TreeCompiles, TreeCompilesIf, TreeRejects, Whole, source_with, token_line}
 use Rattle.sim_driver.specs.declared.compiling.Refusal.{Refusal}
 use Rattle.sim_driver.specs.declared.compiling.Refusal.TheVariants as refusal
 use Rattle.sim_driver.specs.declared.words.Command.{Command}
@@ -34,9 +34,6 @@ pub holds_on_ok : {T E P : Type 0} (r : Result T E) → P → OnOk r P
 holds_on_ok (Ok x) p = p
 holds_on_ok (Err e) p = tt
 
-insides : (f h : Forest) → node g.Program f done ≡ node g.Program h done → f ≡ h
-insides f h e = cc
-
 same_unexpected : (k m : ℕ) → Unexpected k ≡ Unexpected m → k ≡ m
 same_unexpected k m e = cc
 
@@ -45,12 +42,6 @@ same_deep k m e = cc
 
 not_both : (k m : ℕ) → Unexpected k ≡ TooDeep m → ⊥
 not_both k m e = cc
-
--- two trees of the same tokens are run alike
-same_run : (tokens : List Token) (p q : Tree) → IsTree tokens p → IsTree tokens q → run_compiled p ≡ run_compiled q
-same_run tokens p q x y =
-    ap (λ f. formed (form_of f p.lines.items)) (insides (program_shown p) (program_shown q) (one_reading limit tokens x.reads y.reads).0)
-    ∙ ap (λ l. formed (form_of (program_shown q) l)) (x.lines ∙ sym y.lines)
 
 -- two trees of the same tokens have one syntax
 abbrev pub OneSyntax : Type 0
@@ -61,64 +52,91 @@ same_checked one tokens p q x y =
     ap (λ s. answer (length p.lines.items) s) (one tokens p q x y)
     ∙ ap (λ (l : List Line). answer (length l) (program_syntax q)) (x.lines ∙ sym y.lines)
 
--- a command answers two trees of the same tokens alike
-abbrev OneAnswer : Command → Type 0
-OneAnswer command = (tokens : List Token) (p q : Tree) → IsTree tokens p → IsTree tokens q → tree_compiled command tokens p ≡ tree_compiled command tokens q
+-- they are one program
+abbrev source_by : Program → Tables → List (Option Denotation) → List (Option SimType) → List Line → Source
+source_by program tables uses types lines = record { program = program; tables = tables; uses = uses; types = types; lines = lines }
 
-same_tree_checked : OneSyntax → OneAnswer Check
-same_tree_checked one tokens p q x y = ap (λ c. without_classes (needs_from false tokens) (checked tokens c)) (same_checked one tokens p q x y)
+abbrev SameSource : Tree → Tree → Type 0
+SameSource p q = (tables : Tables) (uses : List (Option Denotation)) (types : List (Option SimType)) → source_with p tables uses types ≡ source_with q tables uses types
 
--- what tokens parse as in two ways is compiled to the same
-same_parsed : (command : Command) → OneAnswer command → (tokens : List Token) (a b : Parsed) → IsParsed tokens a → IsParsed tokens b → parsed_compiled command tokens a ≡ parsed_compiled command tokens b
-same_parsed command one tokens (Whole p) (Whole q) x y = one tokens p q x y
-same_parsed command one tokens (Whole p) (Bad m) x y = absurd (never_both limit tokens x.reads y.comes)
-same_parsed command one tokens (Whole p) (Deep m) x y = absurd (never_both limit tokens x.reads y.comes)
-same_parsed command one tokens (Bad k) (Whole q) x y = absurd (never_both limit tokens y.reads x.comes)
-same_parsed command one tokens (Bad k) (Bad m) x y = ap (λ n. Rejected rule.UnexpectedToken (token_line tokens n)) (same_unexpected k m (one_fault limit tokens x.comes y.comes))
-same_parsed command one tokens (Bad k) (Deep m) x y = absurd (not_both k m (one_fault limit tokens x.comes y.comes))
-same_parsed command one tokens (Deep k) (Whole q) x y = absurd (never_both limit tokens y.reads x.comes)
-same_parsed command one tokens (Deep k) (Bad m) x y = absurd (not_both m k (one_fault limit tokens y.comes x.comes))
-same_parsed command one tokens (Deep k) (Deep m) x y = ap (λ n. Rejected rule.NestedTooDeeply (token_line tokens n)) (same_deep k m (one_fault limit tokens x.comes y.comes))
+same_source : OneSyntax → (tokens : List Token) (p q : Tree) → IsTree tokens p → IsTree tokens q → SameSource p q
+same_source one tokens p q x y tables uses types =
+    ap (λ s. source_by s tables uses types p.lines.items) (one tokens p q x y)
+    ∙ ap (λ (l : List Line). source_by (program_syntax q) tables uses types l) (x.lines ∙ sym y.lines)
 
-one_of_tokens : (command : Command) → OneAnswer command → (tokens : List Token) (a b : Compiled) → TokensCompile command tokens a → TokensCompile command tokens b → a ≡ b
-one_of_tokens command one tokens a b x y = x.gives ∙ same_parsed command one tokens x.parsed y.parsed x.parses y.parses ∙ sym y.gives
+-- ---- one thing where the other is
 
-one_of_lexed : (command : Command) → OneAnswer command → (source : List ℕ) (lexed : Lexed) (a b : Compiled) → LexedCompiles command source lexed a → LexedCompiles command source lexed b → a ≡ b
-one_of_lexed command one source (Spelled tokens) a b x y = one_of_tokens command one tokens a b x y
-one_of_lexed command one source (Broken rule place) a b x y = x ∙ sym y
+pub same_then : (A B C : Type 0) → Same A B → Same B C → Same A C
+same_then A B C f g = record { there = λ a. g.there (f.there a); back = λ c. f.back (g.back c) }
 
--- a command makes one thing of a source at most
-one_compiled : (command : Command) → OneAnswer command → (source : List ℕ) (a b : Compiled) → SourceCompiles command source a → SourceCompiles command source b → a ≡ b
-one_compiled command one source a b x y =
-    let same : y.lexed ≡ x.lexed = spelling.one_reading y.reads x.reads in
-    let Goal : Lexed → Type 0 = λ lexed. LexedCompiles command source lexed b in
-    one_of_lexed command one source x.lexed a b x.compiles (subst Goal same y.compiles)
+-- where what a command makes is the same, by an equation
+by_equation : {A : Type 0} (P : A → Type 0) (x y : A) → x ≡ y → Same (P x) (P y)
+by_equation P x y e = record { there = λ p. subst P e p; back = λ p. subst P (sym e) p }
 
-pub one_run : (source : List ℕ) (a b : Compiled) → SourceCompiles Run source a → SourceCompiles Run source b → a ≡ b
-one_run source a b x y = one_compiled Run same_run source a b x y
+itself : (A : Type 0) → Same A A
+itself A = record { there = λ a. a; back = λ a. a }
 
-pub one_check : OneSyntax → (source : List ℕ) (a b : Compiled) → SourceCompiles Check source a → SourceCompiles Check source b → a ≡ b
-one_check one source a b x y = one_compiled Check (same_tree_checked one) source a b x y
+-- ---- trees of the same tokens
+
+move_checked : (command : Command) (tokens : List Token) (p q : Tree) → SameSource p q → (checked : Checked) (c : Compiled) → CheckedCompiles command tokens p checked c → CheckedCompiles command tokens q checked c
+move_checked command tokens p q same (Refused fault) c is = is
+move_checked command tokens p q same (Allowed tables uses types) c is = subst (λ s. BoundCompiles command s c) (same tables uses types) is
+
+move_if : (needs : Bool) (command : Command) (tokens : List Token) (p q : Tree) → SameSource p q → check_of p ≡ check_of q → (c : Compiled) → TreeCompilesIf needs command tokens p c → TreeCompilesIf needs command tokens q c
+move_if true command tokens p q same checked c is = is
+move_if false command tokens p q same checked c is = subst (λ k. CheckedCompiles command tokens q k c) checked (move_checked command tokens p q same (check_of p) c is)
+
+-- a command makes the same of two trees of the same tokens
+move_tree : OneSyntax → (command : Command) (tokens : List Token) (p q : Tree) → IsTree tokens p → IsTree tokens q → (c : Compiled) → TreeCompiles command tokens p c → TreeCompiles command tokens q c
+move_tree one command tokens p q x y c is = move_if (needs_from false tokens) command tokens p q (same_source one tokens p q x y) (same_checked one tokens p q x y) c is
 
 -- The steps.
 
+-- what a command makes of tokens that have a tree
+of_parsed : OneSyntax → (command : Command) (tokens : List Token) (tree : Tree) → IsTree tokens tree → (m : Parsed) (c : Compiled) → IsParsed tokens m → ParsedCompiles command tokens m c → TreeCompiles command tokens tree c
+of_parsed one command tokens tree is (Whole p) c x gives = move_tree one command tokens p tree x is c gives
+of_parsed one command tokens tree is (Bad m) c x gives = absurd (never_both limit tokens is.reads x.comes)
+of_parsed one command tokens tree is (Deep m) c x gives = absurd (never_both limit tokens is.reads x.comes)
+
+pub tree_tokens : OneSyntax → (command : Command) (tokens : List Token) (tree : Tree) (c : Compiled) → IsTree tokens tree → Same (TokensCompile command tokens c) (TreeCompiles command tokens tree c)
+tree_tokens one command tokens tree c is = record {
+  there = λ t. of_parsed one command tokens tree is t.parsed c t.parses t.gives;
+  back = λ gives. record { parsed = Whole tree; parses = is; gives = gives };
+}
+
 -- tokens that the parser refuses
+of_bad : (command : Command) (tokens : List Token) (bad : ℕ) → IsBad tokens bad → (m : Parsed) (c : Compiled) → IsParsed tokens m → ParsedCompiles command tokens m c → c ≡ Rejected rule.UnexpectedToken (token_line tokens bad)
+of_bad command tokens bad is (Whole p) c x gives = absurd (never_both limit tokens x.reads is.comes)
+of_bad command tokens bad is (Bad m) c x gives = gives ∙ ap (λ n. Rejected rule.UnexpectedToken (token_line tokens n)) (same_unexpected m bad (one_fault limit tokens x.comes is.comes))
+of_bad command tokens bad is (Deep m) c x gives = absurd (not_both bad m (one_fault limit tokens is.comes x.comes))
+
+of_deep : (command : Command) (tokens : List Token) (deep : ℕ) → IsDeep tokens deep → (m : Parsed) (c : Compiled) → IsParsed tokens m → ParsedCompiles command tokens m c → c ≡ Rejected rule.NestedTooDeeply (token_line tokens deep)
+of_deep command tokens deep is (Whole p) c x gives = absurd (never_both limit tokens x.reads is.comes)
+of_deep command tokens deep is (Bad m) c x gives = absurd (not_both m deep (one_fault limit tokens x.comes is.comes))
+of_deep command tokens deep is (Deep m) c x gives = gives ∙ ap (λ n. Rejected rule.NestedTooDeeply (token_line tokens n)) (same_deep m deep (one_fault limit tokens x.comes is.comes))
+
 pub refused_tokens : (tokens : List Token) (r : Rule) (token : TokenNo) → Parses tokens (Err (syntax_refusal.Broken r token)) → TokensReject tokens r (token_line tokens token.0)
-refused_tokens tokens rule.UnexpectedToken token says = λ command. record { parsed = Bad token.0; parses = record { comes = says.0; first = says.1 }; gives = refl }
-refused_tokens tokens rule.NestedTooDeeply token says = λ command. record { parsed = Deep token.0; parses = record { comes = says.0; before = says.1 }; gives = refl }
-refused_tokens tokens _ token says = absurd says
+refused_tokens tokens rule.UnexpectedToken token says command c =
+    let is : IsBad tokens token.0 = record { comes = says.0; first = says.1 } in
+    record { there = λ t. of_bad command tokens token.0 is t.parsed c t.parses t.gives; back = λ gives. record { parsed = Bad token.0; parses = is; gives = gives } }
+refused_tokens tokens rule.NestedTooDeeply token says command c =
+    let is : IsDeep tokens token.0 = record { comes = says.0; before = says.1 } in
+    record { there = λ t. of_deep command tokens token.0 is t.parsed c t.parses t.gives; back = λ gives. record { parsed = Deep token.0; parses = is; gives = gives } }
+refused_tokens tokens _ token says command c = absurd says
 
--- a command makes of tokens what it makes of their tree
-pub tree_tokens : (command : Command) (tokens : List Token) (tree : Tree) (compiled : Compiled) → IsTree tokens tree → tree_compiled command tokens tree ≡ compiled → TokensCompile command tokens compiled
-tree_tokens command tokens tree compiled is gives = record { parsed = Whole tree; parses = is; gives = sym gives }
+-- a command makes of a source what it makes of its reading
+lexed_source : (command : Command) (source : List ℕ) (lexed : Lexed) (c : Compiled) → Reads source lexed → Same (SourceCompiles command source c) (LexedCompiles command source lexed c)
+lexed_source command source lexed c spells = record {
+  there = λ s. subst (λ l. LexedCompiles command source l c) (spelling.one_reading s.reads spells) s.compiles;
+  back = λ is. record { lexed = lexed; reads = spells; compiles = is };
+}
 
--- a command makes of a source what it makes of its tokens
-pub spelled_source : (command : Command) (source : List ℕ) (tokens : List Token) (compiled : Compiled) → Reads source (Spelled tokens) → TokensCompile command tokens compiled → SourceCompiles command source compiled
-spelled_source command source tokens compiled spells compiles = record { lexed = Spelled tokens; reads = spells; compiles = compiles }
+pub spelled_source : (command : Command) (source : List ℕ) (tokens : List Token) (c : Compiled) → Reads source (Spelled tokens) → Same (SourceCompiles command source c) (TokensCompile command tokens c)
+spelled_source command source tokens c spells = lexed_source command source (Spelled tokens) c spells
 
 -- a source that breaks a rule of its spelling
 pub broken_source : (source : List ℕ) (r : Rule) (place : ℕ) → Reads source (Broken r place) → SourceRejects source r (record { 0 = line_at source place })
-broken_source source r place breaks = λ command. record { lexed = Broken r place; reads = breaks; compiles = refl }
+broken_source source r place breaks command c = lexed_source command source (Broken r place) c breaks
 
 -- the refusal of a step is one of the whole
 pub refusal_of : {A B : Type 0} (why : Refusal) (accepts : A → Type 0) (also : B → Type 0) (rejects whole : Rule → Line → Type 0)
@@ -132,18 +150,53 @@ pub answers_of : {A : Type 0} (r : Result A Refusal) (accepts also : A → Type 
 answers_of (Ok x) accepts also rejects whole good bad is = good x is
 answers_of (Err why) accepts also rejects whole good bad is = refusal_of why accepts also rejects whole bad is
 
--- a step that can't fail by the output
-pub nothing_failed : {S A : Type 0} (written : S → Option (List ℕ)) (faults : S → ℕ) (at : S) (r : Result A RunFailure) → (r ≡ Err Output → ⊥) → OutputAfter written faults at at r
-nothing_failed written faults at (Ok x) never = refl
-nothing_failed written faults at (Err Memory) never = refl
-nothing_failed written faults at (Err Output) never = absurd (never refl)
-
 -- whether the source needs classes
 
-pub needed : (tokens : List Token) (tree : Tree) (needs : Bool) → NeedsClasses tokens needs → needs ≡ true → check_compiled tokens tree ≡ Rejected rule.FormNotBuilt (record { 0 = 1 })
+pub needed : (tokens : List Token) (tree : Tree) (needs : Bool) → NeedsClasses tokens needs → needs ≡ true → TreeRejects tokens tree rule.FormNotBuilt (record { 0 = 1 })
 unfolding NeedsClasses
-needed tokens tree needs is so = let same : needs_from false tokens ≡ true = sym is ∙ so in rw same refl
+needed tokens tree needs is so command c = by_equation (λ b. TreeCompilesIf b command tokens tree c) (needs_from false tokens) true (sym is ∙ so)
 
-pub not_needed : (tokens : List Token) (tree : Tree) (needs : Bool) → NeedsClasses tokens needs → needs ≡ false → check_compiled tokens tree ≡ checked tokens (check_of tree)
+pub not_needed : (tokens : List Token) (tree : Tree) (needs : Bool) → NeedsClasses tokens needs → needs ≡ false → (command : Command) (c : Compiled) → Same (TreeCompiles command tokens tree c) (CheckedCompiles command tokens tree (check_of tree) c)
 unfolding NeedsClasses
-not_needed tokens tree needs is so = let same : needs_from false tokens ≡ false = sym is ∙ so in rw same refl
+not_needed tokens tree needs is so command c = by_equation (λ b. TreeCompilesIf b command tokens tree c) (needs_from false tokens) false (sym is ∙ so)
+
+-- the program that the static rules allow
+pub bound_checked : (tokens : List Token) (p : Tree) (b : Bound) → b.program ≡ p → check_of p ≡ Allowed b.scopes b.uses.items b.types.items → CheckBinds tokens p (source_of b)
+unfolding source_of
+bound_checked tokens p b same allowed command c =
+    same_then (CheckedCompiles command tokens p (check_of p) c) (BoundCompiles command (source_with p b.scopes b.uses.items b.types.items) c) (BoundCompiles command (source_with b.program b.scopes b.uses.items b.types.items) c)
+    (by_equation (λ k. CheckedCompiles command tokens p k c) (check_of p) (Allowed b.scopes b.uses.items b.types.items) allowed)
+    (by_equation (λ (q : Tree). BoundCompiles command (source_with q b.scopes b.uses.items b.types.items) c) p b.program (sym same))
+
+-- the rule that they say it breaks
+pub refused_checked : (tokens : List Token) (p : Tree) (r : Rule) (token : TokenNo) → check_of p ≡ Refused (record { token = token; rule = r }) → CheckRejects tokens p r (token_line tokens token.0)
+refused_checked tokens p r token refused command c = by_equation (λ k. CheckedCompiles command tokens p k c) (check_of p) (Refused (record { token = token; rule = r })) refused
+
+-- ---- the steps together
+
+-- tokens that are refused, of a source
+pub refused_source : (source : List ℕ) (tokens : List Token) (r : Rule) (line : Line) → Reads source (Spelled tokens) → TokensReject tokens r line → SourceRejects source r line
+refused_source source tokens r line spells rejects command c =
+    same_then (SourceCompiles command source c) (TokensCompile command tokens c) (c ≡ Rejected r line) (spelled_source command source tokens c spells) (rejects command c)
+
+whole_source_is : OneSyntax → (source : List ℕ) (tokens : List Token) (tree : Tree) → Reads source (Spelled tokens) → IsTree tokens tree → (command : Command) (c : Compiled) → Same (SourceCompiles command source c) (TreeCompiles command tokens tree c)
+whole_source_is one source tokens tree spells is command c =
+    same_then (SourceCompiles command source c) (TokensCompile command tokens c) (TreeCompiles command tokens tree c) (spelled_source command source tokens c spells) (tree_tokens one command tokens tree c is)
+
+pub bound_source : OneSyntax → (source : List ℕ) (tokens : List Token) (tree : Tree) (s : Source) → Reads source (Spelled tokens) → IsTree tokens tree → TreeBinds tokens tree s → SourceBinds source s
+bound_source one source tokens tree s spells is binds command c =
+    same_then (SourceCompiles command source c) (TreeCompiles command tokens tree c) (BoundCompiles command s c) (whole_source_is one source tokens tree spells is command c) (binds command c)
+
+pub rejected_source : OneSyntax → (source : List ℕ) (tokens : List Token) (tree : Tree) (r : Rule) (line : Line) → Reads source (Spelled tokens) → IsTree tokens tree → TreeRejects tokens tree r line → SourceRejects source r line
+rejected_source one source tokens tree r line spells is rejects command c =
+    same_then (SourceCompiles command source c) (TreeCompiles command tokens tree c) (c ≡ Rejected r line) (whole_source_is one source tokens tree spells is command c) (rejects command c)
+
+-- a tree that needs no classes
+
+pub bound_tree : (tokens : List Token) (tree : Tree) (s : Source) → ((command : Command) (c : Compiled) → Same (TreeCompiles command tokens tree c) (CheckedCompiles command tokens tree (check_of tree) c)) → CheckBinds tokens tree s → TreeBinds tokens tree s
+bound_tree tokens tree s free binds command c =
+    same_then (TreeCompiles command tokens tree c) (CheckedCompiles command tokens tree (check_of tree) c) (BoundCompiles command s c) (free command c) (binds command c)
+
+pub rejected_tree : (tokens : List Token) (tree : Tree) (r : Rule) (line : Line) → ((command : Command) (c : Compiled) → Same (TreeCompiles command tokens tree c) (CheckedCompiles command tokens tree (check_of tree) c)) → CheckRejects tokens tree r line → TreeRejects tokens tree r line
+rejected_tree tokens tree r line free rejects command c =
+    same_then (TreeCompiles command tokens tree c) (CheckedCompiles command tokens tree (check_of tree) c) (c ≡ Rejected r line) (free command c) (rejects command c)

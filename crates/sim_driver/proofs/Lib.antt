@@ -1,9 +1,8 @@
 pub mod Answering
-pub mod Blanks
 pub mod Known
 pub mod Limits
+pub mod Meant
 pub mod Places
 pub mod Prefixes
-pub mod Runs
 pub mod SourceReads
 pub mod Whole

@@ -7,6 +7,7 @@ use Rattle.sim_base.specs.declared.rule.Rule.TheVariants.{SourceTooLong}
 use Rattle.sim_lexer.specs.Spelling.{Lexed, Broken, Reads, too_long, reads}
 use Rattle.sim_driver.specs.Answer.{Answer, IsSourceAnswer}
 use Rattle.sim_driver.specs.Compiling.{Compiled, LexedCompiles, Rejected, SourceCompiles}
+use Rattle.sim_driver.specs.SourceMeaning.{Meaning, SourceMeans}
 use Rattle.sim_driver.specs.declared.words.Command.{Command}
 
 -- what is too long reads as that alone
@@ -51,13 +52,19 @@ to_limited command source compiled is =
       | inr short ↦ subst (λ bytes. SourceCompiles command bytes compiled) (sym (take_all 1048577 source (omega arith))) is
     ]
 
+means_from : (command : Command) (source bytes : List ℕ) (meaning : Meaning) → bytes ≡ take 1048577 source → SourceMeans command bytes meaning → SourceMeans command source meaning
+means_from command source bytes meaning same is =
+    record { compiled = is.compiled; compiles = from_limited command source is.compiled (subst (λ b. SourceCompiles command b is.compiled) same is.compiles); means = is.means }
+
+means_to : (command : Command) (source bytes : List ℕ) (meaning : Meaning) → bytes ≡ take 1048577 source → SourceMeans command source meaning → SourceMeans command bytes meaning
+means_to command source bytes meaning same is =
+    record { compiled = is.compiled; compiles = subst (λ b. SourceCompiles command b is.compiled) (sym same) (to_limited command source is.compiled is.compiles); means = is.means }
+
 -- an answer of the bytes that were read is one of the source
 pub answer_from : (command : Command) (source bytes : List ℕ) → bytes ≡ take 1048577 source → (answer : Answer) × IsSourceAnswer command bytes answer
     → (answer : Answer) × IsSourceAnswer command source answer
-answer_from command source bytes same (answer, is) =
-    (answer, record { compiled = is.compiled; compiles = from_limited command source is.compiled (subst (λ b. SourceCompiles command b is.compiled) same is.compiles); same = is.same })
+answer_from command source bytes same (answer, is) = (answer, record { meaning = is.meaning; means = means_from command source bytes is.meaning same is.means; same = is.same })
 
 -- an answer of the source is one of the bytes that were read
 pub answer_to : (command : Command) (source bytes : List ℕ) (answer : Answer) → bytes ≡ take 1048577 source → IsSourceAnswer command source answer → IsSourceAnswer command bytes answer
-answer_to command source bytes answer same is =
-    record { compiled = is.compiled; compiles = subst (λ b. SourceCompiles command b is.compiled) (sym same) (to_limited command source is.compiled is.compiles); same = is.same }
+answer_to command source bytes answer same is = record { meaning = is.meaning; means = means_to command source bytes is.meaning same is.means; same = is.same }

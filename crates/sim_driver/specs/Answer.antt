@@ -1,8 +1,7 @@
 -- What a command answers, by its words and the bytes of the file.
 use Rattle.std.specs.Prelude.{◌≡◌, ℕ, List, [], Option, Some, None}
 use Rattle.std.specs.Io.KnownBytes.{Appends}
-use Rattle.sim_driver.specs.Compiling.{Compiled, SourceCompiles}
-use Rattle.sim_driver.specs.SourceMeaning.{Meaning, meaning_of}
+use Rattle.sim_driver.specs.SourceMeaning.{Meaning, SourceMeans}
 use Rattle.sim_driver.specs.Status.{status_of}
 use Rattle.sim_driver.specs.Words.{Request, request_of}
 use Rattle.sim_driver.specs.declared.words.Command.{Command}
@@ -18,11 +17,11 @@ pub record Answer : Type 0 where
 abbrev pub meant : Meaning → Answer
 meant meaning = record { status = status_of meaning.ending; output = meaning.output }
 
--- the answer of a command, by what it makes of the source of the named file
+-- the answer of a command, by what the source of the named file means to it
 pub record IsSourceAnswer (command : Command) (source : List ℕ) (answer : Answer) : Type 0 where
-  pub compiled : Compiled
-  pub compiles : SourceCompiles command source compiled
-  pub same : answer ≡ meant (meaning_of compiled)
+  pub meaning : Meaning
+  pub means : SourceMeans command source meaning
+  pub same : answer ≡ meant meaning
 
 abbrev pub IsAnswerFor : Option Request → List ℕ → Answer → Type 0
 IsAnswerFor None source answer = answer ≡ record { status = Usage; output = [] }

@@ -1,29 +1,32 @@
 -- What a command makes of a source: for `run` a program that can be run, for `check` that no rule refuses it, and for both the rule that
 -- refuses it, with the line.
-use Rattle.std.specs.Prelude.{◌≡◌, ℕ, Bool, false, List, Result, Ok, Err, slice_index_or, if◌then◌else◌, ⊤}
+use Rattle.std.specs.Prelude.{◌≡◌, ℕ, Bool, true, false, List, Result, Ok, Err, Option, slice_index_or, ⊤}
 use Rattle.sim_base.specs.Place.{line_at}
 use Rattle.sim_base.specs.declared.numbering.Line.{Line}
 use Rattle.sim_base.specs.declared.rule.Rule.{Rule}
-use Rattle.sim_base.specs.declared.rule.Rule.TheVariants.{NotDeclared, UnexpectedToken, NestedTooDeeply, FormNotBuilt}
+use Rattle.sim_base.specs.declared.rule.Rule.TheVariants.{UnexpectedToken, NestedTooDeeply, FormNotBuilt}
 use Rattle.sim_base.specs.declared.token.Token.{Token}
 use Rattle.sim_lexer.specs.Spelling.{Lexed, Reads, Spelled, Broken}
+use Rattle.sim_scope.specs.declared.scopes.Denotation.{Denotation}
+use Rattle.sim_scope.specs.declared.types.SimType.{SimType}
+use Rattle.sim_scope.specs.Source.{Source}
+use Rattle.sim_scope.specs.Tables.{Tables}
 use Rattle.sim_tree.specs.Claim.{Begins, IsFirstBad, one}
 use Rattle.sim_tree.specs.Grammar as g
 use Rattle.sim_tree.specs.Reading.{Fails, TooDeep, Unexpected, finish}
-use Rattle.sim_tree.specs.ShownProgram.{program_shown}
+use Rattle.sim_tree.specs.SyntaxOfProgram.{program_syntax}
 use Rattle.sim_tree.specs.Tree.{IsTree, limit}
 use Rattle.sim_tree.specs.declared.program.Program.{Program as Tree}
 use Rattle.sim_static.specs.Check.{Allowed, Checked, Refused, check_of}
 use Rattle.sim_static.specs.NeedsClasses.{needs_from}
-use Rattle.small_form.specs.Formed.{Formed, Form, NotBuilt, Undeclared, form_of}
-use Rattle.small_form.specs.declared.tree.Program.{Program}
+use Rattle.codegen.specs.BuiltProgram.{ProgramBuilt}
 use Rattle.sim_driver.specs.declared.compiling.Refusal.{Refusal}
 use Rattle.sim_driver.specs.declared.compiling.Refusal.TheVariants as refusal
 use Rattle.sim_driver.specs.declared.words.Command.{Command}
 use Rattle.sim_driver.specs.declared.words.Command.TheVariants.{Run, Check}
 
 pub data Compiled : Type 0 where
-  Runnable : Program → Compiled
+  Runnable : Source → Compiled
   -- no rule refuses it
   Sound : Compiled
   Rejected : Rule → Line → Compiled
@@ -31,33 +34,57 @@ pub data Compiled : Type 0 where
 abbrev pub token_line : List Token → ℕ → Line
 token_line tokens token = (slice_index_or tokens token finish).line
 
--- Of a tree: its form. One that is of another form is rejected at line 1, and one that uses an identifier which it doesn't
--- declare at the line of the first.
-abbrev pub formed : Formed → Compiled
-formed (Form program) = Runnable program
-formed NotBuilt = Rejected FormNotBuilt (record { 0 = 1 })
-formed (Undeclared line) = Rejected NotDeclared line
+-- what has a form that is not built is rejected at line 1
+abbrev pub not_built : Compiled
+not_built = Rejected FormNotBuilt (record { 0 = 1 })
 
--- what `run` makes of a tree, by its derivation and the lines of its tokens
-abbrev pub run_compiled : Tree → Compiled
-run_compiled program = formed (form_of (program_shown program) program.lines.items)
+-- what `run` makes of a program that breaks no rule
+pub data Makes (s : Source) : Compiled → Type 0 where
+  runs : ProgramBuilt s → Makes s (Runnable s)
+  lacks : (ProgramBuilt s → ⊥) → Makes s not_built
+
+-- what a command makes of a program that breaks no rule
+abbrev pub BoundCompiles : Command → Source → Compiled → Type 0
+BoundCompiles Run s compiled = Makes s compiled
+BoundCompiles Check s compiled = compiled ≡ Sound
+
+-- a tree with its tables, what its identifiers denote and what its expressions are
+abbrev pub source_with : Tree → Tables → (uses : List (Option Denotation)) → (types : List (Option SimType)) → Source
+source_with tree tables uses types = record { program = program_syntax tree; tables = tables; uses = uses; types = types; lines = tree.lines.items }
 
 -- Of a checked tree: the first static rule that it breaks, at the line of the token that is to blame.
-abbrev pub checked : List Token → Checked → Compiled
-checked tokens (Refused fault) = Rejected fault.rule (token_line tokens fault.token.0)
-checked tokens (Allowed tables uses types) = Sound
+abbrev pub CheckedCompiles : Command → List Token → Tree → Checked → Compiled → Type 0
+CheckedCompiles command tokens tree (Refused fault) compiled = compiled ≡ Rejected fault.rule (token_line tokens fault.token.0)
+CheckedCompiles command tokens tree (Allowed tables uses types) compiled = BoundCompiles command (source_with tree tables uses types) compiled
 
--- a source that needs classes is rejected at line 1 before the static rules are asked
-abbrev pub without_classes : (needs : Bool) → Compiled → Compiled
-without_classes needs compiled = if needs then Rejected FormNotBuilt (record { 0 = 1 }) else compiled
+-- a source that needs classes is rejected before the static rules are asked
+abbrev pub TreeCompilesIf : (needs : Bool) → Command → List Token → Tree → Compiled → Type 0
+TreeCompilesIf true command tokens tree compiled = compiled ≡ not_built
+TreeCompilesIf false command tokens tree compiled = CheckedCompiles command tokens tree (check_of tree) compiled
 
--- what `check` makes of a tree of these tokens
-abbrev pub check_compiled : List Token → Tree → Compiled
-check_compiled tokens program = without_classes (needs_from false tokens) (checked tokens (check_of program))
+-- what a command makes of a tree of these tokens
+abbrev pub TreeCompiles : Command → List Token → Tree → Compiled → Type 0
+TreeCompiles command tokens tree compiled = TreeCompilesIf (needs_from false tokens) command tokens tree compiled
 
-abbrev pub tree_compiled : Command → List Token → Tree → Compiled
-tree_compiled Run tokens program = run_compiled program
-tree_compiled Check tokens program = check_compiled tokens program
+-- each of two things where the other is
+pub record Same (A B : Type 0) : Type 0 where
+  pub there : A → B
+  pub back : B → A
+
+-- the tree is this program, which breaks no rule
+abbrev pub TreeBinds : List Token → Tree → Source → Type 0
+TreeBinds tokens tree s = (command : Command) (compiled : Compiled) → Same (TreeCompiles command tokens tree compiled) (BoundCompiles command s compiled)
+
+-- whichever the command, it rejects the tree
+abbrev pub TreeRejects : List Token → Tree → Rule → Line → Type 0
+TreeRejects tokens tree rule line = (command : Command) (compiled : Compiled) → Same (TreeCompiles command tokens tree compiled) (compiled ≡ Rejected rule line)
+
+-- the same of a tree that needs no classes
+abbrev pub CheckBinds : List Token → Tree → Source → Type 0
+CheckBinds tokens tree s = (command : Command) (compiled : Compiled) → Same (CheckedCompiles command tokens tree (check_of tree) compiled) (BoundCompiles command s compiled)
+
+abbrev pub CheckRejects : List Token → Tree → Rule → Line → Type 0
+CheckRejects tokens tree rule line = (command : Command) (compiled : Compiled) → Same (CheckedCompiles command tokens tree (check_of tree) compiled) (compiled ≡ Rejected rule line)
 
 -- what the grammar makes of tokens: the tree of a program, or the first bad token, or the first that nests too deeply
 pub data Parsed : Type 0 where
@@ -81,16 +108,16 @@ IsParsed tokens (Bad bad) = IsBad tokens bad
 IsParsed tokens (Deep deep) = IsDeep tokens deep
 
 -- what is no program is rejected at the line of the token that is to blame
-abbrev pub parsed_compiled : Command → List Token → Parsed → Compiled
-parsed_compiled command tokens (Whole program) = tree_compiled command tokens program
-parsed_compiled command tokens (Bad bad) = Rejected UnexpectedToken (token_line tokens bad)
-parsed_compiled command tokens (Deep deep) = Rejected NestedTooDeeply (token_line tokens deep)
+abbrev pub ParsedCompiles : Command → List Token → Parsed → Compiled → Type 0
+ParsedCompiles command tokens (Whole program) compiled = TreeCompiles command tokens program compiled
+ParsedCompiles command tokens (Bad bad) compiled = compiled ≡ Rejected UnexpectedToken (token_line tokens bad)
+ParsedCompiles command tokens (Deep deep) compiled = compiled ≡ Rejected NestedTooDeeply (token_line tokens deep)
 
 -- what a command makes of tokens
 pub record TokensCompile (command : Command) (tokens : List Token) (compiled : Compiled) : Type 0 where
   pub parsed : Parsed
   pub parses : IsParsed tokens parsed
-  pub gives : compiled ≡ parsed_compiled command tokens parsed
+  pub gives : ParsedCompiles command tokens parsed compiled
 
 -- what a command makes of a source that reads so: what it makes of its tokens, or it is rejected at the line of the place that breaks a rule
 abbrev pub LexedCompiles : Command → List ℕ → Lexed → Compiled → Type 0
@@ -105,10 +132,14 @@ pub record SourceCompiles (command : Command) (source : List ℕ) (compiled : Co
 
 -- whichever the command, it rejects the source
 abbrev pub SourceRejects : List ℕ → Rule → Line → Type 0
-SourceRejects source rule line = (command : Command) → SourceCompiles command source (Rejected rule line)
+SourceRejects source rule line = (command : Command) (compiled : Compiled) → Same (SourceCompiles command source compiled) (compiled ≡ Rejected rule line)
 
 abbrev pub TokensReject : List Token → Rule → Line → Type 0
-TokensReject tokens rule line = (command : Command) → TokensCompile command tokens (Rejected rule line)
+TokensReject tokens rule line = (command : Command) (compiled : Compiled) → Same (TokensCompile command tokens compiled) (compiled ≡ Rejected rule line)
+
+-- the source is this program, which breaks no rule
+abbrev pub SourceBinds : List ℕ → Source → Type 0
+SourceBinds source s = (command : Command) (compiled : Compiled) → Same (SourceCompiles command source compiled) (BoundCompiles command s compiled)
 
 -- What a step answers, by what is known of its source: the program, or the refusal. Want of memory says nothing of the source.
 abbrev pub Answers : {A : Type 0} → (A → Type 0) → (Rule → Line → Type 0) → Result A Refusal → Type 0

@@ -1,14 +1,8 @@
 pub mod Answer
-pub mod Arithmetic
 pub mod Compiling
-pub mod Evaluating
-pub mod Image
-pub mod Meaning
 pub mod OutputAfter
 pub mod Reading
 pub mod SourceMeaning
 pub mod Speaking
-pub mod State
 pub mod Status
-pub mod StillToWrite
 pub mod Words

@@ -1,8 +1,6 @@
 -- What a call leaves the output at, by how it ended.
 use Rattle.std.specs.Prelude.{◌≡◌, ℕ, List, Option, Result, Ok, Err}
 use Rattle.sim_ports.specs.Faults.{StopsAt}
-use Rattle.sim_driver.specs.declared.failure.Interruption.{Interruption}
-use Rattle.sim_driver.specs.declared.failure.Interruption.TheVariants.{Error, Failure}
 use Rattle.sim_driver.specs.declared.failure.RunFailure.{RunFailure}
 use Rattle.sim_driver.specs.declared.failure.RunFailure.TheVariants.{Memory, Output}
 
@@ -11,10 +9,3 @@ abbrev pub OutputAfter : {S A : Type 0} → (S → Option (List ℕ)) → (S →
 OutputAfter written faults old new (Ok value) = faults new ≡ faults old
 OutputAfter written faults old new (Err Memory) = faults new ≡ faults old
 OutputAfter written faults old new (Err Output) = StopsAt written faults old new
-
--- the same of a call that may end with a run-time error, too
-abbrev pub OutputInterrupted : {S A : Type 0} → (S → Option (List ℕ)) → (S → ℕ) → S → S → Result A Interruption → Type 0
-OutputInterrupted written faults old new (Ok value) = faults new ≡ faults old
-OutputInterrupted written faults old new (Err (Error error)) = faults new ≡ faults old
-OutputInterrupted written faults old new (Err (Failure Memory)) = faults new ≡ faults old
-OutputInterrupted written faults old new (Err (Failure Output)) = StopsAt written faults old new

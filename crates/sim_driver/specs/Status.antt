@@ -5,39 +5,53 @@ use Rattle.sim_base.specs.Rule.{rule_text}
 use Rattle.sim_base.specs.RunError.{run_error_text}
 use Rattle.sim_driver.specs.declared.status.Ending.{Ending}
 use Rattle.sim_driver.specs.declared.status.Status.{Status}
-use Rattle.sim_driver.specs.declared.status.Status.TheVariants.{Normal, Refused, RunFault, Usage, FileFault, InputFault, WriteFault, Memory}
+use Rattle.sim_driver.specs.declared.status.Status.TheVariants.{Normal, Refused, RunFault, StorageExhausted, TickLimit, Usage, FileFault, InputFault, WriteFault, Memory, NoRule}
 
 -- the status of each ending
 abbrev pub status_of : Ending → Status
 status_of Ending.Normal = Normal
 status_of (Ending.Refused rule line) = Refused rule line
 status_of (Ending.RunFault error line) = RunFault error line
+status_of (Ending.StorageExhausted line used budget wanted) = StorageExhausted line used budget wanted
+status_of (Ending.TickLimit ticks) = TickLimit ticks
+status_of Ending.NoRule = NoRule
 
 -- the exit status
 abbrev pub status_number : Status → ℕ
 status_number Normal = 0
 status_number (Refused rule line) = 1
 status_number (RunFault error line) = 2
+status_number (StorageExhausted line used budget wanted) = 3
+status_number (TickLimit ticks) = 4
 status_number Usage = 5
 status_number FileFault = 6
 status_number InputFault = 7
 status_number WriteFault = 8
 status_number Memory = 9
+status_number NoRule = 10
 
 -- what is said of a line of the source
 abbrev pub at_line : ℕ → List ℕ → List ℕ
 at_line line text = codes "line " ++ (decimal line ++ (codes ": " ++ text))
+
+-- what is said of exhausted storage
+abbrev pub storage_text : (used budget wanted : ℕ) → List ℕ
+storage_text used budget wanted =
+    codes "storage exhausted, " ++ (decimal used ++ (codes " of " ++ (decimal budget ++ (codes " words used, " ++ (decimal wanted ++ codes " wanted")))))
 
 -- what a status says; nothing at the normal end
 abbrev pub status_text : Status → List ℕ
 status_text Normal = []
 status_text (Refused rule line) = at_line line.0 (rule_text rule)
 status_text (RunFault error line) = at_line line.0 (run_error_text error)
+status_text (StorageExhausted line used budget wanted) = at_line line.0 (storage_text used budget wanted)
+status_text (TickLimit ticks) = codes "tick limit " ++ (decimal ticks ++ codes " reached")
 status_text Usage = codes "usage: simula run|check FILE"
 status_text FileFault = codes "cannot read the file"
 status_text InputFault = codes "input fault"
 status_text WriteFault = codes "output fault"
 status_text Memory = codes "want of memory"
+status_text NoRule = codes "no rule"
 
 -- the line that a status writes, with its line feed; none at the normal end
 abbrev pub line_text : Status → List ℕ

@@ -1,27 +1,28 @@
 // Does what the words ask for, but for the line on the diagnostic output.
 ghost use Rattle.std.specs.Prelude.{◌≡◌, ◌≤◌, ◌<◌, ◌+◌, ◌^◌, ◌-◌, ◌⊎◌, Err, length, None, Some, true, IfSome, IsSome, OnOk, List, Option, ℕ};
 ghost use Rattle.std.specs.Io.KnownBytes.{Keeps};
+ghost use Rattle.sim_code.specs.Outcome.{Ending as How, answer_of};
 ghost use Rattle.sim_ports.specs.Bytes.{AddsPrefix};
 ghost use Rattle.sim_ports.specs.Faults.{Rose, StopsAt};
 ghost use Rattle.sim_ports.specs.Named.{IsOpen};
+ghost use Rattle.sim_scope.specs.Source.{source_of};
 ghost use Rattle.sim_driver.specs.Answer.{Answer, Gives, IsAnswer, IsSourceAnswer};
-ghost use Rattle.sim_driver.specs.Compiling.{Compiled, Runnable, SourceCompiles};
 ghost use Rattle.sim_driver.specs.OutputAfter.{OutputAfter};
 ghost use Rattle.sim_driver.specs.Reading.{TakesAtMost};
-ghost use Rattle.sim_driver.specs.SourceMeaning.{Does, meaning_of, run_ending};
+ghost use Rattle.sim_driver.specs.SourceMeaning.{BoundMeans, Does, Meaning, SourceMeans, ending_of as ending_of_run, limits};
 ghost use Rattle.sim_driver.specs.Status.{is_answer};
 ghost use Rattle.sim_driver.specs.Words.{file_of, texts, TellsFile};
 
-use crate::compiling::{Refusal, check_source, compile};
-use crate::evaluator::run_program;
-use crate::failure::{ErrorAt, RunFailure};
+use crate::compiling::{Refusal, bind};
+use crate::failure::RunFailure;
 use crate::reading::{ReadFailure, read_source};
 use crate::status::{Ending, Status};
 use crate::words::{Command, Request, request_of};
+use sim_base::{Limits, Line, Rule};
 use sim_lexer::SOURCE_LIMIT;
 use sim_ports::{Files, Sink};
-use sim_tree::grammar::one_tree;
-use small_form::Program;
+use sim_run::{RunFailure as NotRun, compile_and_run};
+use sim_scope::Bound;
 use std::alloc::Global;
 
 /// Does what the words ask for, and says how that ended.
@@ -104,7 +105,7 @@ fn answer_source<O: Sink>(alloc: Global, command: Command, source: &[u8], out: &
     ensures prefix { (answer : Answer) → IsSourceAnswer command source.now answer → AddsPrefix (O.written out.old) (O.written out.new) answer.output }
     ensures later { O.faults out.old ≤ O.faults out.new }
 {
-    match compile_and_do(alloc, command, source, out) {
+    match bind_and_do(alloc, command, source, out) {
         Ok(ending) => ending.status(),
         Err(RunFailure::Output) => Status::WriteFault,
         Err(RunFailure::Memory) => Status::Memory,
@@ -112,73 +113,79 @@ fn answer_source<O: Sink>(alloc: Global, command: Command, source: &[u8], out: &
 }
 
 // Does with a source what the command says.
-fn compile_and_do<O: Sink>(
+fn bind_and_do<O: Sink>(
     alloc: Global,
     command: Command,
     source: &[u8],
     out: &mut O,
 ) -> Result<Ending, RunFailure>
     requires { length source.now < 2 ^ 32 - 1 }
-    ensures known { OnOk result ((compiled : Compiled) × SourceCompiles command source.now compiled) }
-    ensures does { (compiled : Compiled) → SourceCompiles command source.now compiled
-        → Does (meaning_of compiled) (O.written out.old) (O.written out.new) result }
+    ensures known { OnOk result ((meaning : Meaning) × SourceMeans command source.now meaning) }
+    ensures does { (meaning : Meaning) → SourceMeans command source.now meaning → Does meaning (O.written out.old) (O.written out.new) result }
+    ensures output { OutputAfter O.written O.faults out.old out.new result }
+{
+    match bind(alloc, source) {
+        Ok(bound) => do_bound(alloc, command, &bound, out),
+        Err(Refusal::Broken { rule, line }) => Ok(Ending::Refused { rule, line }),
+        Err(Refusal::Memory) => Err(RunFailure::Memory),
+    }
+}
+
+// Does with a program what the command says.
+fn do_bound<O: Sink>(
+    alloc: Global,
+    command: Command,
+    bound: &Bound,
+    out: &mut O,
+) -> Result<Ending, RunFailure>
+    ensures known { OnOk result ((meaning : Meaning) × BoundMeans command (source_of bound.now) meaning) }
+    ensures does { (meaning : Meaning) → BoundMeans command (source_of bound.now) meaning → Does meaning (O.written out.old) (O.written out.new) result }
     ensures output { OutputAfter O.written O.faults out.old out.new result }
 {
     match command {
-        Command::Run => compile_and_run(alloc, source, out),
-        Command::Check => check_only(alloc, source),
-    }
-}
-
-// Compiles a source and runs it.
-fn compile_and_run<O: Sink>(alloc: Global, source: &[u8], out: &mut O) -> Result<Ending, RunFailure>
-    requires { length source.now < 2 ^ 32 - 1 }
-    ensures known { OnOk result ((compiled : Compiled) × SourceCompiles Command.Run source.now compiled) }
-    ensures does { (compiled : Compiled) → SourceCompiles Command.Run source.now compiled
-        → Does (meaning_of compiled) (O.written out.old) (O.written out.new) result }
-    ensures output { OutputAfter O.written O.faults out.old out.new result }
-{
-    match compile(alloc, source) {
-        Ok(program) => run(alloc, &program, out),
-        Err(Refusal::Broken { rule, line }) => Ok(Ending::Refused { rule, line }),
-        Err(Refusal::Memory) => Err(RunFailure::Memory),
-    }
-}
-
-// Checks a source.
-fn check_only(alloc: Global, source: &[u8]) -> Result<Ending, RunFailure>
-    requires { length source.now < 2 ^ 32 - 1 }
-    ensures known { OnOk result ((compiled : Compiled) × SourceCompiles Command.Check source.now compiled) }
-    ensures does { (compiled : Compiled) → SourceCompiles Command.Check source.now compiled
-        → (output : Option (List ℕ)) → Does (meaning_of compiled) output output result }
-    ensures no_output_fault { result ≡ Err RunFailure.Output → ⊥ }
-{
-    // Two trees of its tokens have one syntax, so a source has one answer.
-    one_tree();
-    match check_source(alloc, source) {
-        Ok(()) => Ok(Ending::Normal),
-        Err(Refusal::Broken { rule, line }) => Ok(Ending::Refused { rule, line }),
-        Err(Refusal::Memory) => Err(RunFailure::Memory),
+        Command::Run => run(alloc, bound, out),
+        Command::Check => Ok(Ending::Normal),
     }
 }
 
 // Runs a program.
-fn run<O: Sink>(alloc: Global, program: &Program, out: &mut O) -> Result<Ending, RunFailure>
-    ensures does { Does (meaning_of (Runnable program.now)) (O.written out.old) (O.written out.new) result }
+fn run<O: Sink>(alloc: Global, bound: &Bound, out: &mut O) -> Result<Ending, RunFailure>
+    ensures known { OnOk result ((meaning : Meaning) × BoundMeans Command.Run (source_of bound.now) meaning) }
+    ensures does { (meaning : Meaning) → BoundMeans Command.Run (source_of bound.now) meaning → Does meaning (O.written out.old) (O.written out.new) result }
     ensures output { OutputAfter O.written O.faults out.old out.new result }
 {
-    match run_program(alloc, program, out) {
-        Ok(error) => Ok(ending_of(error)),
-        Err(failure) => Err(failure),
+    match compile_and_run(alloc, bound, &default_limits(), out) {
+        Ok(ending) => Ok(ending_of(ending)),
+        Err(NotRun::NotBuilt) => Ok(Ending::Refused {
+            rule: Rule::FormNotBuilt,
+            line: Line(1),
+        }),
+        Err(NotRun::Memory) => Err(RunFailure::Memory),
+        Err(NotRun::Output) => Err(RunFailure::Output),
     }
 }
 
-// How a run ends that this error ends, if one does.
-fn ending_of(error: Option<ErrorAt>) -> Ending
-    ensures { result ≡ run_ending error }
+// The limits of a run with no options.
+fn default_limits() -> Limits
+    ensures { result ≡ limits }
 {
-    match error {
-        Some(ErrorAt { error, line }) => Ending::RunFault { error, line },
-        None => Ending::Normal,
+    Limits::without_options()
+}
+
+// How a run ends, by the answer of the machine that ran.
+fn ending_of(ending: sim_code::Ending) -> Ending
+    ensures { (how : How) (place : ℕ) → ending ≡ answer_of how place → result ≡ ending_of_run how }
+{
+    match ending {
+        sim_code::Ending::Normal => Ending::Normal,
+        sim_code::Ending::RunFault { error, line } => Ending::RunFault { error, line },
+        sim_code::Ending::StorageExhausted { line, used, wanted } => Ending::StorageExhausted {
+            line,
+            used,
+            budget: default_limits().storage,
+            wanted,
+        },
+        sim_code::Ending::TickLimit { ticks } => Ending::TickLimit { ticks },
+        _ => Ending::NoRule,
     }
 }

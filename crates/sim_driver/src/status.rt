@@ -11,9 +11,26 @@ pub enum Status {
     /// The program ran to its end.
     Normal,
     /// The source breaks this rule, first at this line. Nothing ran.
-    Refused { rule: Rule, line: Line },
+    Refused {
+        rule: Rule,
+        line: Line,
+    },
     /// The run met this error at this line.
-    RunFault { error: RunError, line: Line },
+    RunFault {
+        error: RunError,
+        line: Line,
+    },
+    /// The words that are wanted at this line are not left in the storage budget.
+    StorageExhausted {
+        line: Line,
+        used: u64,
+        budget: u32,
+        wanted: u64,
+    },
+    /// All ticks of the limit are taken, and another one is wanted.
+    TickLimit {
+        ticks: u64,
+    },
     /// The words are no command.
     Usage,
     /// The outside failed to open or to read the file.
@@ -24,6 +41,8 @@ pub enum Status {
     WriteFault,
     /// The program was refused memory.
     Memory,
+    /// The run came to where the meaning of the program has no rule. No program that breaks no rule of the language is known to do so.
+    NoRule,
 }
 
 /// How a source ends by its own meaning.
@@ -32,9 +51,28 @@ pub enum Ending {
     /// The program runs to its end.
     Normal,
     /// The source breaks this rule, first at this line.
-    Refused { rule: Rule, line: Line },
+    Refused {
+        rule: Rule,
+        line: Line,
+    },
     /// The run meets this error at this line.
-    RunFault { error: RunError, line: Line },
+    RunFault {
+        error: RunError,
+        line: Line,
+    },
+    /// The words that are wanted at this line are not left in the storage budget.
+    StorageExhausted {
+        line: Line,
+        used: u64,
+        budget: u32,
+        wanted: u64,
+    },
+    /// All ticks of the limit are taken, and another one is wanted.
+    TickLimit {
+        ticks: u64,
+    },
+    /// The run comes to where the meaning has no rule.
+    NoRule,
 }
 
 impl Ending {
@@ -46,6 +84,19 @@ impl Ending {
             Ending::Normal => Status::Normal,
             Ending::Refused { rule, line } => Status::Refused { rule, line },
             Ending::RunFault { error, line } => Status::RunFault { error, line },
+            Ending::StorageExhausted {
+                line,
+                used,
+                budget,
+                wanted,
+            } => Status::StorageExhausted {
+                line,
+                used,
+                budget,
+                wanted,
+            },
+            Ending::TickLimit { ticks } => Status::TickLimit { ticks },
+            Ending::NoRule => Status::NoRule,
         }
     }
 }
@@ -59,11 +110,14 @@ impl Status {
             Status::Normal => 0,
             Status::Refused { .. } => 1,
             Status::RunFault { .. } => 2,
+            Status::StorageExhausted { .. } => 3,
+            Status::TickLimit { .. } => 4,
             Status::Usage => 5,
             Status::FileFault => 6,
             Status::InputFault => 7,
             Status::WriteFault => 8,
             Status::Memory => 9,
+            Status::NoRule => 10,
         }
     }
 }
@@ -77,11 +131,23 @@ impl fmt::Display for Status {
             Status::Normal => Ok(()),
             Status::Refused { rule, line } => write!(f, "line {}: {rule}", line.0),
             Status::RunFault { error, line } => write!(f, "line {}: {error}", line.0),
+            Status::StorageExhausted {
+                line,
+                used,
+                budget,
+                wanted,
+            } => write!(
+                f,
+                "line {}: storage exhausted, {used} of {budget} words used, {wanted} wanted",
+                line.0
+            ),
+            Status::TickLimit { ticks } => write!(f, "tick limit {ticks} reached"),
             Status::Usage => f.write_str("usage: simula run|check FILE"),
             Status::FileFault => f.write_str("cannot read the file"),
             Status::InputFault => f.write_str("input fault"),
             Status::WriteFault => f.write_str("output fault"),
             Status::Memory => f.write_str("want of memory"),
+            Status::NoRule => f.write_str("no rule"),
         }
     }
 }

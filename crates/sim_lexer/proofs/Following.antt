@@ -34,7 +34,7 @@ module _ {source : List ℕ} where
       from (Broken rule place) spelled = reads within spelled
 
 -- the piece of so many bytes in front
-stands : (at : Position) (rest : List ℕ) (size : ℕ) (item : ℕ → Item) → size ≤ length rest
+pub stands : (at : Position) (rest : List ℕ) (size : ℕ) (item : ℕ → Item) → size ≤ length rest
     → front_item at.is_fresh at.is_behind_end rest ≡ item size → Stands at rest (take size rest) (drop size rest) (item (length (take size rest)))
 stands at rest size item within front = record {
   split = sym (take-append-drop size rest);

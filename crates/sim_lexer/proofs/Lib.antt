@@ -6,4 +6,6 @@ pub mod LongestSign
 pub mod NoEnd
 pub mod Numbers
 pub mod OneAnswer
+pub mod PiecesWithin
+pub mod SomeAnswer
 pub mod TextLemmas

@@ -1,17 +1,16 @@
 -- No lexeme is the end of the source.
-use Rattle.std.proofs.Common.{◌≡◌, ◌<◌, ℕ, ◌+◌, Bool, true, false, List, [], ◌∷◌, ◌++◌, Option, Some, None, length, drop, rules}
-use Rattle.std.specs.List.{All, position, prefix_len, starts_with, take_while}
-use Rattle.std.specs.Prelude.{unwrap_or, if◌then◌else◌, nat_eq, nat_lt, nat_le, ◌^◌, ◌&&◌, ◌||◌, codes, not, slice_index, pos}
+use Rattle.std.proofs.Common.{ℕ, ◌+◌, Bool, true, false, List, [], ◌∷◌, Option, Some, None, length, drop, rules}
+use Rattle.std.specs.List.{All, position, starts_with, take_while}
+use Rattle.std.specs.Prelude.{unwrap_or, if◌then◌else◌, nat_eq, nat_lt, nat_le, ◌^◌, ◌&&◌, codes, not, slice_index}
 use Rattle.std.specs.Str.{bytes_eq}
 use Rattle.std.proofs.lemmas.List.Elements.{All-cons, All-nil, All-head, All-tail}
 use Rattle.sim_base.specs.declared.token.Token.{Token}
 use Rattle.sim_base.specs.declared.token.TokenKind.{TokenKind}
 use Rattle.sim_base.specs.declared.token.TokenKind.TheVariants as k
-use Rattle.sim_base.specs.declared.rule.Rule.TheVariants as x
 use Rattle.sim_lexer.specs.Bytes.{is_digit, is_digit_of, is_letter, is_separator, is_word_byte}
 use Rattle.sim_lexer.specs.Claims.{IsNoEnd}
-use Rattle.sim_lexer.specs.Constants.{character_item, code_form, coded_character, integer, is_real_behind, number_in, number_item, number_value, plain_character, radix, radix_digits, with_radix}
-use Rattle.sim_lexer.specs.Items.{begun_by, comment_item, comment_to, directive_item, ends_or_blank, front_item, item_of_word, passed_behind_end, stops, word, word_item, word_kind}
+use Rattle.sim_lexer.specs.Constants.{character_item, code_form, coded_character, integer, is_real_behind, number_in, number_item, number_value, plain_character, radix, radix_digits}
+use Rattle.sim_lexer.specs.Items.{begun_by, comment_item, comment_to, directive_item, ends_or_blank, front_item, stops, word, word_item}
 use Rattle.sim_lexer.specs.Signs.{sign_in, sign_item, signs_of_more, signs_of_one}
 use Rattle.sim_lexer.specs.Spelling.{else_behind, joined_kind, neighbours, text_behind, then_behind, with_next}
 use Rattle.sim_lexer.specs.Texts.{Content, quoted, text_from, text_item}

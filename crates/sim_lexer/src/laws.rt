@@ -8,8 +8,9 @@ ghost use Rattle.sim_lexer.specs.Signs.{IsNoLonger, sign_item, signs};
 ghost use Rattle.sim_lexer.specs.declared.item.Item.TheVariants as AnyItem;
 ghost use Rattle.sim_lexer.specs.Spelling.{Lexed, Reads, Spelled, past, start};
 
-/// A source reads as one answer at most: it has one list of tokens, or it breaks one rule at one place, and not both.
+/// A source reads as exactly one answer: it has one list of tokens, or it breaks one rule at one place, and not both.
 pub fn one_reading()
+    ensures some { (source : List ℕ) → (answer : Lexed) × Reads source answer }
     ensures one { (source : List ℕ) (first second : Lexed) → Reads source first → Reads source second → first ≡ second }
 {}
 

@@ -179,13 +179,14 @@ named_term s m i line (Some (denotation.Declared d)) es terms actuals = declared
 named_term s m i line (Some (denotation.Standard name)) es terms actuals = standard_term (procedure_named name) line terms
 
 -- an actual parameter: an array by value is copied; parameters by name, procedures and texts by value are not built
-abbrev pub actual_term : (line : ℕ) → Mode → FormalKind → Term → Term
-actual_term line mode.ByValue shape.Array a = CopyOf line a
-actual_term line mode.ByReference shape.Array a = a
-actual_term line mode.ByValue shape.Simple a = a
-actual_term line mode.ByReference shape.Simple a = a
-actual_term line mode shape.Procedure a = Unbuilt
-actual_term line mode.ByName kind a = Unbuilt
+abbrev pub actual_term : (line : ℕ) → Mode → FormalKind → (text : Bool) → Term → Term
+actual_term line mode.ByValue shape.Array text a = CopyOf line a
+actual_term line mode.ByReference shape.Array text a = a
+actual_term line mode.ByValue shape.Simple true a = Unbuilt
+actual_term line mode.ByValue shape.Simple false a = a
+actual_term line mode.ByReference shape.Simple text a = a
+actual_term line mode shape.Procedure text a = Unbuilt
+actual_term line mode.ByName kind text a = Unbuilt
 
 abbrev mutual
   -- an expression as the instance i sees it
@@ -213,7 +214,7 @@ abbrev mutual
   close_actuals s m i line NoMore [] = NoTerm
   close_actuals s m i line NoMore (f ∷ fs) = Further Unbuilt NoTerm
   close_actuals s m i line (Then e es) [] = Further Unbuilt NoTerm
-  close_actuals s m i line (Then e es) (f ∷ fs) = Further (actual_term line f.mode f.kind (close s m i e)) (close_actuals s m i line es fs)
+  close_actuals s m i line (Then e es) (f ∷ fs) = Further (actual_term line f.mode f.kind (is_text_type f.ty) (close s m i e)) (close_actuals s m i line es fs)
 
 -- ---- left sides
 

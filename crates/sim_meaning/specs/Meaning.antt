@@ -5,7 +5,7 @@ use Rattle.sim_scope.specs.Source.{Source, line_at}
 use Rattle.sim_tree.specs.declared.stmt.TypeName.{TypeName}
 use Rattle.sim_tree.specs.Syntax.{Declarations, Statements}
 use Rattle.sim_code.specs.Outcome.{Going, Normal, Run, World, after, first_world}
-use Rattle.sim_code.specs.Events.{applying_one, applying_two, choosing, entering, having, no_rule, performing, pop_integers, pop_many, pop_plain, pop_truth, popping, stopping, testing_step, ticking, when}
+use Rattle.sim_code.specs.Events.{applying_one, applying_two, choosing, entering, having, no_rule, performing, pop_integers, pop_many, pop_truth, popping, stopping, testing_step, ticking, when}
 use Rattle.sim_code.specs.Arrays.{giving_back, handed_over, making_array, pairs}
 use Rattle.sim_code.specs.Instances.{Instance, given, is_given_at_end, is_live, no_instances}
 use Rattle.sim_meaning.specs.Pending.{Activation, AgainOp, ArrayOp, ArrayValue, BackOp, BranchOp, CallOp, ChooseOp, Configuration, CopyOp, Do, DropOp, ElementOp, ElementsOp, EndBlock, EndProcedure, EndProgram, EnterOp, Eval, Exec, Execs, FetchOp, GiveOp, Held, IfOp, Instances, Item, Of, OneOp, Op, PastOp, RaiseOp, Result, ShareOp, StandardOp, StepOp, StepTestOp, StoreOp, TestOp, TwoOp, Val, WhileElementOp, cell, instance_in, plain}
@@ -93,8 +93,8 @@ do_op s l o m i w vals rest (StandardOp name line) = performing plain l line nam
 do_op s l o m i w vals rest DropOp = popping vals o (λ v vals. go o m i w vals rest)
 do_op s l o m i w vals rest AgainOp = popping vals o (λ v vals'. go o m i w (v ∷ vals) rest)
 do_op s l o m i w vals rest (StoreOp t) = stored o m i w vals rest t
-do_op s l o m i w vals rest (ShareOp ts) = pop_plain plain vals o (λ p vals. go o m i (Do (GiveOp p ts) ∷ w) vals rest)
-do_op s l o m i w vals rest (GiveOp p ts) = given_to o m i w vals rest p ts
+do_op s l o m i w vals rest (ShareOp ts) = popping vals o (λ v vals. go o m i (Do (GiveOp v ts) ∷ w) vals rest)
+do_op s l o m i w vals rest (GiveOp v ts) = given_to o m i w vals rest v ts
 do_op s l o m i w vals rest (ArrayOp kind n line) = pop_integers plain (2 * n) [] vals o (λ bounds vals. making_array l line i kind (pairs bounds) o (λ array p. go p m i w (ArrayValue array ∷ vals) rest))
 -- statements
 do_op s l o m i w vals rest (Exec a) = exec s l o m i w vals rest a

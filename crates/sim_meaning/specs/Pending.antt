@@ -86,7 +86,7 @@ pub data Op : Type 0 where
   -- an assignment to one left side; to several, the last one first, where the value is in hand, and where it was taken
   StoreOp : Target → Op
   ShareOp : List Target → Op
-  GiveOp : Plain → List Target → Op
+  GiveOp : Val → List Target → Op
   -- a new array
   ArrayOp : Kind → (dimensions line : ℕ) → Op
   -- statements

@@ -72,6 +72,6 @@ stored o m i w vals rest (ToCell j key) = popping vals o (λ v vals. having (cel
 stored o m i w vals rest ToAddress = popping vals o (λ v vals. popping vals o (λ p vals. having (place_in p) o (λ p. putting p v o m (λ o m. go o m i w vals rest))))
 
 -- a value that was taken is given to one left side after another
-abbrev pub given_to : World → Instances → ℕ → List Item → List Val → List Activation → Plain → List Target → Run Configuration
-given_to o m i w vals rest p [] = go o m i w vals rest
-given_to o m i w vals rest p (t ∷ ts) = go o m i (Do (StoreOp t) ∷ Do (GiveOp p ts) ∷ w) (Of p ∷ vals) rest
+abbrev pub given_to : World → Instances → ℕ → List Item → List Val → List Activation → Val → List Target → Run Configuration
+given_to o m i w vals rest v [] = go o m i w vals rest
+given_to o m i w vals rest v (t ∷ ts) = go o m i (Do (StoreOp t) ∷ Do (GiveOp v ts) ∷ w) (v ∷ vals) rest

@@ -1,5 +1,5 @@
 -- Assignments, one judgement after another.
-use Rattle.std.proofs.Common.{◌≡◌, ◌<◌, ◌≤◌, ◌+◌, ◌-◌, ℕ, zero, suc, List, [], ◌∷◌, Option, refl, sym, ap, ◌∙◌, map, drop, length, subst, arith}
+use Rattle.std.proofs.Common.{◌≡◌, ◌<◌, ◌≤◌, ◌+◌, ◌-◌, ℕ, suc, List, [], ◌∷◌, refl, sym, ap, ◌∙◌, map, drop, length, arith}
 use Rattle.std.proofs.lemmas.List.{drop_more, drop_all}
 use Rattle.std.specs.Prelude.{slice_index_or}
 use Rattle.sim_base.specs.declared.numbering.TokenNo.{TokenNo}
@@ -17,7 +17,7 @@ use Rattle.sim_scope.specs.Assignments.{LeftSide, Nothing, assigned, assigned_to
 use Rattle.sim_scope.specs.ExpressionWalk.{Finds, FindsSide}
 use Rattle.sim_scope.specs.Expressions.{judge, judge_side}
 use Rattle.sim_scope.specs.Found.{Findings, found}
-use Rattle.sim_scope.specs.Judged.{Judged, Judges, gives, next}
+use Rattle.sim_scope.specs.Judged.{Judges, next}
 use Rattle.sim_scope.specs.Outcomes.{called}
 use Rattle.sim_scope.specs.Runs.{Runs}
 use Rattle.sim_scope.specs.Statements.{assignment_events}

@@ -1,5 +1,5 @@
 -- The last round of a whole program.
-use Rattle.std.proofs.Common.{◌≡◌, ℕ, refl, sym, ap, ◌∙◌, length}
+use Rattle.std.proofs.Common.{◌≡◌, ℕ, ap, ◌∙◌}
 use Rattle.sim_tree.specs.declared.program.Program.{Program}
 use Rattle.sim_tree.specs.SyntaxOfProgram.{program_syntax}
 use Rattle.sim_scope.specs.Found.{Findings, found, unknown}

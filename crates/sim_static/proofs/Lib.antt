@@ -2,3 +2,4 @@ pub mod AssignmentSteps
 pub mod Needed
 pub mod LastRound
 pub mod Tellings
+pub mod Worked

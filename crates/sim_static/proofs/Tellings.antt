@@ -1,5 +1,5 @@
 -- The last round, construct by construct.
-use Rattle.std.proofs.Common.{◌≡◌, ◌<◌, ◌≤◌, ◌+◌, ℕ, List, [], ◌∷◌, ◌++◌, Option, Some, None, refl, sym, ap, ◌∙◌, map, length, subst}
+use Rattle.std.proofs.Common.{◌≡◌, ◌<◌, List, [], ◌∷◌, ◌++◌, Option, refl, sym, ap, ◌∙◌, map, length}
 use Rattle.std.specs.declared.alloc.Global.{Global}
 use Rattle.std.specs.declared.boxed.Box.{Box}
 use Rattle.std.specs.declared.vec.Vec.{Vec}
@@ -28,7 +28,7 @@ use Rattle.sim_tree.specs.declared.stmt.Timing.{Timing}
 use Rattle.sim_tree.specs.declared.stmt.TypeName.{TypeName}
 use Rattle.sim_tree.specs.declared.stmt.Variable.{Variable}
 use Rattle.sim_tree.specs.declared.stmt.When.{When}
-use Rattle.sim_tree.specs.Syntax.{Element, first_of}
+use Rattle.sim_tree.specs.Syntax.{Element}
 use Rattle.sim_tree.specs.SyntaxOf.{FirstIs, syntax_of}
 use Rattle.sim_tree.specs.SyntaxOfProgram.{bound_pair_syntax, element_syntax, reference_element_syntax, right_side_syntax, segment_syntax}
 use Rattle.sim_scope.specs.declared.outcome.Extent.{Extent}
@@ -37,20 +37,20 @@ use Rattle.sim_scope.specs.declared.outcome.Outcome.{Outcome}
 use Rattle.sim_scope.specs.declared.outcome.Side.{Side}
 use Rattle.sim_scope.specs.declared.scopes.Denotation.{Denotation}
 use Rattle.sim_scope.specs.declared.types.Position.{Position}
-use Rattle.sim_scope.specs.declared.types.Position.TheVariants.{ClassBody, ClassStatement, Inside}
+use Rattle.sim_scope.specs.declared.types.Position.TheVariants.{ClassBody, Inside}
 use Rattle.sim_scope.specs.declared.types.SimType.{SimType}
 use Rattle.sim_scope.specs.declared.types.SimType.TheVariants as type
 use Rattle.sim_scope.specs.Assignments.{Nothing}
 use Rattle.sim_scope.specs.Calls.{bound}
 use Rattle.sim_scope.specs.ExpressionWalk.{Finds, FindsSide}
 use Rattle.sim_scope.specs.Expressions.{judge, judge_side}
-use Rattle.sim_scope.specs.Found.{Event, Findings, found}
+use Rattle.sim_scope.specs.Found.{Findings, found}
 use Rattle.sim_scope.specs.Judged.{Judged, Judges, next}
 use Rattle.sim_scope.specs.Outcomes.{called}
-use Rattle.sim_scope.specs.Runs.{Runs, each, run}
+use Rattle.sim_scope.specs.Runs.{Runs, each}
 use Rattle.sim_scope.specs.Statements.{array_events, assignment_events, call_alone, call_events, control_events, controlled, element_events, first_step, first_value, judging, needs, pair_events, required, simple, stands, starts, taken_by, variable_events}
 use Rattle.sim_scope.specs.Tables.{Tables}
-use Rattle.sim_scope.specs.Walk.{of_statement, of_branch, of_arm, of_block, of_whole, of_class_body, of_declaration}
+use Rattle.sim_scope.specs.Walk.{of_statement, of_branch, of_arm, of_block, of_whole, of_declaration}
 use Rattle.sim_scope.proofs.Walks.{runs_both, runs_as, runs_none, leads_all, leads_next, leads_end, run_empty, run_block, run_block_of_class, run_body_of_class, run_prefixed, run_inner, run_call, run_assignment, run_if, run_while, run_for, run_for_reference, run_inspect, run_inspect_when, run_activation, run_some, run_no_branch, run_arm, run_compound, run_whole_block, run_whole, run_class_body, run_variables, run_arrays, run_procedure, run_class}
 use Rattle.sim_static.specs.StatementWalk.{of_assignment, of_call, of_element, of_first_step, of_first_value, of_pair, of_reference_element, of_required, of_segment}
 use Rattle.sim_types.proofs.Steps.{judges_as, judges_next}

@@ -49,6 +49,11 @@ answer tokens p = first_answer tokens p (declared_by p).tables (first_least (dec
 abbrev pub check_of : Tree → Checked
 check_of p = answer (length p.lines.items) (program_syntax p)
 
+-- A program with what the definition gives it: it is allowed, and its tables, what its identifiers denote and the types of its expressions are
+-- those of its check.
+unfoldable pub IsBound : Bound → Type 0
+IsBound b = check_of b.program ≡ Allowed b.scopes b.uses.items b.types.items
+
 abbrev pub Answers : Tree → Result Bound StaticRefusal → Type 0
 Answers p (Ok b) = (b.program ≡ p) × (check_of p ≡ Allowed b.scopes b.uses.items b.types.items)
 Answers p (Err (refusal.Broken rule token)) = check_of p ≡ Refused (record { token = token; rule = rule })

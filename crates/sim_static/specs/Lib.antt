@@ -1,3 +1,4 @@
 pub mod Check
+pub mod Examples
 pub mod NeedsClasses
 pub mod StatementWalk

@@ -1,5 +1,5 @@
 -- What the functions of the last round find.
-use Rattle.std.specs.Prelude.{◌≡◌, ℕ, List, ◌++◌, map, Option}
+use Rattle.std.specs.Prelude.{◌≡◌, List, map, Option}
 use Rattle.sim_tree.specs.declared.expr.Expr.{Expr}
 use Rattle.sim_tree.specs.declared.stmt.ArraySegment.{ArraySegment}
 use Rattle.sim_tree.specs.declared.stmt.Assigned.{Assigned}
@@ -15,7 +15,7 @@ use Rattle.sim_scope.specs.declared.outcome.Side.{Side}
 use Rattle.sim_scope.specs.declared.types.SimType.{SimType}
 use Rattle.sim_scope.specs.Assignments.{LeftSide, first_sign, last_value, left_side, left_sides, lefts, no_lefts}
 use Rattle.sim_scope.specs.Found.{Event, Findings, found}
-use Rattle.sim_scope.specs.Judged.{Judged, Judges}
+use Rattle.sim_scope.specs.Judged.{Judges}
 use Rattle.sim_scope.specs.Runs.{Runs}
 use Rattle.sim_scope.specs.Statements.{array_events, assignment_events, call_events, element_events, first_step, first_value, pair_events, required}
 use Rattle.sim_scope.specs.Tables.{Tables}

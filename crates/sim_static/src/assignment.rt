@@ -10,8 +10,8 @@ use sim_base::{Rule, TokenNo};
 use sim_scope::{
     Extent, Fault, Found, LeftSides, Outcome, Scopes, Side, SimType, Standard, entry_of, lesser,
 };
-use sim_tree::{Assigned, Assignment, Expr};
-use sim_types::{called, first_token, is_same, is_stream, judge, operand, result_in};
+use sim_tree::{Assigned, Assignment, Expr, first_token};
+use sim_types::{called, is_same, is_stream, judge, operand, result_in};
 
 #[tactic(auto, unfolding(sim_scope::specs::Assignments::no_target, sim_scope::specs::Judged::telling, sim_scope::specs::Runs::run))]
 fn no_target(found: &mut Found, first: TokenNo, rule: Rule) -> Side

@@ -7,6 +7,7 @@ mod bounds;
 mod control;
 mod forms;
 mod judging;
+pub mod laws;
 mod rounds;
 mod statement;
 

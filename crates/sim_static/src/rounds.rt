@@ -4,7 +4,7 @@ ghost use Rattle.prefix_bind.specs.Cells.{least_overfull};
 ghost use Rattle.sim_scope.specs.Declare.{declarations_of};
 ghost use Rattle.sim_scope.specs.Found.{lesser_of, unknown};
 ghost use Rattle.sim_tree.specs.SyntaxOfProgram.{program_syntax};
-ghost use Rattle.sim_static.specs.Check.{Answers, first_least, judged};
+ghost use Rattle.sim_static.specs.Check.{Answers, IsBound, first_least, judged};
 
 use crate::judging::whole;
 use prefix_bind::concat;
@@ -60,9 +60,10 @@ fn last_round(scopes: &Scopes, found: Found, program: &Program) -> Found
 
 /// Checks a program by the static rules. On success it comes back with its block tables, with what its identifiers denote and with the
 /// types of its expressions. Else the error has the first rule that it breaks, at the least token, or tells that memory was wanting.
-#[tactic(auto, unfolding(crate::specs::Check::answer, sim_scope::specs::Declare::declarations_of))]
+#[tactic(auto, unfolding(crate::specs::Check::answer, crate::specs::Check::IsBound, sim_scope::specs::Declare::declarations_of))]
 pub fn check(alloc: Global, program: Program) -> Result<Bound, StaticRefusal>
-    ensures { Answers program result }
+    ensures answers { Answers program result }
+    ensures bound { IfOk result IsBound }
 {
     let Declared { scopes, broken } = first_round(alloc, &program)?;
     if let Some(fault) = broken {

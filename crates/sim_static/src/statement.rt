@@ -6,8 +6,8 @@ ghost use Rattle.sim_static.specs.StatementWalk.{Tells, of_call, of_required};
 
 use sim_base::{Rule, TokenNo};
 use sim_scope::{Extent, Found, Outcome, Scopes, Side, SimType};
-use sim_tree::Expr;
-use sim_types::{called, first_token, is_same, judge, operand};
+use sim_tree::{Expr, first_token};
+use sim_types::{called, is_same, judge, operand};
 
 /// An operand of a type.
 #[tactic(auto, unfolding(sim_scope::specs::Statements::needs, sim_scope::specs::Assignments::fine, sim_scope::specs::Assignments::wrong, sim_scope::specs::Judged::gives, sim_scope::specs::Judged::telling, sim_scope::specs::Runs::run))]

@@ -1,3 +1,4 @@
+pub mod Innermost
 pub mod Selectors
 pub mod Steps
 pub mod Walks

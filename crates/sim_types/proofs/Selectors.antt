@@ -7,7 +7,6 @@ use Rattle.sim_tree.specs.declared.expr.Identifier.{Identifier}
 use Rattle.sim_tree.specs.declared.expr.Expr.{Expr}
 use Rattle.sim_tree.specs.declared.expr.Expr.TheOpen.{Selector-F}
 use Rattle.sim_tree.specs.declared.expr.Expr.TheFolds.{fold-roll-Selector}
-use Rattle.sim_tree.specs.declared.expr.Selector.{Selector}
 use Rattle.sim_tree.specs.declared.expr.Selector.TheVariants as selector
 use Rattle.sim_tree.specs.Syntax.{Expression, expressions}
 use Rattle.sim_tree.specs.SyntaxOf.{Selection, Take, Cast, Tail, Operands, expr_layer, selector_layer, factor_layer, operand_layer, term_layer, syntax_of, operand_syntax, term_syntax, factor_syntax, selector_syntax}

@@ -12,7 +12,8 @@ use sim_scope::{
     Scopes, Signature, SimType, entry_of, lesser,
 };
 
-fn formal_or_none(formal: Option<Formal>) -> Parameter
+/// What an actual is held against: the formal parameter at its place, if there is one.
+pub fn formal_or_none(formal: Option<Formal>) -> Parameter
     ensures { result ≡ formal_or_none formal }
 {
     match formal {
@@ -270,9 +271,9 @@ fn array_actual(
     }
 }
 
-/// One actual parameter or subscript.
+/// One actual parameter or subscript, with its first token.
 #[tactic(auto, unfolding(sim_scope::specs::Actuals::actual))]
-fn actual(
+pub fn actual(
     scopes: &Scopes,
     found: &mut Found,
     first: TokenNo,
@@ -301,7 +302,7 @@ fn actual(
 
 /// One more actual parameter or subscript among those so far.
 #[tactic(auto, unfolding(sim_scope::specs::Actuals::with_actual))]
-fn with_actual(actuals: Actuals, actual: Actual) -> Actuals
+pub fn with_actual(actuals: Actuals, actual: Actual) -> Actuals
     requires { actuals.count + 1 < 2 ^ 64 }
     ensures { result ≡ with_actual actuals actual }
 {

@@ -6,11 +6,10 @@ ghost use Rattle.sim_scope.specs.ExpressionWalk.{Finds, FindsActuals, FindsNamed
 
 use crate::actuals::more;
 use crate::calls::{attribute, bound, used};
-use crate::firsts::first_token;
 use crate::outcomes::{has, in_parentheses, one, side, three, two};
 use sim_base::TokenNo;
 use sim_scope::{Actuals, Denotation, Extent, Found, Outcome, Scopes, Side, SimType};
-use sim_tree::{Expr, Factor, Identifier, Operand, Operator, Selector, Term};
+use sim_tree::{Expr, Factor, Identifier, Operand, Operator, Selector, Term, first_token};
 
 /// What an expression is.
 #[cycle(judge)]

@@ -103,7 +103,7 @@ pub(crate) fn operands_fit(operator: Operator, left: SimType, right: SimType) ->
 }
 
 /// The common type of two arms, if they have one.
-pub fn common(first: SimType, second: SimType) -> Option<SimType>
+pub(crate) fn common_type(first: SimType, second: SimType) -> Option<SimType>
     ensures { result ≡ common_type first second }
 {
     match (first, second) {

@@ -3,7 +3,7 @@ ghost use Rattle.std.specs.Prelude.{◌≡◌};
 ghost use Rattle.sim_scope.specs.Judged.{Judges};
 ghost use Rattle.sim_scope.specs.Outcomes.{breaks, call_of, called, has, in_parentheses, is_stream, one, parenthesized, procedure_called, side, side_of, signature_called, standard_called, three, two, type_in, value_of, valued, varies};
 
-use crate::fit::{common, is_same, operands_fit};
+use crate::fit::{common_type, is_same, operands_fit};
 use crate::headings::formals_of;
 use sim_base::{Rule, TokenNo};
 use sim_scope::{Entry, Fit, Found, Outcome, Scopes, Side, Signature, SimType, Standard, entry_of};
@@ -252,7 +252,7 @@ pub(crate) fn three(
             if !is_same(ty, SimType::Boolean) {
                 return breaks(found, condition.first, Rule::WrongType);
             }
-            match common(one, other) {
+            match common_type(one, other) {
                 Some(ty) => has(found, token, ty),
                 None => breaks(found, second.first, Rule::WrongType),
             }

@@ -2,28 +2,36 @@
 ghost use Rattle.sim_types.specs.TypeOf.{TypeIs};
 
 use crate::expressions::operand;
+use prefix_bind::Classes;
+use sim_base::Rule;
 use sim_scope::{Extent, Found, Scopes, SimType, StaticRefusal};
 use sim_tree::Expr;
 use std::alloc::Global;
 
-/// The type of an expression of a program with these tables. There is none for the expressions of classes, which are not judged yet. An
-/// error has the least rule that is broken in the expression, or tells that memory was wanting.
+/// The type of an expression of a program with these tables. An error has the least rule that is broken in the expression, also in the actual
+/// parameters of its calls, or tells that memory was wanting. An expression of classes is refused as not built, at its first token; nothing of
+/// what is judged yet asks the table of classes.
 #[tactic(auto, unfolding(sim_scope::specs::ExpressionWalk::FindsSide))]
 pub fn type_of(
     alloc: Global,
     scopes: &Scopes,
+    _classes: &Classes,
     expr: &Expr,
-) -> Result<Option<SimType>, StaticRefusal>
+) -> Result<SimType, StaticRefusal>
     ensures { TypeIs scopes.now expr.now result }
 {
     let mut found = Found::new(alloc, 0)?;
     let value = operand(scopes, Extent::Statement, &mut found, expr);
     let (least, uses, types) = found.into_parts();
-    match least {
-        Some(fault) => Err(StaticRefusal::Broken {
+    match (least, value.ty) {
+        (Some(fault), _) => Err(StaticRefusal::Broken {
             rule: fault.rule,
             token: fault.token,
         }),
-        None => Ok(value.ty),
+        (None, Some(ty)) => Ok(ty),
+        (None, None) => Err(StaticRefusal::Broken {
+            rule: Rule::FormNotBuilt,
+            token: value.first,
+        }),
     }
 }

@@ -2,3 +2,4 @@ pub mod Powers
 pub mod Products
 pub mod Remainders
 pub mod Steps
+pub mod Worked

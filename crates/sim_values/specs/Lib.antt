@@ -1,5 +1,6 @@
 pub mod Arithmetic
 pub mod Characters
+pub mod Examples
 pub mod Images
 pub mod Operators
 pub mod Plain

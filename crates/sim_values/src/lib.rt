@@ -5,6 +5,7 @@
 mod arithmetic;
 mod characters;
 mod kind;
+pub mod laws;
 mod operators;
 mod standard;
 mod value;

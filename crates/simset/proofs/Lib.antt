@@ -7,5 +7,8 @@ pub mod Adds
 pub mod Neighbours
 pub mod Closings
 pub mod Effects
+pub mod Stepwise
 pub mod Placing
+pub mod Mirrors
 pub mod Becomes
+pub mod Backwards

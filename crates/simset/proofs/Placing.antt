@@ -3,7 +3,8 @@ use Rattle.std.proofs.Common.{◌≡◌, ◌≢◌, ℕ, ◌+◌, ◌<◌, ◌�
 use Rattle.std.specs.Prelude.{slice_get, Option, Some, None}
 use Rattle.std.proofs.lemmas.Bool.Decides.{nat_tests, eqb_tells}
 use Rattle.std.proofs.lemmas.Bool.{cases_eq}
-use Rattle.simset.specs.Sets.{Linkage, Link, Head, times_among, times_in, places_from, insert_after, insert_before, each_from, is_head, is_link_at, is_head_at, links_in, links_of, put_after, put_before, put_last, emptied, first, last_or, after, before_or, next_link, link_before, head_from, head_of, suc_of, pred_of, cardinal_of, out, follow, precede, into, clear, IsProper}
+use Rattle.simset.specs.Sets.{Linkage, Link, Head, times_among, times_in, places_from, insert_after, insert_before, each_from, is_head, is_link_at, is_head_at, links_in, links_of, put_after, put_before, put_last, emptied, first, last_or, after, before_or, next_link, link_before, head_from, head_of, suc_of, pred_of, cardinal_of, out, clear, IsProper}
+use Rattle.simset.proofs.Stepwise.{follow, precede, into}
 use Rattle.simset.proofs.Lists.{times-insert_after, times-insert_before}
 use Rattle.simset.proofs.Changes.{changed, get-each_from, is_link_at-each_from, is_head_at-each_from, times_in-out_other, PutsBeside, puts-after, puts-before, places_from-head, places_from-link}
 use Rattle.simset.proofs.Walks.{times_in-at, proper-once, proper-none}
@@ -110,7 +111,7 @@ pub pred_of-at_head : (sets : List Linkage) (h : ℕ) → is_head_at sets h ≡ 
 unfolding pred_of
 pred_of-at_head sets h head = rw head refl
 
-last_or-push : (d : Option ℕ) (xs : List ℕ) (x : ℕ) → last_or d (xs ++ x ∷ []) ≡ Some x
+pub last_or-push : (d : Option ℕ) (xs : List ℕ) (x : ℕ) → last_or d (xs ++ x ∷ []) ≡ Some x
 last_or-push d [] x = refl
 last_or-push d (y ∷ ys) x = last_or-push (Some y) ys x
 

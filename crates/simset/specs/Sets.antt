@@ -1,7 +1,7 @@
 -- The sets of SIMSET (SIMULA Standard, SIMSET), as lists.
 -- Links and heads are numbered together from 0, in the order in which they are made. A head has the list of
 -- its links, in their order in the set; a link has none. So the sets are a list of linkages, read by number.
-use Rattle.std.specs.Prelude.{◌≡◌, ℕ, ◌+◌, ◌≤◌, Bool, true, false, if◌then◌else◌, ◌==◌, List, [], ◌∷◌, ◌++◌, length, Option, Some, None, slice_get}
+use Rattle.std.specs.Prelude.{◌≡◌, ℕ, ◌+◌, ◌≤◌, Bool, true, false, if◌then◌else◌, ◌==◌, List, [], ◌∷◌, ◌++◌, length, Option, Some, None, slice_get, reverse}
 
 -- a link, or a head with the links of its set
 pub data Linkage : Type 0 where
@@ -132,11 +132,16 @@ cardinal_of sets h = length (links_of sets h)
 
 -- ---- changes
 
--- the sets after each list was changed: `change` takes the number of the head and its list
+-- Each procedure says what the list of a head becomes: a change takes the number of the head and its list.
+
+-- the sets after each list was changed; k is the number of the first linkage
 abbrev pub each_from : (ℕ → List ℕ → List ℕ) → ℕ → List Linkage → List Linkage
 each_from change k [] = []
 each_from change k (Link ∷ rest) = Link ∷ each_from change (k + 1) rest
 each_from change k (Head xs ∷ rest) = Head (change k xs) ∷ each_from change (k + 1) rest
+
+abbrev pub becomes : (ℕ → List ℕ → List ℕ) → List Linkage → List Linkage
+becomes change sets = each_from change 0 sets
 
 abbrev pub without : ℕ → List ℕ → List ℕ
 without x [] = []
@@ -166,28 +171,38 @@ put_last x p h xs = if h == p then xs ++ x ∷ [] else xs
 abbrev pub emptied : ℕ → ℕ → List ℕ → List ℕ
 emptied p h xs = if h == p then [] else xs
 
--- x leaves the set in which it stands
+-- what the list of the head h becomes where x follows p, precedes it or goes into its set; x leaves the list in which it stands first
+abbrev pub following : ℕ → Option ℕ → ℕ → List ℕ → List ℕ
+following x None h xs = without x xs
+following x (Some p) h xs = put_after x p h (without x xs)
+
+abbrev pub preceding : ℕ → Option ℕ → ℕ → List ℕ → List ℕ
+preceding x None h xs = without x xs
+preceding x (Some p) h xs = put_before x p h (without x xs)
+
+abbrev pub going_into : ℕ → Option ℕ → ℕ → List ℕ → List ℕ
+going_into x None h xs = without x xs
+going_into x (Some p) h xs = put_last x p h (without x xs)
+
+-- the procedures, of a link x or a head h; p is the linkage that they are given, or `none`
 unfoldable pub out : List Linkage → ℕ → List Linkage
-out sets x = each_from (λ _ xs. without x xs) 0 sets
+out sets x = becomes (λ h xs. without x xs) sets
 
--- x leaves its set, and is then put directly after p, where p is a head or stands in a set
 unfoldable pub follow : List Linkage → ℕ → Option ℕ → List Linkage
-follow sets x None = out sets x
-follow sets x (Some p) = each_from (put_after x p) 0 (out sets x)
+follow sets x p = becomes (following x p) sets
 
--- x leaves its set, and is then put directly before p, where p is a head or stands in a set
 unfoldable pub precede : List Linkage → ℕ → Option ℕ → List Linkage
-precede sets x None = out sets x
-precede sets x (Some p) = each_from (put_before x p) 0 (out sets x)
+precede sets x p = becomes (preceding x p) sets
 
--- x leaves its set, and is then put last in the set of the head p
 unfoldable pub into : List Linkage → ℕ → Option ℕ → List Linkage
-into sets x None = out sets x
-into sets x (Some p) = each_from (put_last x p) 0 (out sets x)
+into sets x p = becomes (going_into x p) sets
 
--- every link of h leaves its set
 unfoldable pub clear : List Linkage → ℕ → List Linkage
-clear sets h = each_from (emptied h) 0 sets
+clear sets h = becomes (emptied h) sets
+
+-- each list read backwards
+unfoldable pub backwards : List Linkage → List Linkage
+backwards sets = becomes (λ h xs. reverse xs) sets
 
 -- the linkages that a call may be given
 abbrev pub IsLinkAt : List Linkage → ℕ → Type 0

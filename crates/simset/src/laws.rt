@@ -1,6 +1,7 @@
 //! What follows from the definitions of sets alone: functions without a body, each with its law as its contract.
-ghost use Rattle.std.specs.Prelude.{◌≡◌, ◌≢◌, ℕ, ◌<◌, Option, Some, None, List};
-ghost use Rattle.simset.specs.Sets.{Linkage, IsLinkAt, IsHeadAt, IsProper, times_in, suc_of, pred_of, cardinal_of, links_of, without, put_after, put_before, put_last, emptied, out, follow, precede, into, clear};
+ghost use Rattle.std.specs.Prelude.{◌≡◌, ◌≢◌, ℕ, ◌<◌, Option, Some, None, List, [], ◌∷◌};
+ghost use Rattle.simset.specs.Instances.{Memberships, instance_of, linkage_of, with_linkage};
+ghost use Rattle.simset.specs.Sets.{Linkage, Link, Head, IsLinkAt, IsHeadAt, IsProper, times_in, suc_of, pred_of, cardinal_of, links_of, without, put_after, put_before, put_last, emptied, backwards, out, follow, precede, into, clear};
 
 /// What each procedure makes of the list of each head: the link leaves every list, and is then put beside the other linkage, which
 /// is the head itself or stands in the list, or last in the list of the head.
@@ -17,6 +18,12 @@ pub fn the_list_of_a_head_becomes()
     ensures follow_none { (sets : List Linkage) (x : ℕ) → follow sets x None ≡ out sets x }
     ensures precede_none { (sets : List Linkage) (x : ℕ) → precede sets x None ≡ out sets x }
     ensures into_none { (sets : List Linkage) (x : ℕ) → into sets x None ≡ out sets x }
+{}
+
+/// What precedes in the sets follows in the sets read backwards.
+pub fn backwards_what_precedes_follows()
+    ensures precede { (sets : List Linkage) (x : ℕ) (p : Option ℕ) → precede sets x p ≡ backwards (follow (backwards sets) x p) }
+    ensures pred { (sets : List Linkage) (x : ℕ) → IsProper sets → pred_of sets x ≡ suc_of (backwards sets) x }
 {}
 
 /// A link is in at most one set, and there once, after each change: whatever stands in a set before is a link that
@@ -62,4 +69,14 @@ pub fn the_ends_of_a_set()
     ensures last { (sets : List Linkage) (x h : ℕ) → IsHeadAt sets h → pred_of (precede sets x (Some h)) h ≡ Some x }
     ensures into { (sets : List Linkage) (x h : ℕ) → IsHeadAt sets h → pred_of (into sets x (Some h)) h ≡ Some x }
     ensures clear { (sets : List Linkage) (h : ℕ) → cardinal_of (clear sets h) h ≡ 0 }
+{}
+
+/// Linkages have numbers in the order in which their instances were made: here instance 4, a head, and then instance 7, a link.
+pub fn worked_instances()
+    ensures made { (m : Memberships) → m.instances ≡ [] → m.sets ≡ []
+        → with_linkage 7 Link (with_linkage 4 (Head []) m) ≡ record { instances = 4 ∷ 7 ∷ []; sets = Head [] ∷ Link ∷ [] } }
+    ensures linkage { linkage_of (4 ∷ 7 ∷ []) 7 ≡ Some 1 }
+    ensures no_linkage { linkage_of (4 ∷ 7 ∷ []) 5 ≡ None }
+    ensures instance { instance_of (4 ∷ 7 ∷ []) 1 ≡ Some 7 }
+    ensures no_instance { instance_of (4 ∷ 7 ∷ []) 2 ≡ None }
 {}

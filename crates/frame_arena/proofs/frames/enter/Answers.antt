@@ -1,5 +1,5 @@
 use Rattle.std.proofs.Common.{refl}
-use Rattle.frame_arena.proofs.Entries.{enters}
+use Rattle.frame_arena.proofs.Entries.{enters, here_entered, leads_entered}
 use Rattle.frame_arena.proofs.Rooms.{rooms_kept}
 use Rattle.frame_arena.proofs.frames.enter.Goals as goal
 
@@ -8,3 +8,9 @@ returns-clause-holds c cells m standing h numbered parent = enters c.args.frames
 
 pub returns-clause-stacks : goal.returns-clause-stacks
 returns-clause-stacks c = rooms_kept c.args.frames.now c.args.place _ c.requires.there refl refl
+
+pub returns-clause-leads : goal.returns-clause-leads
+returns-clause-leads c m x standing r leads = leads_entered c.args.frames.now m c.args.place _ x standing r c.requires.free leads
+
+pub returns-clause-here : goal.returns-clause-here
+returns-clause-here c = here_entered c.args.frames.now c.args.place _ c.requires.there refl

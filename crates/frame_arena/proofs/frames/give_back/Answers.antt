@@ -1,5 +1,6 @@
 use Rattle.std.proofs.Common.{refl}
 use Rattle.frame_arena.proofs.Changes.{gives}
+use Rattle.frame_arena.proofs.Leading.{gives_leading}
 use Rattle.frame_arena.proofs.Rooms.{rooms_kept}
 use Rattle.frame_arena.proofs.frames.give_back.Goals as goal
 
@@ -14,3 +15,9 @@ returns-then-block-heads-clause-stacks c = rooms_kept c.args.frames.now c.args.p
 
 pub returns-else-block-heads-clause-stacks : goal.returns-else-block-heads-clause-stacks
 returns-else-block-heads-clause-stacks c = rooms_kept c.args.frames.now c.args.place _ c.requires.there refl refl
+
+pub returns-then-block-heads-clause-leads : goal.returns-then-block-heads-clause-leads
+returns-then-block-heads-clause-leads c cells m r h leads = gives_leading c.args.frames.now cells m c.args.place _ r h c.requires.there c.requires.live leads
+
+pub returns-else-block-heads-clause-leads : goal.returns-else-block-heads-clause-leads
+returns-else-block-heads-clause-leads c cells m r h leads = gives_leading c.args.frames.now cells m c.args.place _ r h c.requires.there c.requires.live leads

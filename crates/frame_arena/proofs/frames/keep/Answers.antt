@@ -1,5 +1,6 @@
 use Rattle.std.proofs.Common.{refl}
 use Rattle.frame_arena.proofs.Entries.{keeps}
+use Rattle.frame_arena.proofs.Leading.{keeps_leading}
 use Rattle.frame_arena.proofs.Rooms.{rooms_kept}
 use Rattle.frame_arena.proofs.frames.keep.Goals as goal
 
@@ -8,3 +9,6 @@ returns-clause-holds c cells m h = keeps c.args.frames.now cells m c.args.place 
 
 pub returns-clause-stacks : goal.returns-clause-stacks
 returns-clause-stacks c = rooms_kept c.args.frames.now c.args.place _ c.requires.there refl refl
+
+pub returns-clause-leads : goal.returns-clause-leads
+returns-clause-leads c cells m r h leads = keeps_leading c.args.frames.now cells m c.args.place r h c.requires.there c.requires.live leads

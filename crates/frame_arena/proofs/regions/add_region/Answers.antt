@@ -1,8 +1,8 @@
 use Rattle.std.specs.Prelude.{false, None}
 use Rattle.frame_arena.specs.declared.frames.Frame.{Frame}
 use Rattle.std.proofs.Common.{rules, ◌≡◌, length, subst, sym, refl, arith}
-use Rattle.frame_arena.specs.Frames.{Holds, Laid, rooms}
-use Rattle.frame_arena.proofs.Growth.{adds}
+use Rattle.frame_arena.specs.Frames.{Holds, Laid, Leads, rooms}
+use Rattle.frame_arena.proofs.Growth.{adds, leads_more}
 use Rattle.frame_arena.proofs.Rooms.{laid_to}
 use Rattle.frame_arena.proofs.regions.add_region.Goals as goal
 
@@ -19,3 +19,8 @@ returns-clause-stacks c h =
     let f : Frame = record { live = false; number = 0; block = 0; level = 0; parent = None; passing = false; kept = false; base = c.in-Ok.base; cells = c.args.count; floor = c.in-Ok-try_from.floor; room = c.args.room; next = 0 } in
     subst (λ l. Laid 0 (rooms l) (length c.grow-2.new.slots.items)) (sym c.in_ok-push.ensures.items)
     (laid_to (length c.args.stacks.now.items) (length c.grow-2.new.slots.items) c.args.frames.now.items f h floor c.in_ok-grow-2.ensures.long)
+
+pub returns-clause-leads : goal.returns-clause-leads
+returns-clause-leads c m r leads =
+    let f : Frame = record { live = false; number = 0; block = 0; level = 0; parent = None; passing = false; kept = false; base = c.in-Ok.base; cells = c.args.count; floor = c.in-Ok-try_from.floor; room = c.args.room; next = 0 } in
+    subst (λ l. Leads l m r) (sym c.in_ok-push.ensures.items) (leads_more c.args.frames.now.items f refl m r leads)

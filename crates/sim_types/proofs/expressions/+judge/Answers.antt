@@ -95,7 +95,7 @@ actuals-loop-argument-preserved t c =
     record {
       count = ap (λ a. a.count) c.more-actuals.ensures.is ∙ more-count c.args.scopes.now c.args.denotation c.loop-argument.actuals c.first_token.result.0 c.judge-outcome.result ∙ ap (λ n. n + 1) c.loop-argument.invariant.count;
       owed = walk.owes_more c.args.scopes.now c.args.extent c.args.denotation c.args.found.now c.loop-argument.found c.judge-outcome.new.found c.more-actuals.new.found no_actuals c.loop-argument.actuals c.more-actuals.result xs (drop i xs) (drop (i + 1) xs) x c.first_token.result c.judge-outcome.result
-          c.loop-argument.invariant.owed (walk.from_drop xs i x c.loop-argument-test.true c.argument-item.is) c.judge-outcome.ensures c.first_token.ensures c.more-actuals.ensures;
+          c.loop-argument.invariant.owed (walk.from_drop xs i x c.loop-argument-test.true c.argument-item.is) c.judge-outcome.ensures c.first_token.ensures.first c.more-actuals.ensures;
     }
 
 pub actuals-returns : goal.actuals-returns
@@ -126,7 +126,7 @@ negated-loop-done-init t c =
     let none : drop (length ts - 0) ts ≡ [] = drop_all (length ts - 0) ts (omega arith) in
     record {
       so_far = walk.no_nots c.args.scopes.now c.args.extent c.args.found.now c.judge-outcome.new.found c.judge-outcome.result c.args.expr.now (drop (length ts - 0) ts) none c.judge-outcome.ensures;
-      first = walk.first_here c.args.expr.now c.first_token-first.result (drop (length ts - 0) ts) none c.first_token-first.ensures;
+      first = walk.first_here c.args.expr.now c.first_token-first.result (drop (length ts - 0) ts) none c.first_token-first.ensures.first;
     }
 
 pub negated-loop-done-preserved : goal.negated-loop-done-preserved

@@ -1,9 +1,8 @@
-use Rattle.simset.proofs.Becomes.{precede-head, links_of-follow, links_of-precede, links_of-into, links_of-clear, follow-none, precede-none, into-none}
-use Rattle.simset.proofs.Effects.{links_of-out}
+use Rattle.simset.proofs.Becomes.{precede-head, links_of-out, links_of-follow, links_of-precede, links_of-into, links_of-clear, follow-none, precede-none, into-none}
 use Rattle.simset.proofs.laws.the_list_of_a_head_becomes.Goals as goal
 
 pub returns-clause-out : goal.returns-clause-out
-returns-clause-out c = λ sets x h head. links_of-out sets h x head
+returns-clause-out c = links_of-out
 
 pub returns-clause-follow : goal.returns-clause-follow
 returns-clause-follow c = links_of-follow

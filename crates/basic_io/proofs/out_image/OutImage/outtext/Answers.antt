@@ -7,6 +7,7 @@ use Rattle.basic_io.specs.Output.{IsAt, WritesInText, output_state, text_begun, 
 use Rattle.basic_io.specs.Output.WritesInText.{at_its_start, inside}
 use Rattle.basic_io.proofs.OutputLines.{handed_on}
 use Rattle.basic_io.proofs.OutputTexts.{next_outchar, outchar_there, outchar_fault}
+use Rattle.basic_io.proofs.Stopping.{stops_handed}
 use Rattle.basic_io.proofs.out_image.OutImage.outtext.Goals as goal
 
 pub returns-in_err-make_room-clause-outcome : goal.returns-in_err-make_room-clause-outcome
@@ -25,6 +26,10 @@ returns-in_err-outchar-clause-outcome g c =
     let k : ℕ = c.loop-place.place in
     outchar_fault (outchars k 0 t (text_begun s t)) (outtext s t) (slice_index c.characters.result.now k) (WritesInText s t) _ _ _ c.in_err-outchar.field-0.0 _ c.loop-place.invariant.there c.in_err-outchar.ensures.outcome
     (inside k c.loop-place-test.true) c.from_residual-in_err-outchar.ensures.1
+
+pub returns-in_err-outchar-clause-stops : goal.returns-in_err-outchar-clause-stops
+returns-in_err-outchar-clause-stops g c =
+    stops_handed (Unit {0}) (Unit {0}) g.O.Sink.written g.O.Sink.faults _ _ _ c.in_err-outchar.field-0.0 _ c.from_residual-in_err-outchar.ensures.1 c.loop-place.invariant.steady c.in_err-outchar.ensures.stops
 
 pub loop-place-preserved : goal.loop-place-preserved
 loop-place-preserved g c =

@@ -1,5 +1,5 @@
 use Rattle.std.proofs.Common.{sym}
-use Rattle.simset.specs.Sets.{follow}
+use Rattle.simset.proofs.Stepwise.{follow, follow-is}
 use Rattle.simset.proofs.Effects.{length-out, is_link_at-out, times_in-out, put_after-nowhere}
 use Rattle.simset.proofs.rings.Rings.follow.Goals as goal
 
@@ -17,12 +17,12 @@ insert_after-requires-clause-made c = rw (c.leave.ensures.sets, length-out) (c.r
 
 pub returns-then-is_placed-clause-sets : goal.returns-then-is_placed-clause-sets
 unfolding follow
-returns-then-is_placed-clause-sets c = rw (c.in-Some.is, ← c.leave.ensures.sets) c.insert_after.ensures.sets
+returns-then-is_placed-clause-sets c = rw (follow-is, c.in-Some.is, ← c.leave.ensures.sets) c.insert_after.ensures.sets
 
 pub returns-else-is_placed-clause-sets : goal.returns-else-is_placed-clause-sets
 unfolding follow
-returns-else-is_placed-clause-sets c = rw (c.in-Some.is, ← c.leave.ensures.sets) (sym (put_after-nowhere _ _ 0 _ c.if-is_placed.ensures.no))
+returns-else-is_placed-clause-sets c = rw (follow-is, c.in-Some.is, ← c.leave.ensures.sets) (sym (put_after-nowhere _ _ 0 _ c.if-is_placed.ensures.no))
 
 pub returns-in_default-clause-sets : goal.returns-in_default-clause-sets
 unfolding follow
-returns-in_default-clause-sets c = rw c.in_default.is c.leave.ensures.sets
+returns-in_default-clause-sets c = rw (follow-is, c.in_default.is) c.leave.ensures.sets

@@ -1,5 +1,6 @@
 use Rattle.std.proofs.Common.{◌≡◌, ◌∙◌, ap, arith}
-use Rattle.simset.specs.Sets.{Simset, into, out, times_in}
+use Rattle.simset.specs.Sets.{Simset, out, times_in}
+use Rattle.simset.proofs.Stepwise.{into, into-is}
 use Rattle.simset.specs.Nodes.{KeepsSets}
 use Rattle.simset.proofs.Keeps.{head_nowhere, proper-out}
 use Rattle.simset.proofs.Closings.{kept-view}
@@ -26,8 +27,8 @@ returns-in-Some-clause-sets c =
     let nowhere : times_in c.in-Some.place.0 c.leave.new.self.sets ≡ 0 =
     rw c.leave.ensures.sets (head_nowhere _ _ (proper-out _ _ kept.proper) (rw is_head_at-out (c.requires.head _ c.in-Some.is)))
     in
-    rw (c.in-Some.is, ← c.leave.ensures.sets) (c.insert_before.ensures.sets ∙ put_before-last _ _ 0 _ nowhere)
+    rw (into-is, c.in-Some.is, ← c.leave.ensures.sets) (c.insert_before.ensures.sets ∙ put_before-last _ _ 0 _ nowhere)
 
 pub returns-in_default-clause-sets : goal.returns-in_default-clause-sets
 unfolding into
-returns-in_default-clause-sets c = rw c.in_default.is c.leave.ensures.sets
+returns-in_default-clause-sets c = rw (into-is, c.in_default.is) c.leave.ensures.sets

@@ -1,5 +1,5 @@
 use Rattle.std.proofs.Common.{sym}
-use Rattle.simset.specs.Sets.{precede}
+use Rattle.simset.proofs.Stepwise.{precede, precede-is}
 use Rattle.simset.proofs.Effects.{length-out, is_link_at-out, times_in-out, put_before-nowhere}
 use Rattle.simset.proofs.rings.Rings.precede.Goals as goal
 
@@ -17,12 +17,12 @@ insert_before-requires-clause-made c = rw (c.leave.ensures.sets, length-out) (c.
 
 pub returns-then-is_placed-clause-sets : goal.returns-then-is_placed-clause-sets
 unfolding precede
-returns-then-is_placed-clause-sets c = rw (c.in-Some.is, ← c.leave.ensures.sets) c.insert_before.ensures.sets
+returns-then-is_placed-clause-sets c = rw (precede-is, c.in-Some.is, ← c.leave.ensures.sets) c.insert_before.ensures.sets
 
 pub returns-else-is_placed-clause-sets : goal.returns-else-is_placed-clause-sets
 unfolding precede
-returns-else-is_placed-clause-sets c = rw (c.in-Some.is, ← c.leave.ensures.sets) (sym (put_before-nowhere _ _ 0 _ c.if-is_placed.ensures.no))
+returns-else-is_placed-clause-sets c = rw (precede-is, c.in-Some.is, ← c.leave.ensures.sets) (sym (put_before-nowhere _ _ 0 _ c.if-is_placed.ensures.no))
 
 pub returns-in_default-clause-sets : goal.returns-in_default-clause-sets
 unfolding precede
-returns-in_default-clause-sets c = rw c.in_default.is c.leave.ensures.sets
+returns-in_default-clause-sets c = rw (precede-is, c.in_default.is) c.leave.ensures.sets

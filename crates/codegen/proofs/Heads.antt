@@ -1,0 +1,151 @@
+-- What the frames of a text hold.
+use Rattle.std.proofs.Common.{◌≡◌, ◌+◌, ℕ, List, [], ◌∷◌, ◌++◌, map, Option, Some, None, refl, sym, ap, ◌∙◌, append_assoc, append-nil}
+use Rattle.std.specs.Prelude.{slice_get, take}
+use Rattle.sim_base.specs.declared.numbering.DeclNo.{DeclNo}
+use Rattle.sim_scope.specs.declared.bound.Bound.{Bound}
+use Rattle.sim_scope.specs.declared.types.Entry.{Entry}
+use Rattle.sim_scope.specs.declared.types.Entry.TheVariants as entry
+use Rattle.sim_scope.specs.declared.types.Formal.{Formal}
+use Rattle.sim_scope.specs.declared.types.SimType.{SimType}
+use Rattle.sim_scope.specs.declared.types.SimType.TheVariants as t
+use Rattle.sim_scope.specs.declared.types.WrittenMode.{WrittenMode}
+use Rattle.sim_scope.specs.Scopes.{entry_of, formal_in}
+use Rattle.sim_scope.specs.Source.{Source, source_of}
+use Rattle.sim_scope.specs.Tables.{BlockOf as TableBlock}
+use Rattle.sim_tree.specs.declared.stmt.TypeName.{TypeName}
+use Rattle.sim_tree.specs.declared.stmt.TypeName.TheVariants as type_name
+use Rattle.sim_values.specs.Plain.{initial}
+use Rattle.sim_code.specs.declared.code.CodeType.{CodeType}
+use Rattle.sim_code.specs.declared.code.CodeType.TheVariants as type
+use Rattle.sim_meaning.specs.Closing.{formals_from as formals_closed, formal_before as formal_before_closed}
+use Rattle.sim_meaning.specs.Entries.{cells_from, formal_before, formals_from, formals_of, numbers_of, with_cell, with_result}
+use Rattle.sim_meaning.specs.Pending.{Held}
+use Rattle.sim_meaning.specs.Texts.{kind_named, kind_of_type}
+use Rattle.codegen_expr.specs.Emit.{formals_of_block}
+use Rattle.codegen.specs.Compiled.{type_of, type_of_cell, type_of_name, type_of_plain}
+use Rattle.codegen.specs.EmitProgram.{CellTypes, OwesCells, PushesCell, PushesCells, PushesResult}
+
+of_type : (x : SimType) → type_of (Some x) ≡ type_of_plain (initial (kind_of_type x))
+of_type t.Integer = refl
+of_type t.Boolean = refl
+of_type t.Character = refl
+of_type t.Text = refl
+of_type (t.Ref class) = refl
+of_type t.NoneType = refl
+
+of_name : (x : TypeName) → type_of_name (Some x) ≡ type_of_plain (initial (kind_named x))
+of_name (type_name.Integer i) = refl
+of_name (type_name.Boolean i) = refl
+of_name (type_name.Character i) = refl
+of_name (type_name.Text i) = refl
+of_name (type_name.Reference i class) = refl
+
+pub push_variable : (old new : List CodeType) (o : Option Entry) (x : SimType) (k : CodeType) → o ≡ Some (entry.Variable x) → k ≡ type_of (Some x) → new ≡ old ++ (k ∷ []) → PushesCell old new o
+unfolding PushesCell
+push_variable old new o x k is ek en d = en ∙ ap (λ z. old ++ (z ∷ [])) (ek ∙ of_type x) ∙ ap (λ z. old ++ map type_of_cell (with_cell d z [])) (sym is)
+
+pub push_constant : (old new : List CodeType) (o : Option Entry) (x : SimType) → o ≡ Some (entry.Constant x) → new ≡ old ++ (type.Nothing ∷ []) → PushesCell old new o
+unfolding PushesCell
+push_constant old new o x is en d = en ∙ ap (λ z. old ++ map type_of_cell (with_cell d z [])) (sym is)
+
+pub push_array : (old new : List CodeType) (o : Option Entry) (x : SimType) (n : ℕ) → o ≡ Some (entry.Array x n) → new ≡ old ++ (type.Nothing ∷ []) → PushesCell old new o
+unfolding PushesCell
+push_array old new o x n is en d = en ∙ ap (λ z. old ++ map type_of_cell (with_cell d z [])) (sym is)
+
+pub push_formal : (old new : List CodeType) (o : Option Entry) (x : Formal) → o ≡ Some (entry.Formal x) → new ≡ old ++ (type.Nothing ∷ []) → PushesCell old new o
+unfolding PushesCell
+push_formal old new o x is en d = en ∙ ap (λ z. old ++ map type_of_cell (with_cell d z [])) (sym is)
+
+pub push_procedure : (old : List CodeType) (o : Option Entry) (x : Option SimType) (n : ℕ) → o ≡ Some (entry.Procedure x n) → PushesCell old old o
+unfolding PushesCell
+push_procedure old o x n is d = sym (append-nil old) ∙ ap (λ z. old ++ map type_of_cell (with_cell d z [])) (sym is)
+
+pub push_class : (old : List CodeType) (o : Option Entry) (n : ℕ) → o ≡ Some (entry.Class n) → PushesCell old old o
+unfolding PushesCell
+push_class old o n is d = sym (append-nil old) ∙ ap (λ z. old ++ map type_of_cell (with_cell d z [])) (sym is)
+
+pub push_virtual : (old : List CodeType) (o : Option Entry) (x : Option SimType) (n : Option DeclNo) → o ≡ Some (entry.Virtual x n) → PushesCell old old o
+unfolding PushesCell
+push_virtual old o x n is d = sym (append-nil old) ∙ ap (λ z. old ++ map type_of_cell (with_cell d z [])) (sym is)
+
+pub push_unspecified : (old : List CodeType) (o : Option Entry) (x : Option WrittenMode) → o ≡ Some (entry.Unspecified x) → PushesCell old old o
+unfolding PushesCell
+push_unspecified old o x is d = sym (append-nil old) ∙ ap (λ z. old ++ map type_of_cell (with_cell d z [])) (sym is)
+
+pub push_nothing : (old : List CodeType) (o : Option Entry) → o ≡ None → PushesCell old old o
+unfolding PushesCell
+push_nothing old o is d = sym (append-nil old) ∙ ap (λ z. old ++ map type_of_cell (with_cell d z [])) (sym is)
+
+pub push_no_result : (old : List CodeType) (o : Option TypeName) → o ≡ None → PushesResult old old o
+unfolding PushesResult
+push_no_result old o is = sym (append-nil old) ∙ ap (λ z. old ++ map type_of_cell (with_result z [])) (sym is)
+
+pub push_some_result : (old new : List CodeType) (o : Option TypeName) (x : TypeName) (k : CodeType) → o ≡ Some x → k ≡ type_of_name o → new ≡ old ++ (k ∷ []) → PushesResult old new o
+unfolding PushesResult
+push_some_result old new o x k is ek en = en ∙ ap (λ z. old ++ (z ∷ [])) (ek ∙ ap type_of_name is ∙ of_name x) ∙ ap (λ z. old ++ map type_of_cell (with_result z [])) (sym is)
+
+-- ---- the cells of a text, one after the other
+
+result_first : (o : Option TypeName) (hs : List Held) → map type_of_cell (with_result o hs) ≡ map type_of_cell (with_result o []) ++ map type_of_cell hs
+result_first None hs = refl
+result_first (Some x) hs = refl
+
+cell_first : (d : DeclNo) (o : Option Entry) (hs : List Held) → map type_of_cell (with_cell d o hs) ≡ map type_of_cell (with_cell d o []) ++ map type_of_cell hs
+cell_first d None hs = refl
+cell_first d (Some (entry.Variable x)) hs = refl
+cell_first d (Some (entry.Constant x)) hs = refl
+cell_first d (Some (entry.Array x n)) hs = refl
+cell_first d (Some (entry.Formal x)) hs = refl
+cell_first d (Some (entry.Procedure x n)) hs = refl
+cell_first d (Some (entry.Class n)) hs = refl
+cell_first d (Some (entry.Virtual x n)) hs = refl
+cell_first d (Some (entry.Unspecified x)) hs = refl
+
+pub cells_all : (b : Bound) (types : List CodeType) (ds : List DeclNo) → OwesCells b types ds types ds
+unfolding OwesCells
+cells_all b types ds = refl
+
+pub cells_next : (b : Bound) (old : List CodeType) (ds r r' : List DeclNo) (types types' : List CodeType) (d : DeclNo) (x : Option Entry) → OwesCells b old ds types r → r ≡ d ∷ r' → x ≡ entry_of b.scopes d → PushesCell types types' x → OwesCells b old ds types' r'
+unfolding PushesCell OwesCells source_of
+cells_next b old ds r r' types types' d x f is ex g =
+    let s = source_of b in
+    ap (λ z. z ++ map type_of_cell (cells_from s r')) (g d) ∙ append_assoc types (map type_of_cell (with_cell d x [])) (map type_of_cell (cells_from s r')) ∙ ap (λ z. types ++ z) (sym (cell_first d x (cells_from s r')) ∙ ap (λ z. map type_of_cell (with_cell d z (cells_from s r'))) ex) ∙ ap (λ z. types ++ map type_of_cell (cells_from s z)) (sym is) ∙ f
+
+pub cells_none : (b : Bound) (old : List CodeType) (ds r : List DeclNo) (types : List CodeType) → OwesCells b old ds types r → r ≡ [] → PushesCells b old types ds
+unfolding OwesCells PushesCells
+cells_none b old ds r types f is = sym (append-nil types) ∙ ap (λ z. types ++ map type_of_cell (cells_from (source_of b) z)) (sym is) ∙ f
+
+pub cells_found : (b : Bound) (k : ℕ) (o : Option TypeName) (start types types' : List CodeType) (ds : List DeclNo) → start ≡ [] → PushesResult start types o → ds ≡ numbers_of (source_of b) k → PushesCells b types types' ds → CellTypes b k o types'
+unfolding PushesResult PushesCells CellTypes
+cells_found b k o start types types' ds e f ed g =
+    g ∙ ap (λ z. z ++ map type_of_cell (cells_from (source_of b) ds)) (f ∙ ap (λ z. z ++ map type_of_cell (with_result o [])) e) ∙ ap (λ z. map type_of_cell (with_result o []) ++ map type_of_cell (cells_from (source_of b) z)) ed ∙ sym (result_first o (cells_from (source_of b) (numbers_of (source_of b) k)))
+
+-- ---- formals
+
+pub mapped_next : {A B : Type 0} (f : A → B) (ys ys' : List B) (xs r r' : List A) (x : A) (y : B) → ys ++ map f r ≡ map f xs → r ≡ x ∷ r' → y ≡ f x → ys' ≡ ys ++ (y ∷ []) → ys' ++ map f r' ≡ map f xs
+mapped_next f ys ys' xs r r' x y inv is ey ee =
+    ap (λ z. z ++ map f r') ee ∙ append_assoc ys (y ∷ []) (map f r') ∙ ap (λ z. ys ++ (z ∷ map f r')) ey ∙ ap (λ z. ys ++ map f z) (sym is) ∙ inv
+
+same_before : (o : Option Entry) (fs : List Formal) → formal_before_closed (formal_in o) fs ≡ formal_before o fs
+same_before None fs = refl
+same_before (Some (entry.Variable x)) fs = refl
+same_before (Some (entry.Constant x)) fs = refl
+same_before (Some (entry.Array x n)) fs = refl
+same_before (Some (entry.Formal x)) fs = refl
+same_before (Some (entry.Procedure x n)) fs = refl
+same_before (Some (entry.Class n)) fs = refl
+same_before (Some (entry.Virtual x n)) fs = refl
+same_before (Some (entry.Unspecified x)) fs = refl
+
+pub same_formals : (s : Source) (ds : List DeclNo) → formals_closed s ds ≡ formals_from s ds
+same_formals s [] = refl
+same_formals s (d ∷ ds) = ap (λ z. formal_before_closed (formal_in (entry_of s.tables d)) z) (same_formals s ds) ∙ same_before (entry_of s.tables d) (formals_from s ds)
+
+pub formals_same : (s : Source) (k : ℕ) → formals_of_block s k ≡ formals_of s k
+formals_same s k = cases (slice_get s.tables.blocks k) refl
+  where
+    cases : (o : Option TableBlock) → slice_get s.tables.blocks k ≡ o → formals_of_block s k ≡ formals_of s k
+    cases None e = rw e refl
+    cases (Some x) e = rw e (same_formals s (take x.formals x.numbers))
+
+pub ruleset heads = (push_variable, push_constant, push_array, push_formal, push_procedure, push_class, push_virtual, push_unspecified, push_nothing, push_no_result, push_some_result, cells_found)

@@ -1,0 +1,609 @@
+-- Statements, one part behind another.
+use Rattle.std.proofs.Common.{◌≡◌, ◌≢◌, ◌≤◌, ◌-◌, ℕ, zero, ℤ, pos, suc, Bool, List, [], ◌∷◌, length, map, Option, Some, None, Bor, true, false, refl, sym, ap, ◌∙◌, subst, arith}
+use Rattle.std.specs.Prelude.{⊤, slice_index_or}
+use Rattle.std.specs.Option.{option_copied}
+use Rattle.std.specs.declared.alloc.Global.{Global}
+use Rattle.std.specs.declared.boxed.Box.{Box}
+use Rattle.std.specs.declared.vec.Vec.{Vec}
+use Rattle.sim_base.specs.declared.numbering.DeclNo.{DeclNo}
+use Rattle.sim_base.specs.declared.numbering.TokenNo.{TokenNo}
+use Rattle.sim_scope.specs.declared.bound.Bound.{Bound}
+use Rattle.sim_scope.specs.declared.scopes.Denotation.{Denotation}
+use Rattle.sim_scope.specs.Scopes.{block_at, encloser}
+use Rattle.sim_scope.specs.Source.{Source, block_around, denoted, level_of, line_at, source_of}
+use Rattle.sim_tree.specs.declared.expr.Expr.{Expr}
+use Rattle.sim_tree.specs.declared.expr.Expr.TheVariants as e
+use Rattle.sim_tree.specs.declared.expr.Identifier.{Identifier}
+use Rattle.sim_tree.specs.declared.program.BlockPrefix.{BlockPrefix}
+use Rattle.sim_tree.specs.declared.stmt.Activation.{Activation}
+use Rattle.sim_tree.specs.declared.stmt.Assigned.{Assigned}
+use Rattle.sim_tree.specs.declared.stmt.Assignment.{Assignment}
+use Rattle.sim_tree.specs.declared.stmt.Assignment.TheVariants as assignment
+use Rattle.sim_tree.specs.declared.stmt.Block.{Block}
+use Rattle.sim_tree.specs.declared.stmt.Decl.{Decl}
+use Rattle.sim_tree.specs.declared.stmt.ForElement.{ForElement}
+use Rattle.sim_tree.specs.declared.stmt.ForElement.TheVariants as fe
+use Rattle.sim_tree.specs.declared.stmt.ReferenceElement.{ReferenceElement}
+use Rattle.sim_tree.specs.declared.stmt.Stmt.{Stmt}
+use Rattle.sim_tree.specs.declared.stmt.Stmt.TheVariants as t
+use Rattle.sim_tree.specs.declared.stmt.Timing.{Timing}
+use Rattle.sim_tree.specs.declared.stmt.When.{When}
+use Rattle.sim_tree.specs.Syntax as syntax
+use Rattle.sim_tree.specs.Syntax.{Also, Begin, Expression, Expressions, Named, NoStatement, Statement, declarations, expressions, statements}
+use Rattle.sim_tree.specs.SyntaxOf.{syntax_of}
+use Rattle.sim_tree.specs.SyntaxOfProgram.{block_syntax, declaration_syntax, element_syntax, right_side_syntax, statement_syntax}
+use Rattle.sim_tree.proofs.ProgramSyntaxLemmas as v
+use Rattle.sim_tree.proofs.SyntaxLemmas as u
+use Rattle.sim_code.specs.declared.instr.Instr.{Instr}
+use Rattle.sim_code.specs.declared.instr.Instr.TheVariants as i
+use Rattle.sim_code.specs.Code.{CodeOf}
+use Rattle.sim_meaning.specs.Statements.{are_values, denoted_leaves, leaves, left_sides, right_side}
+use Rattle.codegen_expr.specs.declared.spot.Spot.{Spot}
+use Rattle.codegen_expr.specs.Built.{ActualsBuilt, AreBuilt, IsBuilt, KeyBuilt, NamedBuilt, StandsIn}
+use Rattle.codegen_expr.specs.CodeExpr.{ActualsAt, ElementAt, ExprAt, ExprsAt, NamedAt, block_number, gives, operands}
+use Rattle.codegen_expr.specs.Drafts.{DraftOf, Emits, filled_in, given_up, with_hole, with_instr, with_push}
+use Rattle.codegen_expr.specs.Emit.{PutsNamed, Writes, WritesElement, WritesNamed}
+use Rattle.codegen_expr.specs.Sites.{At, Inside, Is, Pushes, Site, slot_of}
+use Rattle.codegen_expr.proofs.Around.{inside}
+use Rattle.codegen_expr.proofs.Pieces.{emits_as, emits_at, emits_if, emits_loop, emits_none, emits_nothing, emits_push, emits_then, emits_when}
+use Rattle.codegen.specs.declared.left.Left.{Left}
+use Rattle.codegen.specs.declared.left.Left.TheVariants as left
+use Rattle.codegen.specs.BuiltProgram.{AssignBuilt, BlockBuilt, CalledBuilt, ElementBuilt, EnterBuilt, ForBuilt, LeftBuilt, ListBuilt, StatementBuilt, StatementsBuilt}
+use Rattle.codegen.specs.CodeFor.{ForAt, ListAt, OneElementAt, Variable, is_empty}
+use Rattle.codegen.specs.CodeLeft.{AssignAt, AtAddress, InCell, NotBuilt, Stored, each_stored, stored, stored_of}
+use Rattle.sim_meaning.specs.Closing.{is_text}
+use Rattle.codegen.specs.CodeStm.{BlockAt, CalledAt, DropsAt, EnterAt, StmAt, StmsAt}
+use Rattle.codegen.specs.Emit.{OneGoesAt, OwesStatements, WritesAssignment, WritesBlock, WritesCall, WritesCalled, WritesElementOf, WritesFor, WritesList, WritesOne, WritesOneNamed, WritesStatement, WritesStatements}
+use Rattle.codegen.specs.EmitLeft.{FindsIdentifier, FindsLeft, IdentifierIn, IsLeft}
+use Rattle.codegen.proofs.Cells.{cell_there}
+use Rattle.codegen.specs.declared.lists.Shared.{Shared}
+use Rattle.codegen.specs.EmitShared.{TurnBuilt, TurnOf, WritesSent, WritesTurn, begins}
+use Rattle.codegen.proofs.Cycles.{emits_cycle}
+use Rattle.codegen.proofs.Holes.{as_long, emits_here, longer, longer_hole, longer_push, longer_put}
+
+abbrev Place : Type 1
+Place = CodeOf → Site → ℕ → ℕ → Type 0
+
+-- a list of one part
+one_part : {A : Type 0} (l : List A) (a : A) → length l ≡ 1 → a ≡ slice_index_or l 0 a → l ≡ a ∷ []
+one_part [] a one at = absurd (omega (arith, one))
+one_part (x ∷ []) a one at = ap (λ z. z ∷ []) (sym at)
+one_part (x ∷ y ∷ zs) a one at = absurd (omega (arith, one))
+
+some_is : {A : Type 0} (x y : A) → Some x ≡ Some y → x ≡ y
+some_is x y e = cc
+
+module _ (b : Bound) (w : Spot) where
+  -- a tick, and something
+  tick_then : (P : Type 0) (A : Place) (a c d : DraftOf) → c ≡ with_instr a i.Tick 0 → Emits w c d P A → Emits w a d P (λ final site p q. (x : ℕ) × Is final i.Tick p x × A final site x q)
+  tick_then P A a c d ec f =
+      emits_as w (⊤ × P) P _ _ a d (λ h. (tt, h)) (λ h. h.1) (λ final site p q _ _ r. (r.0, record { line = 0; is = r.1 }, r.2))
+      (emits_then w ⊤ P (λ final site p q. At final i.Tick 0 p q) A a c d (emits_at w a c i.Tick 0 ec (λ z. cc) refl) f)
+
+  stm_as : (a c : DraftOf) (x : Stmt) (y : Statement) → statement_syntax x ≡ y → Emits w a c (StatementBuilt (source_of b) w.text y) (λ final site p q. StmAt (source_of b) final site 0 y p q) → WritesStatement b w a c x
+  unfolding WritesStatement
+  stm_as a c x y is f = subst (λ z. Emits w a c (StatementBuilt (source_of b) w.text z) (λ final site p q. StmAt (source_of b) final site 0 z p q)) (sym is) f
+
+  pub write_empty : (a : DraftOf) (x : Stmt) (k : TokenNo) → x ≡ t.Empty k → WritesStatement b w a a x
+  write_empty a x k is = stm_as a a x _ (ap statement_syntax is ∙ v.syntax-Empty k) (emits_none w a)
+
+  pub write_block : (a c d : DraftOf) (x : Stmt) (k : Block) → x ≡ t.Block k → c ≡ with_instr a i.Tick 0 → WritesBlock b w c d k → WritesStatement b w a d x
+  unfolding WritesBlock
+  write_block a c d x k is ec f = stm_as a d x _ (ap statement_syntax is ∙ v.syntax-Block k) (tick_then (BlockBuilt (source_of b) w.text (block_syntax k)) (λ z site. BlockAt (source_of b) z site 0 (block_syntax k)) a c d ec f)
+
+  pub write_call : (a c d : DraftOf) (x : Stmt) (k : Expr) → x ≡ t.Call k → c ≡ with_instr a i.Tick 0 → WritesCall b w c d k → WritesStatement b w a d x
+  unfolding WritesCall
+  write_call a c d x k is ec f = stm_as a d x _ (ap statement_syntax is ∙ v.syntax-Call k)
+      (emits_as w _ _ _ _ a d (λ h. h) (λ h. h) (λ final site p q _ _ r. (r.0, r.2.0, r.1, r.2.1, r.2.2))
+      (tick_then (CalledBuilt (source_of b) w.text (syntax_of k)) (λ final site p q. (y : ℕ) × CalledAt (source_of b) final site 0 (syntax_of k) p y × DropsAt final (leaves (source_of b) (syntax_of k)) y q) a c d ec f))
+
+  pub write_assigned : (a c d : DraftOf) (x : Stmt) (k : Expr) (l : Vec Assigned Global) (xs : List Assigned) → x ≡ t.Assignment k l → xs ≡ l.items → c ≡ with_instr a i.Tick 0 → WritesAssignment b w c d k xs → WritesStatement b w a d x
+  unfolding WritesAssignment
+  write_assigned a c d x k l xs is same ec f =
+      let s = source_of b in
+      let rs = map right_side_syntax xs in
+      let ts = each_stored s (left_sides (syntax_of k) rs) in
+      stm_as a d x _ (ap statement_syntax is ∙ v.syntax-Assignment k l ∙ ap (λ z. syntax.Assign (syntax_of k) (map right_side_syntax z)) (sym same))
+      (tick_then (AssignBuilt s w.text (are_values rs) ts (right_side (syntax_of k) rs)) (λ final site. AssignAt s final site 0 (are_values rs) ts (right_side (syntax_of k) rs)) a c d ec f)
+
+  pub write_when : (c c0 c1 c2 c3 c4 : DraftOf) (x : Stmt) (k : TokenNo) (h : Expr) (p : Box Stmt Global) (o : Option (Box Stmt Global)) (y : Stmt) (jump : ℕ) (end : ℤ) → x ≡ t.If k h p o → o ≡ None → y ≡ p.value → c0 ≡ with_instr c i.Tick 0
+      → Writes b w 0 c0 c1 h → jump ≡ length c1.instrs → c2 ≡ with_hole c1 → WritesStatement b w c2 c3 y → end ≡ pos (length c3.instrs) → c4 ≡ filled_in c3 jump (i.JumpF end) → WritesStatement b w c c4 x
+  unfolding Writes Rattle.codegen_expr.specs.Emit.Puts WritesStatement
+  write_when c c0 c1 c2 c3 c4 x k h p o y jump end is none ey e0 f ej e2 g ee e4 =
+      let s = source_of b in
+      stm_as c c4 x _ (ap statement_syntax (is ∙ ap (λ z. t.If k h p z) none) ∙ v.syntax-If k h p None ∙ ap (λ z. syntax.Choose k.0 (syntax_of h) (statement_syntax z) NoStatement) (sym ey))
+      (emits_as w _ _ _ _ c c4 (λ z. (z.0, z.1)) (λ z. (z.0, z.1, tt)) (λ final site p q _ _ r. r)
+      (tick_then _ _ c c0 c4 e0
+      (emits_when w (IsBuilt s w.text (syntax_of h)) (StatementBuilt s w.text (statement_syntax y)) (λ z site. ExprAt s z site 0 (syntax_of h)) (λ z site. StmAt s z site 0 (statement_syntax y)) c0 c1 c2 c3 c4 jump end f ej e2 g ee e4)))
+
+  pub write_choose : (c c0 c1 c2 c3 c4 c5 c6 c7 : DraftOf) (x : Stmt) (k : TokenNo) (h : Expr) (p r : Box Stmt Global) (o : Option (Box Stmt Global)) (y z : Stmt) (jump over : ℕ) (start end : ℤ) → x ≡ t.If k h p o → o ≡ Some r → y ≡ p.value → z ≡ r.value → c0 ≡ with_instr c i.Tick 0
+      → Writes b w 0 c0 c1 h → jump ≡ length c1.instrs → c2 ≡ with_hole c1 → WritesStatement b w c2 c3 y → over ≡ length c3.instrs → c4 ≡ with_hole c3 → start ≡ pos (length c4.instrs) → WritesStatement b w c4 c5 z → end ≡ pos (length c5.instrs)
+      → c6 ≡ filled_in c5 jump (i.JumpF start) → c7 ≡ filled_in c6 over (i.Jump end) → WritesStatement b w c c7 x
+  unfolding Writes Rattle.codegen_expr.specs.Emit.Puts WritesStatement
+  write_choose c c0 c1 c2 c3 c4 c5 c6 c7 x k h p r o y z jump over start end is some ey ez e0 f ej e2 g eo e4 es j ee e6 e7 =
+      let s = source_of b in
+      let second : Emits w c4 c5 (StatementsBuilt s w.text (Also (statement_syntax z) NoStatement)) (λ final site p q. (u : ℕ) × StmAt s final site 0 (statement_syntax z) p u × StmsAt s final site 0 NoStatement u q) = emits_as w (StatementBuilt s w.text (statement_syntax z)) _ (λ final site p q. StmAt s final site 0 (statement_syntax z) p q) _ c4 c5 (λ d. d.0) (λ d. (d, tt)) (λ final site m n _ _ d. (n, d, refl)) j in
+      stm_as c c7 x _ (ap statement_syntax (is ∙ ap (λ n. t.If k h p n) some) ∙ v.syntax-If k h p (Some r) ∙ ap (λ n. syntax.Choose k.0 (syntax_of h) (statement_syntax n) (Also (statement_syntax r.value) NoStatement)) (sym ey) ∙ ap (λ n. syntax.Choose k.0 (syntax_of h) (statement_syntax y) (Also (statement_syntax n) NoStatement)) (sym ez))
+      (tick_then _ _ c c0 c7 e0
+      (emits_if w (IsBuilt s w.text (syntax_of h)) (StatementBuilt s w.text (statement_syntax y)) (StatementsBuilt s w.text (Also (statement_syntax z) NoStatement)) (λ n site. ExprAt s n site 0 (syntax_of h)) (λ n site. StmAt s n site 0 (statement_syntax y))
+      (λ n site p q. (u : ℕ) × StmAt s n site 0 (statement_syntax z) p u × StmsAt s n site 0 NoStatement u q) c0 c1 c2 c3 c4 c5 c6 c7 jump over start end f ej e2 g eo e4 es second ee e6 e7))
+
+  pub write_while : (c0 c1 c2 c3 c4 c5 c6 new : DraftOf) (x : Stmt) (k : TokenNo) (h : Expr) (p : Box Stmt Global) (y : Stmt) (start end : ℤ) (jump : ℕ) → x ≡ t.While k h p → y ≡ p.value → c1 ≡ with_instr c0 i.Tick 0 → start ≡ pos (length c1.instrs) → c2 ≡ with_instr c1 i.Tick 0
+      → Writes b w 0 c2 c3 h → jump ≡ length c3.instrs → c4 ≡ with_hole c3 → WritesStatement b w c4 c5 y → c6 ≡ with_instr c5 (i.Jump start) 0 → end ≡ pos (length c6.instrs) → new ≡ filled_in c6 jump (i.JumpF end) → WritesStatement b w c0 new x
+  unfolding Writes Rattle.codegen_expr.specs.Emit.Puts WritesStatement
+  write_while c0 c1 c2 c3 c4 c5 c6 new x k h p y start end jump is ey e1 es e2 f ej e4 g e6 ee en =
+      let s = source_of b in
+      stm_as c0 new x _ (ap statement_syntax is ∙ v.syntax-While k h p ∙ ap (λ z. syntax.Repeat k.0 (syntax_of h) (statement_syntax z)) (sym ey))
+      (emits_as w _ _ _ _ c0 new (λ z. (z.0, z.1)) (λ z. (z.0, z.1)) (λ final site m n _ _ r. (r.0, r.2.0, r.2.1, r.1, r.2.2))
+      (tick_then _ _ c0 c1 new e1
+      (emits_loop w (IsBuilt s w.text (syntax_of h)) (StatementBuilt s w.text (statement_syntax y)) (λ z site. ExprAt s z site 0 (syntax_of h)) (λ z site. StmAt s z site 0 (statement_syntax y)) c1 c2 c3 c4 c5 c6 new start end jump es e2 f ej e4 g e6 ee en)))
+
+  -- what is not built
+  unbuilt : (a c : DraftOf) (x : Stmt) (y : Statement) → statement_syntax x ≡ y → (StatementBuilt (source_of b) w.text y → ⊥) → c ≡ given_up a → WritesStatement b w a c x
+  unbuilt a c x y is never ec = stm_as a c x y is (emits_nothing w a c _ _ never ec)
+
+  pub write_prefixed : (a c : DraftOf) (x : Stmt) (p : BlockPrefix) (k : Block) → x ≡ t.PrefixedBlock p k → c ≡ given_up a → WritesStatement b w a c x
+  write_prefixed a c x p k is ec = unbuilt a c x _ (ap statement_syntax is ∙ v.syntax-PrefixedBlock p k) (λ z. z) ec
+
+  pub write_inner : (a c : DraftOf) (x : Stmt) (k : TokenNo) → x ≡ t.Inner k → c ≡ given_up a → WritesStatement b w a c x
+  write_inner a c x k is ec = unbuilt a c x _ (ap statement_syntax is ∙ v.syntax-Inner k) (λ z. z) ec
+
+  pub write_references : (a c : DraftOf) (x : Stmt) (k : TokenNo) (y : Identifier) (n : TokenNo) (l : Vec ReferenceElement Global) (p : Box Stmt Global) → x ≡ t.ForReference k y n l p → c ≡ given_up a → WritesStatement b w a c x
+  write_references a c x k y n l p is ec = unbuilt a c x _ (ap statement_syntax is ∙ v.syntax-ForReference k y n l p) (λ z. z) ec
+
+  pub write_inspect : (a c : DraftOf) (x : Stmt) (k : TokenNo) (h : Expr) (n : TokenNo) (p : Box Stmt Global) (m : TokenNo) (o : Option (Box Stmt Global)) → x ≡ t.Inspect k h n p m o → c ≡ given_up a → WritesStatement b w a c x
+  write_inspect a c x k h n p m o is ec = unbuilt a c x _ (ap statement_syntax is ∙ v.syntax-Inspect k h n p m o) (λ z. z) ec
+
+  pub write_inspect_when : (a c : DraftOf) (x : Stmt) (k : TokenNo) (h : Expr) (l : Vec When Global) (o : Option (Box Stmt Global)) → x ≡ t.InspectWhen k h l o → c ≡ given_up a → WritesStatement b w a c x
+  write_inspect_when a c x k h l o is ec = unbuilt a c x _ (ap statement_syntax is ∙ v.syntax-InspectWhen k h l o) (λ z. z) ec
+
+  pub write_activation : (a c : DraftOf) (x : Stmt) (k : TokenNo) (n : Activation) (h : Expr) (o : Option Timing) → x ≡ t.Activation k n h o → c ≡ given_up a → WritesStatement b w a c x
+  write_activation a c x k n h o is ec = unbuilt a c x _ (ap statement_syntax is ∙ v.syntax-Activation k n h o) (λ z. z) ec
+
+  -- ---- statements one behind another
+
+  pub statements_all : (a : DraftOf) (xs : List Stmt) → OwesStatements b w a xs a xs
+  unfolding OwesStatements
+  statements_all a xs end f = f
+
+  pub statements_next : (a c d : DraftOf) (xs r r' : List Stmt) (x : Stmt) → OwesStatements b w a xs c r → r ≡ x ∷ r' → WritesStatement b w c d x → OwesStatements b w a xs d r'
+  unfolding OwesStatements WritesStatements WritesStatement
+  statements_next a c d xs r r' x f is one end rest =
+      f end (subst (WritesStatements b w c end) (sym is) (emits_then w (StatementBuilt (source_of b) w.text (statement_syntax x)) (StatementsBuilt (source_of b) w.text (statements (map statement_syntax r'))) (λ z site. StmAt (source_of b) z site 0 (statement_syntax x)) (λ z site. StmsAt (source_of b) z site 0 (statements (map statement_syntax r'))) c d end one rest))
+
+  pub statements_none : (a c : DraftOf) (xs r : List Stmt) → OwesStatements b w a xs c r → r ≡ [] → WritesStatements b w a c xs
+  unfolding OwesStatements WritesStatements
+  statements_none a c xs r f is = f c (subst (WritesStatements b w c c) (sym is) (emits_none w c))
+
+  -- ---- blocks
+
+  pub write_body : (a c : DraftOf) (k : Block) (ds : List Decl) (l : List Stmt) → ds ≡ k.declarations.items → length ds ≡ 0 → l ≡ k.statements.items → WritesStatements b w a c l → WritesBlock b w a c k
+  unfolding WritesBlock WritesStatements
+  write_body a c k [] l same none also_ f =
+      let s = source_of b in
+      subst (λ z. Emits w a c (BlockBuilt s w.text z) (λ final site p q. BlockAt s final site 0 z p q)) (sym (v.syntax-block k.token k.declarations k.statements k.end))
+      (subst (λ z. Emits w a c (BlockBuilt s w.text (Begin k.token.0 (declarations (map declaration_syntax z)) (statements (map statement_syntax k.statements.items)) k.end.0)) (λ final site p q. BlockAt s final site 0 (Begin k.token.0 (declarations (map declaration_syntax z)) (statements (map statement_syntax k.statements.items)) k.end.0) p q)) same
+      (subst (λ z. Emits w a c (StatementsBuilt s w.text (statements (map statement_syntax z))) (λ final site p q. StmsAt s final site 0 (statements (map statement_syntax z)) p q)) also_ f))
+  write_body a c k (d ∷ ds) l same none also_ f = absurd (omega (arith, none))
+
+  -- a sub-block, of which the tables have this number
+  entered_as : (a c : DraftOf) (k : Block) (o : Option ℕ) → length k.declarations.items ≢ 0 → o ≡ block_at b.scopes k.token.0
+      → Emits w a c (EnterBuilt (source_of b) w.text o) (λ final site p q. EnterAt (source_of b) final site (line_at (source_of b) k.token.0) o p q) → WritesBlock b w a c k
+  unfolding WritesBlock block_around block_at source_of
+  entered_as a c k o some eo f =
+      subst (λ z. Emits w a c (BlockBuilt (source_of b) w.text z) (λ final site p q. BlockAt (source_of b) final site 0 z p q)) (sym (v.syntax-block k.token k.declarations k.statements k.end)) (cases k.declarations.items some)
+    where
+      cases : (l : List Decl) → length l ≢ 0 → Emits w a c (BlockBuilt (source_of b) w.text (Begin k.token.0 (declarations (map declaration_syntax l)) (statements (map statement_syntax k.statements.items)) k.end.0)) (λ final site p q. BlockAt (source_of b) final site 0 (Begin k.token.0 (declarations (map declaration_syntax l)) (statements (map statement_syntax k.statements.items)) k.end.0) p q)
+      cases [] ne = absurd (ne refl)
+      cases (d ∷ ds) ne = subst (λ z. Emits w a c (EnterBuilt (source_of b) w.text z) (λ final site p q. EnterAt (source_of b) final site (line_at (source_of b) k.token.0) z p q)) eo f
+
+  pub write_nowhere : (a c : DraftOf) (k : Block) (o : Option ℕ) → length k.declarations.items ≢ 0 → o ≡ block_at b.scopes k.token.0 → o ≡ None → c ≡ given_up a → WritesBlock b w a c k
+  write_nowhere a c k o some eo none ec = entered_as a c k None some (sym none ∙ eo) (emits_nothing w a c _ _ (λ z. z) ec)
+
+  pub write_outermost : (a c : DraftOf) (k : Block) (o : Option ℕ) (n : ℕ) → length k.declarations.items ≢ 0 → o ≡ block_at b.scopes k.token.0 → o ≡ Some n → n ≡ 0 → c ≡ given_up a → WritesBlock b w a c k
+  write_outermost a c k o n some eo is zero_ ec = entered_as a c k (Some 0) some (sym (is ∙ ap Some zero_) ∙ eo) (emits_nothing w a c _ _ (λ z. z) ec)
+
+  pub write_elsewhere : (a c : DraftOf) (k : Block) (o : Option ℕ) (n : ℕ) → length k.declarations.items ≢ 0 → o ≡ block_at b.scopes k.token.0 → o ≡ Some n → n ≢ 0 → encloser b.scopes n ≢ Some w.text → c ≡ given_up a → WritesBlock b w a c k
+  unfolding source_of
+  write_elsewhere a c k o zero some eo is ne out ec = absurd (ne refl)
+  write_elsewhere a c k o (suc n) some eo is ne out ec = entered_as a c k (Some (suc n)) some (sym is ∙ eo) (emits_nothing w a c _ _ out ec)
+
+  pub write_entry : (a c : DraftOf) (k : Block) (o : Option ℕ) (n m line : ℕ) (x : Instr) → length k.declarations.items ≢ 0 → o ≡ block_at b.scopes k.token.0 → o ≡ Some n → n ≢ 0 → encloser b.scopes n ≡ Some w.text
+      → m ≡ block_number (source_of b) n → x ≡ i.Enter (pos m) → line ≡ line_at (source_of b) k.token.0 → c ≡ with_instr a x line → WritesBlock b w a c k
+  unfolding source_of
+  write_entry a c k o zero m line x some eo is ne around em ex el ec = absurd (ne refl)
+  write_entry a c k o (suc n) m line x some eo is ne around em ex el ec =
+      let s = source_of b in
+      let same : x ≡ i.Enter (pos (block_number s (suc n))) = ex ∙ ap (λ z. i.Enter (pos z)) em in
+      let put : c ≡ with_instr a (i.Enter (pos (block_number s (suc n)))) (line_at s k.token.0) = ec ∙ ap (λ z. with_instr a z line) same ∙ ap (λ z. with_instr a (i.Enter (pos (block_number s (suc n)))) z) el in
+      entered_as a c k (Some (suc n)) some (sym is ∙ eo)
+      (emits_as w ⊤ _ _ _ a c (λ h. tt) (λ h. around) (λ final site p q stands _ r. (around ∙ ap Some (sym stands), r))
+      (emits_at w a c (i.Enter (pos (block_number s (suc n)))) (line_at s k.token.0) put (λ z. cc) refl))
+
+  -- ---- calls
+
+  pub write_no_name : (a c : DraftOf) (x : Expr) (r : Option (Bor Expr)) → FindsIdentifier (option_copied r) x → r ≡ None → c ≡ given_up a → WritesCall b w a c x
+  unfolding WritesCall FindsIdentifier
+  write_no_name a c x r f none ec = emits_nothing w a c _ _ (no_call (syntax_of x) (λ name es h. subst (λ z. IdentifierIn (option_copied z) x) none f name es h)) ec
+    where
+      no_call : (y : Expression) → ((name : Identifier) (es : Expressions) → y ≡ Named name es → ⊥) → CalledBuilt (source_of b) w.text y → ⊥
+      no_call (syntax.If k h l m) f z = z
+      no_call (syntax.Binary k h l m) f z = z
+      no_call (syntax.Not k h) f z = z
+      no_call (syntax.Signed k h l) f z = z
+      no_call (syntax.Member k h l m) f z = z
+      no_call (syntax.Dot k h l m) f z = z
+      no_call (syntax.Qua k h l) f z = z
+      no_call (syntax.Constant k h) f z = z
+      no_call (Named name es) f z = f name es refl
+      no_call (syntax.This k h) f z = z
+      no_call (syntax.New k h l) f z = z
+      no_call (syntax.Parentheses k h) f z = z
+
+  -- the node of an identifier
+  pub named_in : (x : Expr) (r : Option (Bor Expr)) (y : Bor Expr) (name : Identifier) (l : Vec Expr Global) (es : List Expr) → FindsIdentifier (option_copied r) x → r ≡ Some y → y.now ≡ e.Named name l → es ≡ l.items → syntax_of x ≡ Named name (expressions (map syntax_of es))
+  unfolding FindsIdentifier
+  named_in x r y name l es f some is ee =
+      let g : IdentifierIn (Some y.now) x = subst (λ z. IdentifierIn (option_copied z) x) some f in
+      sym g.0 ∙ ap syntax_of is ∙ u.syntax-Named name l ∙ ap (λ z. Named name (expressions (map syntax_of z))) (sym ee)
+
+  pub write_named_call : (a c : DraftOf) (x : Expr) (r : Option (Bor Expr)) (y : Bor Expr) (name : Identifier) (l : Vec Expr Global) (es : List Expr) → FindsIdentifier (option_copied r) x → r ≡ Some y → y.now ≡ e.Named name l → es ≡ l.items → WritesCalled b w a c name es → WritesCall b w a c x
+  unfolding WritesCall WritesCalled
+  write_named_call a c x r y name l es f some is ee g =
+      subst (λ z. Emits w a c (CalledBuilt (source_of b) w.text z) (λ final site p q. (k : ℕ) × CalledAt (source_of b) final site 0 z p k × DropsAt final (leaves (source_of b) z) k q)) (sym (named_in x r y name l es f some is ee)) g
+
+  -- a value is left, or none, just as is given
+  called : (a c d : DraftOf) (x : Identifier) (es : List Expr) (o : Option Denotation) (k : Bool) → o ≡ denoted (source_of b) x.token.0 → k ≡ denoted_leaves (source_of b) o → k ≡ gives (source_of b) o → WritesNamed b w 0 a c x.token o es
+      → Emits w c d ⊤ (λ final site p q. DropsAt final k p q) → WritesCalled b w a d x es
+  unfolding WritesCalled WritesNamed PutsNamed
+  called a c d x es o k eo el eg f g =
+      let s = source_of b in
+      let xs = expressions (map syntax_of es) in
+      let same : denoted_leaves s (denoted s x.token.0) ≡ gives s (denoted s x.token.0) = ap (denoted_leaves s) (sym eo) ∙ sym el ∙ eg ∙ ap (gives s) eo in
+      let drops : denoted_leaves s (denoted s x.token.0) ≡ k = ap (denoted_leaves s) (sym eo) ∙ sym el in
+      let f' = subst (λ z. Emits w a c (NamedBuilt s w.text z xs (AreBuilt s w.text xs) (λ formals. ActualsBuilt s w.text xs formals)) (λ final site p q. NamedAt s final site 0 (line_at s x.token.0) z xs (λ m n. ExprsAt s final site 0 xs m n) (λ m n. ExprsAt s final site 1 xs m n) (λ formals m n. ActualsAt s final site 1 (line_at s x.token.0) xs formals m n) p q)) eo f in
+      emits_as w _ _ _ _ a d (λ h. (h.1, tt)) (λ h. (same, h.0)) (λ final site p q _ _ r. (r.0, (same, r.1), subst (λ z. DropsAt final z r.0 q) (sym drops) r.2))
+      (emits_then w _ ⊤ _ (λ final site p q. DropsAt final k p q) a c d f' g)
+
+  pub write_dropped : (a c d : DraftOf) (x : Identifier) (es : List Expr) (o : Option Denotation) (k m : Bool) → o ≡ denoted (source_of b) x.token.0 → k ≡ denoted_leaves (source_of b) o → k ≡ true → m ≡ gives (source_of b) o → m ≡ true → WritesNamed b w 0 a c x.token o es → d ≡ with_instr c i.Pop 0 → WritesCalled b w a d x es
+  write_dropped a c d x es o k m eo el is eg gs f ed =
+      called a c d x es o true eo (sym is ∙ el) (sym gs ∙ eg) f (emits_as w ⊤ ⊤ _ _ c d (λ h. h) (λ h. h) (λ final site p q _ _ r. record { line = 0; is = r }) (emits_at w c d i.Pop 0 ed (λ z. cc) refl))
+
+  pub write_kept : (a c : DraftOf) (x : Identifier) (es : List Expr) (o : Option Denotation) (k m : Bool) → o ≡ denoted (source_of b) x.token.0 → k ≡ denoted_leaves (source_of b) o → k ≡ false → m ≡ gives (source_of b) o → m ≡ false → WritesNamed b w 0 a c x.token o es → WritesCalled b w a c x es
+  write_kept a c x es o k m eo el is eg gs f = called a c c x es o false eo (sym is ∙ el) (sym gs ∙ eg) f (emits_none w c)
+
+  uncalled : (a c : DraftOf) (x : Identifier) (es : List Expr) (o : Option Denotation) (k m : Bool) → o ≡ denoted (source_of b) x.token.0 → k ≡ denoted_leaves (source_of b) o → m ≡ gives (source_of b) o → (k ≡ m → ⊥) → c ≡ given_up a → WritesCalled b w a c x es
+  unfolding WritesCalled
+  uncalled a c x es o k m eo el eg never ec =
+      let s = source_of b in
+      emits_nothing w a c _ _ (λ h. never (el ∙ ap (denoted_leaves s) eo ∙ h.0 ∙ ap (gives s) (sym eo) ∙ sym eg)) ec
+
+  pub write_lost : (a c : DraftOf) (x : Identifier) (es : List Expr) (o : Option Denotation) (k m : Bool) → o ≡ denoted (source_of b) x.token.0 → k ≡ denoted_leaves (source_of b) o → k ≡ true → m ≡ gives (source_of b) o → m ≡ false → c ≡ given_up a → WritesCalled b w a c x es
+  write_lost a c x es o k m eo el is eg gs ec = uncalled a c x es o k m eo el eg (λ h. cc) ec
+
+  pub write_stays : (a c : DraftOf) (x : Identifier) (es : List Expr) (o : Option Denotation) (k m : Bool) → o ≡ denoted (source_of b) x.token.0 → k ≡ denoted_leaves (source_of b) o → k ≡ false → m ≡ gives (source_of b) o → m ≡ true → c ≡ given_up a → WritesCalled b w a c x es
+  write_stays a c x es o k m eo el is eg gs ec = uncalled a c x es o k m eo el eg (λ h. cc) ec
+
+  -- ---- assignments
+
+  pub write_one : (a c : DraftOf) (x v : Expr) (r : Option (Bor Expr)) (y : Bor Expr) (name : Identifier) (l : Vec Expr Global) (es : List Expr) → FindsIdentifier (option_copied r) x → r ≡ Some y → y.now ≡ e.Named name l → es ≡ l.items → WritesOneNamed b w a c name es v → WritesOne b w a c x v
+  unfolding WritesOne WritesOneNamed
+  write_one a c x v r y name l es f some is ee g =
+      let s = source_of b in
+      subst (λ z. Emits w a c (LeftBuilt s w.text (stored s z) × IsBuilt s w.text (syntax_of v)) (λ final site p q. OneGoesAt s final site (stored s z) (syntax_of v) p q)) (sym (named_in x r y name l es f some is ee)) g
+
+  pub no_store : (s : Source) (k : ℕ) (texts : Bool) (y : Expression) → ((name : Identifier) (es : Expressions) → y ≡ Named name es → ⊥) → LeftBuilt s k (stored_of texts s y) → ⊥
+  no_store s k true (syntax.If g h l m) f z = z
+  no_store s k true (syntax.Binary g h l m) f z = z
+  no_store s k true (syntax.Not g h) f z = z
+  no_store s k true (syntax.Signed g h l) f z = z
+  no_store s k true (syntax.Member g h l m) f z = z
+  no_store s k true (syntax.Dot g h l m) f z = z
+  no_store s k true (syntax.Qua g h l) f z = z
+  no_store s k true (syntax.Constant g h) f z = z
+  no_store s k true (Named name es) f z = z
+  no_store s k true (syntax.This g h) f z = z
+  no_store s k true (syntax.New g h l) f z = z
+  no_store s k true (syntax.Parentheses g h) f z = z
+  no_store s k false (syntax.If g h l m) f z = z
+  no_store s k false (syntax.Binary g h l m) f z = z
+  no_store s k false (syntax.Not g h) f z = z
+  no_store s k false (syntax.Signed g h l) f z = z
+  no_store s k false (syntax.Member g h l m) f z = z
+  no_store s k false (syntax.Dot g h l m) f z = z
+  no_store s k false (syntax.Qua g h l) f z = z
+  no_store s k false (syntax.Constant g h) f z = z
+  no_store s k false (Named name es) f z = f name es refl
+  no_store s k false (syntax.This g h) f z = z
+  no_store s k false (syntax.New g h l) f z = z
+  no_store s k false (syntax.Parentheses g h) f z = z
+
+  pub write_no_left : (a c : DraftOf) (x v : Expr) (r : Option (Bor Expr)) → FindsIdentifier (option_copied r) x → r ≡ None → c ≡ given_up a → WritesOne b w a c x v
+  unfolding WritesOne FindsIdentifier
+  write_no_left a c x v r f none ec = emits_nothing w a c _ _ (λ h. no_store (source_of b) w.text (is_text (source_of b) (syntax_of x)) (syntax_of x) (λ name es i. subst (λ z. IdentifierIn (option_copied z) x) none f name es i) h.0) ec
+
+  count : (es : List Expr) → operands (expressions (map syntax_of es)) ≡ length es
+  count [] = refl
+  count (x ∷ xs) = ap suc (count xs)
+
+  -- what a left side is found to be
+  pub left_is : (name : Identifier) (es : List Expr) (n : ℕ) (r r' : Left) → FindsLeft b w name.token n r → n ≡ length es → r ≡ r' → IsLeft (source_of b) w (expressions (map syntax_of es)) (line_at (source_of b) name.token.0) r' (stored (source_of b) (Named name (expressions (map syntax_of es))))
+  unfolding FindsLeft
+  left_is name es n r r' f en er = subst (λ z. IsLeft (source_of b) w (expressions (map syntax_of es)) (line_at (source_of b) name.token.0) z (stored (source_of b) (Named name (expressions (map syntax_of es))))) er (f name (expressions (map syntax_of es)) refl (count es ∙ sym en))
+
+  pub write_one_cell : (c0 c1 c2 : DraftOf) (name : Identifier) (es : List Expr) (v : Expr) (n level slot : ℕ) (r : Left) (x : Instr) → FindsLeft b w name.token n r → n ≡ length es → r ≡ left.Cell level slot → Writes b w 0 c0 c1 v → x ≡ i.Store (pos level) (pos slot) → c2 ≡ with_instr c1 x 0 → WritesOneNamed b w c0 c2 name es v
+  unfolding WritesOneNamed Writes Rattle.codegen_expr.specs.Emit.Puts
+  write_one_cell c0 c1 c2 name es v n level slot r x f en er g ex ec =
+      let s = source_of b in
+      let l = left_is name es n r (left.Cell level slot) f en er in
+      let home = l.0 in
+      let key = l.1 in
+      let built : KeyBuilt s w.text home key = l.3 in
+      let at : x ≡ i.Store (pos (level_of s home)) (pos (slot_of s home key)) = ex ∙ ap (λ z. i.Store (pos z) (pos slot)) l.4 ∙ ap (λ z. i.Store (pos (level_of s home)) (pos z)) l.5 in
+      subst (λ z. Emits w c0 c2 (LeftBuilt s w.text z × IsBuilt s w.text (syntax_of v)) (λ final site p q. OneGoesAt s final site z (syntax_of v) p q)) (sym l.2)
+      (emits_as w _ _ _ _ c0 c2 (λ h. (h.1, tt)) (λ h. (built, h.0)) (λ final site p q stands _ k. (here s home site.text stands built.inside, cell_there s home key built.has, (k.0, k.1, record { line = 0; is = k.2 })))
+      (emits_then w _ ⊤ (λ z site. ExprAt s z site 0 (syntax_of v)) (λ final site p q. At final (i.Store (pos (level_of s home)) (pos (slot_of s home key))) 0 p q) c0 c1 c2 g
+      (emits_at w c1 c2 (i.Store (pos (level_of s home)) (pos (slot_of s home key))) 0 (ec ∙ ap (λ z. with_instr c1 z 0) at) (λ z. cc) refl)))
+    where
+      here : (s : Source) (home text : ℕ) → text ≡ w.text → StandsIn s w.text home → Inside s.tables text home
+      here s home text stands h = subst (λ z. Inside s.tables z home) (sym stands) (inside s.tables home (length s.tables.blocks) w.text h.found)
+
+  pub write_one_element : (c0 c1 c2 c3 : DraftOf) (name : Identifier) (es : List Expr) (v : Expr) (n : ℕ) (d : DeclNo) (r : Left) → FindsLeft b w name.token n r → n ≡ length es → r ≡ left.Element d → WritesElement b w 0 c0 c1 name.token d es → Writes b w 1 c1 c2 v → c3 ≡ with_instr c2 i.Put 0 → WritesOneNamed b w c0 c3 name es v
+  unfolding WritesOneNamed WritesElement Writes Rattle.codegen_expr.specs.Emit.Puts
+  write_one_element c0 c1 c2 c3 name es v n d r f en er g h ec =
+      let s = source_of b in
+      let xs = expressions (map syntax_of es) in
+      let line = line_at s name.token.0 in
+      let l = left_is name es n r (left.Element d) f en er in
+      subst (λ z. Emits w c0 c3 (LeftBuilt s w.text z × IsBuilt s w.text (syntax_of v)) (λ final site p q. OneGoesAt s final site z (syntax_of v) p q)) (sym l)
+      (emits_as w _ _ _ _ c0 c3 (λ k. (k.0, (k.1, tt))) (λ k. (k.0, k.1.0)) (λ final site p q stands _ k. (k.0, k.1, (k.2.0, k.2.1, record { line = 0; is = k.2.2 })))
+      (emits_then w _ _ (λ final site p q. ElementAt s final site 0 line d xs (λ m n. ExprsAt s final site 1 xs m n) p q) (λ final site p q. (y : ℕ) × ExprAt s final site 1 (syntax_of v) p y × At final i.Put 0 y q) c0 c1 c3 g
+      (emits_then w _ ⊤ (λ z site. ExprAt s z site 1 (syntax_of v)) (λ final site p q. At final i.Put 0 p q) c1 c2 c3 h (emits_at w c2 c3 i.Put 0 ec (λ z. cc) refl))))
+
+  pub write_one_unbuilt : (a c : DraftOf) (name : Identifier) (es : List Expr) (v : Expr) (n : ℕ) (r : Left) → FindsLeft b w name.token n r → n ≡ length es → r ≡ left.NotBuilt → c ≡ given_up a → WritesOneNamed b w a c name es v
+  unfolding WritesOneNamed
+  write_one_unbuilt a c name es v n r f en er ec = emits_nothing w a c _ _ (λ h. left_is name es n r left.NotBuilt f en er h.0) ec
+
+  pub write_single : (a c : DraftOf) (x : Expr) (l : List Assigned) (k : Assigned) → length l ≡ 1 → k ≡ slice_index_or l 0 k → k.sign ≡ assignment.Value → WritesOne b w a c x k.value → WritesAssignment b w a c x l
+  unfolding WritesAssignment WritesOne
+  write_single a c x l k one at is f =
+      let s = source_of b in
+      let t0 = stored s (syntax_of x) in
+      let v0 = syntax_of k.value in
+      subst (λ z. Emits w a c (AssignBuilt s w.text (are_values (map right_side_syntax z)) (each_stored s (left_sides (syntax_of x) (map right_side_syntax z))) (right_side (syntax_of x) (map right_side_syntax z)))
+      (λ final site p q. AssignAt s final site 0 (are_values (map right_side_syntax z)) (each_stored s (left_sides (syntax_of x) (map right_side_syntax z))) (right_side (syntax_of x) (map right_side_syntax z)) p q)) (sym (one_part l k one at))
+      (signed k.sign is)
+    where
+      signed : (g : Assignment) → g ≡ assignment.Value → Emits w a c (AssignBuilt (source_of b) w.text (are_values ((record { sign = g; token = k.token.0; value = syntax_of k.value }) ∷ [])) (stored (source_of b) (syntax_of x) ∷ []) (syntax_of k.value))
+          (λ final site p q. AssignAt (source_of b) final site 0 (are_values ((record { sign = g; token = k.token.0; value = syntax_of k.value }) ∷ [])) (stored (source_of b) (syntax_of x) ∷ []) (syntax_of k.value) p q)
+      signed assignment.Value h = f
+      signed assignment.Reference h = absurd (cc)
+
+  pub write_reference : (a c : DraftOf) (x : Expr) (l : List Assigned) (k : Assigned) → length l ≡ 1 → k ≡ slice_index_or l 0 k → k.sign ≡ assignment.Reference → c ≡ given_up a → WritesAssignment b w a c x l
+  unfolding WritesAssignment
+  write_reference a c x l k one at is ec = emits_nothing w a c _ _ (λ h. never k.sign is (subst (λ z. AssignBuilt (source_of b) w.text (are_values (map right_side_syntax z)) (each_stored (source_of b) (left_sides (syntax_of x) (map right_side_syntax z))) (right_side (syntax_of x) (map right_side_syntax z))) (one_part l k one at) h)) ec
+    where
+      never : (g : Assignment) → g ≡ assignment.Reference → AssignBuilt (source_of b) w.text (are_values ((record { sign = g; token = k.token.0; value = syntax_of k.value }) ∷ [])) (stored (source_of b) (syntax_of x) ∷ []) (syntax_of k.value) → ⊥
+      never assignment.Reference h z = z
+      never assignment.Value h z = cc
+
+  pub write_not_single : (a c : DraftOf) (x : Expr) (l : List Assigned) → length l ≡ 0 → c ≡ given_up a → WritesAssignment b w a c x l
+  unfolding WritesAssignment
+  write_not_single a c x l none ec = emits_nothing w a c _ _ (never l none (are_values (map right_side_syntax l))) ec
+    where
+      never : (l : List Assigned) → length l ≡ 0 → (v : Bool) → AssignBuilt (source_of b) w.text v (each_stored (source_of b) (left_sides (syntax_of x) (map right_side_syntax l))) (right_side (syntax_of x) (map right_side_syntax l)) → ⊥
+      never [] none true h = h
+      never [] none false h = h
+      never (k ∷ ks) none v h = absurd (omega (arith, none))
+
+  -- ---- `for`
+
+  pub write_for_statement : (a c d : DraftOf) (x : Stmt) (k : TokenNo) (y : Identifier) (n : TokenNo) (l : Vec ForElement Global) (es : List ForElement) (p : Box Stmt Global) (z : Stmt) → x ≡ t.For k y n l p → es ≡ l.items → z ≡ p.value → c ≡ with_instr a i.Tick 0 → WritesFor b w c d y es z → WritesStatement b w a d x
+  unfolding WritesFor
+  write_for_statement a c d x k y n l es p z is ee ez ec f =
+      stm_as a d x _ (ap statement_syntax is ∙ v.syntax-For k y n l p ∙ ap (λ m. syntax.For k.0 y assignment.Value n.0 (map element_syntax m) (statement_syntax p.value)) (sym ee) ∙ ap (λ m. syntax.For k.0 y assignment.Value n.0 (map element_syntax es) (statement_syntax m)) (sym ez))
+      (tick_then _ _ a c d ec f)
+
+  no_for : (s : Source) (k : ℕ) (t0 : Stored) (es : List syntax.Element) (Body : Type 0) → ForBuilt s k assignment.Value t0 es Body → LeftBuilt s k t0
+  no_for s k (InCell home key) es Body h = h.0
+  no_for s k (AtAddress d es line) es' Body h = absurd h
+  no_for s k NotBuilt es Body h = h
+
+  pub write_for_unbuilt : (a c : DraftOf) (name : Identifier) (n : ℕ) (es : List ForElement) (z : Stmt) (r : Left) → FindsLeft b w name.token n r → n ≡ 0 → r ≡ left.NotBuilt → c ≡ given_up a → WritesFor b w a c name es z
+  unfolding WritesFor
+  write_for_unbuilt a c name n es z r f en er ec = emits_nothing w a c _ _ (λ h. left_is name [] n r left.NotBuilt f en er (no_for (source_of b) w.text _ _ _ h)) ec
+
+  pub write_for_element : (a c : DraftOf) (name : Identifier) (n : ℕ) (es : List ForElement) (z : Stmt) (d : DeclNo) (r : Left) → FindsLeft b w name.token n r → n ≡ 0 → r ≡ left.Element d → c ≡ given_up a → WritesFor b w a c name es z
+  unfolding WritesFor
+  write_for_element a c name n es z d r f en er ec =
+      let l = left_is name [] n r (left.Element d) f en er in
+      emits_nothing w a c _ _ (λ h. subst (λ m. ForBuilt (source_of b) w.text assignment.Value m (map element_syntax es) (StatementBuilt (source_of b) w.text (statement_syntax z))) l h) ec
+
+  pub write_for_cell : (a c : DraftOf) (name : Identifier) (n : ℕ) (es : List ForElement) (z : Stmt) (level slot : ℕ) (r : Left) → FindsLeft b w name.token n r → n ≡ 0 → r ≡ left.Cell level slot → WritesList b w a c level slot es z → WritesFor b w a c name es z
+  unfolding WritesFor WritesList
+  write_for_cell a c name n es z level slot r f en er g =
+      let s = source_of b in
+      let l = left_is name [] n r (left.Cell level slot) f en er in
+      let home = l.0 in
+      let key = l.1 in
+      let built : KeyBuilt s w.text home key = l.3 in
+      let variable : Variable = record { text = home; key = key } in
+      subst (λ m. Emits w a c (ForBuilt s w.text assignment.Value m (map element_syntax es) (StatementBuilt s w.text (statement_syntax z))) (λ final site p q. ForAt s final site 0 assignment.Value m (is_empty (statement_syntax z)) (map element_syntax es) (λ site. StmAt s final site 0 (statement_syntax z)) p q)) (sym l.2)
+      (emits_as w _ _ _ _ a c (λ h. h.1) (λ h. (built, h)) (λ final site p q stands _ k. (here s home site.text stands built.inside, cell_there s home key built.has, k)) (g variable l.4 l.5))
+    where
+      here : (s : Source) (home text : ℕ) → text ≡ w.text → StandsIn s w.text home → Inside s.tables text home
+      here s home text stands h = subst (λ z. Inside s.tables z home) (sym stands) (inside s.tables home (length s.tables.blocks) w.text h.found)
+
+  pub write_one_of : (a c : DraftOf) (es : List ForElement) (z : Stmt) (level slot : ℕ) (x : ForElement) (on : ℕ) → length es ≡ 1 → x ≡ slice_index_or es 0 x → WritesElementOf b w a c level slot x z None on → WritesList b w a c level slot es z
+  unfolding WritesList WritesElementOf
+  write_one_of a c es z level slot x on one at f variable el ek =
+      let s = source_of b in
+      subst (λ m. Emits w a c (ListBuilt s w.text (map element_syntax m) (StatementBuilt s w.text (statement_syntax z))) (λ final site p q. ListAt s final site 0 variable (is_empty (statement_syntax z)) (map element_syntax m) (λ site. StmAt s final site 0 (statement_syntax z)) p q)) (sym (one_part es x one at))
+      (f variable el ek (omega arith)).2
+
+  pub write_no_element : (a c : DraftOf) (es : List ForElement) (z : Stmt) (level slot : ℕ) → length es ≡ 0 → c ≡ given_up a → WritesList b w a c level slot es z
+  unfolding WritesList
+  write_no_element a c es z level slot none ec variable el ek = emits_nothing w a c _ _ (never es none) ec
+    where
+      never : (es : List ForElement) → length es ≡ 0 → ListBuilt (source_of b) w.text (map element_syntax es) (StatementBuilt (source_of b) w.text (statement_syntax z)) → ⊥
+      never [] none h = h
+      never (x ∷ xs) none h = absurd (omega (arith, none))
+
+  element_as : (a c : DraftOf) (level slot : ℕ) (x : ForElement) (z : Stmt) (k : Option Shared) (on : ℕ) (y : syntax.Element) → element_syntax x ≡ y
+      → ((m : Variable) → level ≡ level_of (source_of b) m.text → slot ≡ slot_of (source_of b) m.text m.key → begins k ≤ length a.instrs → (length a.instrs ≤ on) × (on ≤ length c.instrs) × Emits w a c (ElementBuilt (source_of b) w.text y × TurnBuilt (source_of b) w.text (statement_syntax z) k) (λ final site p q. OneElementAt (source_of b) final site 0 m y (TurnOf (source_of b) final site w.used (statement_syntax z) k on) p q))
+      → WritesElementOf b w a c level slot x z k on
+  unfolding WritesElementOf
+  element_as a c level slot x z k on y is f m el ek le = subst (λ n. (length a.instrs ≤ on) × (on ≤ length c.instrs) × Emits w a c (ElementBuilt (source_of b) w.text n × TurnBuilt (source_of b) w.text (statement_syntax z) k) (λ final site p q. OneElementAt (source_of b) final site 0 m n (TurnOf (source_of b) final site w.used (statement_syntax z) k on) p q)) (sym is) (f m el ek le)
+
+  pub turn_whole : (a c : DraftOf) (z : Stmt) (k : Option Shared) (on : ℕ) → k ≡ None → WritesStatement b w a c z → on ≡ length c.instrs → WritesTurn b w a c z k on
+  unfolding WritesTurn WritesStatement
+  turn_whole a c z k on is f at = subst (λ m. (on ≡ length c.instrs) × (begins m ≤ length a.instrs → Emits w a c (TurnBuilt (source_of b) w.text (statement_syntax z) m) (λ final site p q. TurnOf (source_of b) final site w.used (statement_syntax z) m on p q))) (sym is) (at, λ le. f)
+
+  pub turn_sent : (a c : DraftOf) (z : Stmt) (k : Option Shared) (m : Shared) (on : ℕ) → k ≡ Some m → WritesSent b w a c m.start m.number → on ≡ length c.instrs → WritesTurn b w a c z k on
+  unfolding WritesTurn WritesSent
+  turn_sent a c z k m on is f at = subst (λ n. (on ≡ length c.instrs) × (begins n ≤ length a.instrs → Emits w a c (TurnBuilt (source_of b) w.text (statement_syntax z) n) (λ final site p q. TurnOf (source_of b) final site w.used (statement_syntax z) n on p q))) (sym is) (at, λ le. emits_here w _ _ _ a c (λ final site stands r. (r, sym at)) (f le))
+
+  store_of : (s : Source) (k : Variable) (level slot : ℕ) (x : Instr) → level ≡ level_of s k.text → slot ≡ slot_of s k.text k.key → x ≡ i.Store (pos level) (pos slot) → x ≡ i.Store (pos (level_of s k.text)) (pos (slot_of s k.text k.key))
+  store_of s k level slot x el ek ex = ex ∙ ap (λ z. i.Store (pos z) (pos slot)) el ∙ ap (λ z. i.Store (pos (level_of s k.text)) (pos z)) ek
+
+  load_of : (s : Source) (k : Variable) (level slot : ℕ) (x : Instr) → level ≡ level_of s k.text → slot ≡ slot_of s k.text k.key → x ≡ i.Load (pos level) (pos slot) → x ≡ i.Load (pos (level_of s k.text)) (pos (slot_of s k.text k.key))
+  load_of s k level slot x el ek ex = ex ∙ ap (λ z. i.Load (pos z) (pos slot)) el ∙ ap (λ z. i.Load (pos (level_of s k.text)) (pos z)) ek
+
+  abbrev StoresAt : Source → Variable → Place
+  StoresAt s k final site p q = At final (i.Store (pos (level_of s k.text)) (pos (slot_of s k.text k.key))) 0 p q
+
+  emits_store : (s : Source) (a c : DraftOf) (k : Variable) (x : Instr) → x ≡ i.Store (pos (level_of s k.text)) (pos (slot_of s k.text k.key)) → c ≡ with_instr a x 0 → Emits w a c ⊤ (StoresAt s k)
+  emits_store s a c k x ex ec = emits_at w a c (i.Store (pos (level_of s k.text)) (pos (slot_of s k.text k.key))) 0 (ec ∙ ap (λ z. with_instr a z 0) ex) (λ z. cc) refl
+
+  pub write_once : (c0 c1 c2 c3 c4 : DraftOf) (level slot : ℕ) (x : ForElement) (h : Expr) (z : Stmt) (n : Instr) (turn : Option Shared) (on : ℕ) → x ≡ fe.Value h → c1 ≡ with_instr c0 i.Tick 0 → Writes b w 0 c1 c2 h → n ≡ i.Store (pos level) (pos slot) → c3 ≡ with_instr c2 n 0 → WritesTurn b w c3 c4 z turn on → WritesElementOf b w c0 c4 level slot x z turn on
+  unfolding Writes Rattle.codegen_expr.specs.Emit.Puts WritesTurn
+  write_once c0 c1 c2 c3 c4 level slot x h z n turn on is e1 f en e3 g =
+      let s = source_of b in
+      element_as c0 c4 level slot x z turn on (syntax.Once (syntax_of h)) (ap element_syntax is) (λ k el ek le.
+      let n1 = longer_put c0 c1 i.Tick 0 e1 in
+      let n2 = longer w c1 c2 _ _ f in
+      let n3 = longer_put c2 c3 n 0 e3 in
+      let go = g.1 (omega (arith, le, n1, n2, n3)) in
+      let n4 = longer w c3 c4 _ _ go in
+      let at = g.0 in (
+        omega (arith, at, n1, n2, n3, n4),
+        omega (arith, at),
+        emits_as w _ _ _ _ c0 c4 (λ m. (m.0, (tt, m.1))) (λ m. (m.0, m.1.1)) (λ final site p q _ _ r. record { x = r.0; y = r.2.0; z = r.2.2.0; tick = r.1; value = r.2.1; stored = record { line = 0; is = r.2.2.1 }; turn = r.2.2.2 })
+            (tick_then _ _ c0 c1 c4 e1
+            (emits_then w _ _ (λ m site. ExprAt s m site 0 (syntax_of h)) (λ m site p q. (y : ℕ) × StoresAt s k m site p y × TurnOf s m site w.used (statement_syntax z) turn on y q) c1 c2 c4 f
+            (emits_then w ⊤ _ (StoresAt s k) (λ m site p q. TurnOf s m site w.used (statement_syntax z) turn on p q) c2 c3 c4 (emits_store s c2 c3 k n (store_of s k level slot n el ek en) e3) go))),
+      ))
+
+  pub write_while_element : (c0 c1 c2 c3 c4 c5 c6 c7 c8 : DraftOf) (level slot : ℕ) (x : ForElement) (h m : Expr) (token : TokenNo) (z : Stmt) (n : Instr) (start end : ℤ) (jump : ℕ) (turn : Option Shared) (on : ℕ) → x ≡ fe.While h token m → start ≡ pos (length c0.instrs) → c1 ≡ with_instr c0 i.Tick 0 → Writes b w 0 c1 c2 h → n ≡ i.Store (pos level) (pos slot) → c3 ≡ with_instr c2 n 0
+      → Writes b w 0 c3 c4 m → jump ≡ length c4.instrs → c5 ≡ with_hole c4 → WritesTurn b w c5 c6 z turn on → c7 ≡ with_instr c6 (i.Jump start) 0 → end ≡ pos (length c7.instrs) → c8 ≡ filled_in c7 jump (i.JumpF end) → WritesElementOf b w c0 c8 level slot x z turn on
+  unfolding Writes Rattle.codegen_expr.specs.Emit.Puts WritesTurn
+  write_while_element c0 c1 c2 c3 c4 c5 c6 c7 c8 level slot x h m token z n start end jump turn on is es e1 f en e3 g ej e5 j e7 ee e8 =
+      let s = source_of b in
+      element_as c0 c8 level slot x z turn on (syntax.While (syntax_of h) token.0 (syntax_of m)) (ap element_syntax is) (λ k el ek le.
+      let n1 = longer_put c0 c1 i.Tick 0 e1 in
+      let n2 = longer w c1 c2 _ _ f in
+      let n3 = longer_put c2 c3 n 0 e3 in
+      let n4 = longer w c3 c4 _ _ g in
+      let n5 = longer_hole c4 c5 e5 in
+      let go = j.1 (omega (arith, le, n1, n2, n3, n4, n5)) in
+      let n6 = longer w c5 c6 _ _ go in
+      let n7 = longer_put c6 c7 (i.Jump start) 0 e7 in
+      let n8 = as_long c7 c8 jump (i.JumpF end) e8 in
+      let at = j.0 in (
+        omega (arith, at, n1, n2, n3, n4, n5, n6),
+        omega (arith, at, n7, n8),
+        emits_as w _ _ _ _ c0 c8 (λ o. ((o.0.0, (tt, o.0.1)), o.1)) (λ o. ((o.0.0, o.0.1.1), o.1))
+            (λ final site p q _ _ r. record { x = r.test.0; y = r.test.2.0; z = r.test.2.2.0; u = r.y; b = r.z; w = r.v; tick = r.test.1; value = r.test.2.1; stored = record { line = 0; is = r.test.2.2.1 }; test = r.test.2.2.2; jump = r.jump; leads = r.leads; turn = r.body; «back» = r.«back»; behind = r.behind })
+            (emits_cycle w _ _ _ (λ o site p q. TurnOf s o site w.used (statement_syntax z) turn on p q) c0 c4 c5 c6 c7 c8 start end jump es
+            (tick_then _ _ c0 c1 c4 e1
+            (emits_then w _ _ (λ o site. ExprAt s o site 0 (syntax_of h)) (λ o site p q. (y : ℕ) × StoresAt s k o site p y × ExprAt s o site 0 (syntax_of m) y q) c1 c2 c4 f
+            (emits_then w ⊤ _ (StoresAt s k) (λ o site. ExprAt s o site 0 (syntax_of m)) c2 c3 c4 (emits_store s c2 c3 k n (store_of s k level slot n el ek en) e3) g)))
+            ej e5 go e7 ee e8),
+      ))
+
+  pub write_step : (c0 c1 c2 c3 c4 c5 c6 c7 c8 c9 c10 c11 c12 c13 c14 c15 c16 : DraftOf) (level slot line : ℕ) (x : ForElement) (h m o : Expr) (token : TokenNo) (z : Stmt) (n1 n2 n3 n4 : Instr) (test end : ℤ) (jump : ℕ) (turn : Option Shared) (on : ℕ) → x ≡ fe.Step h token m o
+      → Writes b w 0 c0 c1 h → n1 ≡ i.Store (pos level) (pos slot) → c2 ≡ with_instr c1 n1 0 → Writes b w 0 c2 c3 m → test ≡ pos (length c3.instrs) → c4 ≡ with_instr c3 i.Tick 0 → n2 ≡ i.Load (pos level) (pos slot) → c5 ≡ with_push c4 1 n2 0 → Writes b w 2 c5 c6 o → c7 ≡ with_instr c6 i.StepTest 0
+      → jump ≡ length c7.instrs → c8 ≡ with_hole c7 → WritesTurn b w c8 c9 z turn on → Writes b w 0 c9 c10 m → c11 ≡ with_push c10 1 i.Dup 0 → n3 ≡ i.Load (pos level) (pos slot) → c12 ≡ with_push c11 2 n3 0 → line ≡ line_at (source_of b) token.0 → c13 ≡ with_instr c12 i.Add line → n4 ≡ i.Store (pos level) (pos slot) → c14 ≡ with_instr c13 n4 0
+      → c15 ≡ with_instr c14 (i.Jump test) 0 → end ≡ pos (length c15.instrs) → c16 ≡ filled_in c15 jump (i.JumpF end) → WritesElementOf b w c0 c16 level slot x z turn on
+  unfolding Writes Rattle.codegen_expr.specs.Emit.Puts WritesTurn
+  write_step c0 c1 c2 c3 c4 c5 c6 c7 c8 c9 c10 c11 c12 c13 c14 c15 c16 level slot line x h m o token z n1 n2 n3 n4 test end jump turn on is f1 en1 e2 f3 et e4 en2 e5 f6 e7 ej e8 f9 f10 e11 en3 e12 el13 e13 en4 e14 e15 ee e16 =
+      let s = source_of b in
+      let at = line_at s token.0 in
+      element_as c0 c16 level slot x z turn on (syntax.Step (syntax_of h) token.0 (syntax_of m) (syntax_of o)) (ap element_syntax is) (λ k el ek le.
+      let t1 = longer w c0 c1 _ _ f1 in
+      let t2 = longer_put c1 c2 n1 0 e2 in
+      let t3 = longer w c2 c3 _ _ f3 in
+      let t4 = longer_put c3 c4 i.Tick 0 e4 in
+      let t5 = longer_push c4 c5 1 n2 0 e5 in
+      let t6 = longer w c5 c6 _ _ f6 in
+      let t7 = longer_put c6 c7 i.StepTest 0 e7 in
+      let t8 = longer_hole c7 c8 e8 in
+      let go = f9.1 (omega (arith, le, t1, t2, t3, t4, t5, t6, t7, t8)) in
+      let t9 = longer w c8 c9 _ _ go in
+      let t10 = longer w c9 c10 _ _ f10 in
+      let t11 = longer_push c10 c11 1 i.Dup 0 e11 in
+      let t12 = longer_push c11 c12 2 n3 0 e12 in
+      let t13 = longer_put c12 c13 i.Add line e13 in
+      let t14 = longer_put c13 c14 n4 0 e14 in
+      let t15 = longer_put c14 c15 (i.Jump test) 0 e15 in
+      let t16 = as_long c15 c16 jump (i.JumpF end) e16 in
+      let there = f9.0 in
+      let load = i.Load (pos (level_of s k.text)) (pos (slot_of s k.text k.key)) in (
+        omega (arith, there, t1, t2, t3, t4, t5, t6, t7, t8, t9),
+        omega (arith, there, t10, t11, t12, t13, t14, t15, t16),
+        emits_as w _ _ _ _ c0 c16
+            (λ j. (j.0.0, (tt, (j.0.1, ((tt, (j.0.2, tt)), (j.1, (j.0.1, (tt, (tt, (tt, tt))))))))))
+            (λ j. ((j.0, j.1.1.0, j.1.1.1.0.1.0), j.1.1.1.1.0))
+            (λ final site p q _ _ r.
+            let first = r.2.2.2 in
+            record {
+              a = r.0;
+              b = r.2.0;
+              t = r.2.2.0;
+              c = first.test.0;
+              d = first.test.2.0;
+              e = first.test.2.2.0;
+              f = first.y;
+              g = first.z;
+              h = first.body.0;
+              j = first.body.2.0;
+              k = first.body.2.2.0;
+              l = first.body.2.2.2.0;
+              m = first.body.2.2.2.2.0;
+              w = first.v;
+              first = r.1;
+              stored = record { line = 0; is = r.2.1 };
+              first_step = r.2.2.1;
+              tick = first.test.1;
+              variable = first.test.2.1;
+              last = first.test.2.2.1;
+              test = record { line = 0; is = first.test.2.2.2 };
+              jump = first.jump;
+              leads = first.leads;
+              turn = first.body.1;
+              next_step = first.body.2.1;
+              again = first.body.2.2.1;
+              old = first.body.2.2.2.1;
+              sum = first.body.2.2.2.2.1;
+              raised = record { line = 0; is = first.body.2.2.2.2.2 };
+              «back» = first.«back»;
+              behind = first.behind;
+            })
+            (emits_then w _ _ (λ j site. ExprAt s j site 0 (syntax_of h)) _ c0 c1 c16 f1
+            (emits_then w ⊤ _ (StoresAt s k) _ c1 c2 c16 (emits_store s c1 c2 k n1 (store_of s k level slot n1 el ek en1) e2)
+            (emits_then w _ _ (λ j site. ExprAt s j site 0 (syntax_of m)) _ c2 c3 c16 f3
+            (emits_cycle w _ _ _ _ c3 c7 c8 c14 c15 c16 test end jump et
+            (tick_then _ _ c3 c4 c7 e4
+            (emits_then w ⊤ _ (λ j site p q. Pushes j site 1 load p q) _ c4 c5 c7 (emits_push w c4 c5 1 load 0 (e5 ∙ ap (λ j. with_push c4 1 j 0) (load_of s k level slot n2 el ek en2)) (λ j. cc) refl)
+            (emits_then w _ ⊤ (λ j site. ExprAt s j site 2 (syntax_of o)) (λ j site p q. At j i.StepTest 0 p q) c5 c6 c7 f6 (emits_at w c6 c7 i.StepTest 0 e7 (λ j. cc) refl))))
+            ej e8
+            (emits_then w _ _ (λ j site p q. TurnOf s j site w.used (statement_syntax z) turn on p q) _ c8 c9 c14 go
+            (emits_then w _ _ (λ j site. ExprAt s j site 0 (syntax_of m)) _ c9 c10 c14 f10
+            (emits_then w ⊤ _ (λ j site p q. Pushes j site 1 i.Dup p q) _ c10 c11 c14 (emits_push w c10 c11 1 i.Dup 0 e11 (λ j. cc) refl)
+            (emits_then w ⊤ _ (λ j site p q. Pushes j site 2 load p q) _ c11 c12 c14 (emits_push w c11 c12 2 load 0 (e12 ∙ ap (λ j. with_push c11 2 j 0) (load_of s k level slot n3 el ek en3)) (λ j. cc) refl)
+            (emits_then w ⊤ ⊤ (λ j site p q. At j i.Add at p q) (StoresAt s k) c12 c13 c14 (emits_at w c12 c13 i.Add at (e13 ∙ ap (λ j. with_instr c12 i.Add j) el13) (λ j. cc) refl)
+            (emits_store s c13 c14 k n4 (store_of s k level slot n4 el ek en4) e14))))))
+            e15 ee e16)))),
+      ))
+
+pub ruleset writes = (write_empty, write_block, write_call, write_assigned, write_when, write_while, write_for_statement, write_prefixed, write_inner, write_references, write_inspect, write_inspect_when, write_activation, write_body, write_nowhere, write_outermost, write_elsewhere, write_entry, write_no_name, write_named_call, write_dropped, write_kept, write_lost, write_stays, write_one, write_no_left, write_one_cell, write_one_element, write_one_unbuilt, write_single, write_reference, write_for_unbuilt, write_for_element, write_for_cell, write_one_of, write_no_element, write_not_single, write_once, write_while_element, turn_whole, turn_sent)

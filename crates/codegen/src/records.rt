@@ -1,0 +1,184 @@
+//! Records of blocks: what the frames of a text hold.
+ghost use Rattle.std.specs.Prelude.{◌≡◌, ◌≤◌, ◌++◌, [], IfOk, List, OnOk, length, map};
+ghost use Rattle.sim_code.specs.declared.code.CodeType.{CodeType as CodeTypeOf};
+ghost use Rattle.sim_meaning.specs.Entries.{formals_of, numbers_of};
+ghost use Rattle.sim_scope.specs.Source.{source_of};
+ghost use Rattle.codegen_expr.specs.Known.{Known};
+ghost use Rattle.codegen.specs.Compiled.{code_formal as code_formal_of, code_mode as code_mode_of, code_shape as code_shape_of, type_of, type_of_cell, type_of_name as type_of_name_of};
+ghost use Rattle.codegen.specs.EmitProgram.{CellTypes, Padded, PushesCell, PushesCells, PushesResult};
+
+use codegen_expr::{Cells, formals_of_block};
+use sim_base::DeclNo;
+use sim_code::{CodeFormal, CodeMode, CodeType, FormalShape};
+use sim_scope::{Bound, Entry, Formal, FormalKind, Mode, SimType, entry_of};
+use sim_tree::TypeName;
+use std::alloc::{AllocError, Global};
+
+/// The type of a value, as code has it.
+fn code_type(ty: Option<SimType>) -> CodeType
+    ensures { result ≡ type_of ty }
+{
+    match ty {
+        None => CodeType::Nothing,
+        Some(SimType::Integer) => CodeType::Integer,
+        Some(SimType::Boolean) => CodeType::Boolean,
+        Some(SimType::Character) => CodeType::Character,
+        Some(SimType::Text) => CodeType::Text,
+        Some(SimType::Ref(_)) => CodeType::Reference,
+        Some(SimType::NoneType) => CodeType::Reference,
+    }
+}
+
+/// The type of a result, as code has it.
+pub(crate) fn type_of_name(name: &Option<TypeName>) -> CodeType
+    ensures { result ≡ type_of_name_of name.now }
+{
+    match name {
+        None => CodeType::Nothing,
+        Some(TypeName::Integer(_)) => CodeType::Integer,
+        Some(TypeName::Boolean(_)) => CodeType::Boolean,
+        Some(TypeName::Character(_)) => CodeType::Character,
+        Some(TypeName::Text(_)) => CodeType::Text,
+        Some(TypeName::Reference { .. }) => CodeType::Reference,
+    }
+}
+
+/// The cell of a declaration, if it has one.
+#[tactic(auto, using(crate::proofs::Heads::heads))]
+fn push_cell(types: &mut Vec<CodeType>, entry: Option<Entry>) -> Result<(), AllocError>
+    ensures { OnOk result (PushesCell types.old.items types.new.items entry) }
+{
+    match entry {
+        Some(Entry::Variable(ty)) => {
+            types.push(code_type(Some(ty)))?;
+            Ok(())
+        }
+        Some(Entry::Constant(_)) => {
+            types.push(CodeType::Nothing)?;
+            Ok(())
+        }
+        Some(Entry::Array { .. }) => {
+            types.push(CodeType::Nothing)?;
+            Ok(())
+        }
+        Some(Entry::Formal(_)) => {
+            types.push(CodeType::Nothing)?;
+            Ok(())
+        }
+        Some(Entry::Procedure { .. }) => Ok(()),
+        Some(Entry::Class { .. }) => Ok(()),
+        Some(Entry::Virtual { .. }) => Ok(()),
+        Some(Entry::Unspecified { .. }) => Ok(()),
+        None => Ok(()),
+    }
+}
+
+/// What the first cell of a text holds that has a result.
+#[tactic(auto, using(crate::proofs::Heads::heads))]
+fn push_result(types: &mut Vec<CodeType>, result_type: &Option<TypeName>) -> Result<(), AllocError>
+    ensures { OnOk result (PushesResult types.old.items types.new.items result_type.now) }
+{
+    match result_type {
+        None => Ok(()),
+        Some(_) => {
+            types.push(type_of_name(result_type))?;
+            Ok(())
+        }
+    }
+}
+
+/// The cells of declarations, one after the other.
+fn push_cells(bound: &Bound, types: &mut Vec<CodeType>, list: &[DeclNo]) -> Result<(), AllocError>
+    ensures { OnOk result (PushesCells bound.now types.old.items types.new.items list.now) }
+{
+    for item in list {
+        push_cell(types, entry_of(&bound.scopes, *item))?;
+    }
+    Ok(())
+}
+
+/// The declarations of a block.
+#[tactic(auto, unfolding(sim_scope::specs::Source::source_of))]
+fn numbers<'a>(bound: &'a Bound, block: u32) -> &'a [DeclNo]
+    ensures { result.now ≡ numbers_of (source_of bound.now) block }
+{
+    match bound.scopes.blocks().get(block as usize) {
+        Some(block) => block.numbers(),
+        None => &[],
+    }
+}
+
+/// What the cells of a text hold at the entry, without temps.
+#[tactic(auto, using(crate::proofs::Heads::heads))]
+pub(crate) fn cell_types(
+    alloc: Global,
+    bound: &Bound,
+    text: u32,
+    result_type: &Option<TypeName>,
+) -> Result<Vec<CodeType>, AllocError>
+    ensures { IfOk result (λ types. CellTypes bound.now text result_type.now types.items) }
+{
+    let mut types = Vec::new(alloc);
+    push_result(&mut types, result_type)?;
+    push_cells(bound, &mut types, numbers(bound, text))?;
+    Ok(types)
+}
+
+/// Temps behind the cells, up to a size.
+pub(crate) fn pad(types: &mut Vec<CodeType>, size: usize) -> Result<(), AllocError>
+    ensures { OnOk result (Padded types.old.items types.new.items size) }
+{
+    for done in types.len()..size {
+        types.push(CodeType::Nothing)?;
+    }
+    Ok(())
+}
+
+fn code_mode(mode: Mode) -> CodeMode
+    ensures { result ≡ code_mode_of mode }
+{
+    match mode {
+        Mode::ByValue => CodeMode::Value,
+        Mode::ByReference => CodeMode::Reference,
+        Mode::ByName => CodeMode::Name,
+    }
+}
+
+fn code_shape(kind: FormalKind) -> FormalShape
+    ensures { result ≡ code_shape_of kind }
+{
+    match kind {
+        FormalKind::Simple => FormalShape::Simple,
+        FormalKind::Array => FormalShape::Array,
+        FormalKind::Procedure => FormalShape::Procedure,
+    }
+}
+
+fn code_formal(formal: Formal) -> CodeFormal
+    ensures { result ≡ code_formal_of formal }
+{
+    CodeFormal {
+        mode: code_mode(formal.mode),
+        shape: code_shape(formal.kind),
+        code_type: code_type(formal.ty),
+        class: 0,
+    }
+}
+
+/// The formal parameters of a text.
+pub(crate) fn code_formals(
+    alloc: Global,
+    bound: &Bound,
+    cells: &Cells,
+    text: u32,
+) -> Result<Vec<CodeFormal>, AllocError>
+    requires cells { Known bound.now cells.now }
+    ensures { IfOk result (λ formals. formals.items ≡ map code_formal_of (formals_of (source_of bound.now) text)) }
+{
+    let mut formals = Vec::new(alloc);
+    let list = formals_of_block(bound, cells, text);
+    for formal in list {
+        formals.push(code_formal(*formal))?;
+    }
+    Ok(formals)
+}

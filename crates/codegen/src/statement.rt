@@ -1,0 +1,692 @@
+//! Statements, from the tree to instructions.
+ghost use Rattle.std.specs.Prelude.{◌≡◌, ◌≢◌, ◌<◌, IfOk, OnOk, false, length, pos};
+ghost use Rattle.sim_code.specs.declared.instr.Instr.TheVariants as i;
+ghost use Rattle.codegen_expr.specs.Known.{Known};
+ghost use Rattle.codegen.specs.EmitLists.{WritesEach};
+ghost use Rattle.codegen.specs.EmitShared.{PutsTurn, WritesInside, WritesTurn, WritesTurns};
+ghost use Rattle.codegen.specs.CodeFor.{is_empty as is_empty_of};
+ghost use Rattle.sim_tree.specs.SyntaxOfProgram.{statement_syntax};
+ghost use Rattle.codegen.specs.Emit.{WritesAssignment, WritesBlock, WritesCall, WritesCalled, WritesElementOf, WritesFor, WritesList, WritesOne, WritesOneNamed, WritesStatement, WritesStatements};
+
+use crate::identifiers::identifier;
+use crate::leaves::leaves;
+use crate::left::{Left, find_left};
+use crate::lists::{Shared, emit_returns, emit_sent, hole_at, is_empty, jump_to};
+use crate::several::emit_several;
+use codegen_expr::{
+    Cells, Draft, Spot, block_number, deeper, denoted, emit_element, emit_expr, emit_named, gives,
+    line_at, load_instr, store_instr,
+};
+use sim_base::Line;
+use sim_code::Instr;
+use sim_scope::{Bound, block_at, encloser};
+use sim_tree::{Assigned, Assignment, Block, Expr, ForElement, Identifier, Stmt};
+use std::alloc::AllocError;
+
+/// Writes the code of a statement, which stands on no value. The draft stops being whole where a form is not built.
+#[cycle(emit)]
+#[tactic(auto, using(crate::proofs::Statements::writes))]
+pub(crate) fn emit_statement(
+    bound: &Bound,
+    cells: &Cells,
+    spot: Spot,
+    draft: &mut Draft,
+    stmt: &Stmt,
+) -> Result<(), AllocError>
+    requires cells { Known bound.now cells.now }
+    ensures { OnOk result (WritesStatement bound.now spot draft.old draft.new stmt.now) }
+{
+    match stmt {
+        Stmt::Empty { .. } => Ok(()),
+        Stmt::Block { block } => {
+            draft.put(Instr::Tick, Line(0))?;
+            emit_block(bound, cells, spot, draft, block)?;
+            Ok(())
+        }
+        Stmt::Call { call } => {
+            draft.put(Instr::Tick, Line(0))?;
+            emit_call(bound, cells, spot, draft, call)?;
+            Ok(())
+        }
+        Stmt::Assignment { left, rest } => {
+            draft.put(Instr::Tick, Line(0))?;
+            emit_assignment(bound, cells, spot, draft, left, rest)?;
+            Ok(())
+        }
+        Stmt::If {
+            condition,
+            then_branch,
+            else_branch,
+            ..
+        } => match else_branch {
+            Some(second) => {
+                draft.put(Instr::Tick, Line(0))?;
+                emit_expr(bound, cells, spot, draft, 0, condition)?;
+                let jump = draft.here();
+                draft.leave_hole()?;
+                emit_statement(bound, cells, spot, draft, then_branch)?;
+                let over = draft.here();
+                draft.leave_hole()?;
+                let start = draft.place()?;
+                emit_statement(bound, cells, spot, draft, second)?;
+                let end = draft.place()?;
+                draft.fill_in(jump, Instr::JumpF(start));
+                draft.fill_in(over, Instr::Jump(end));
+                Ok(())
+            }
+            None => {
+                draft.put(Instr::Tick, Line(0))?;
+                emit_expr(bound, cells, spot, draft, 0, condition)?;
+                let jump = draft.here();
+                draft.leave_hole()?;
+                emit_statement(bound, cells, spot, draft, then_branch)?;
+                let end = draft.place()?;
+                draft.fill_in(jump, Instr::JumpF(end));
+                Ok(())
+            }
+        },
+        Stmt::While {
+            condition,
+            body,
+            ..
+        } => {
+            draft.put(Instr::Tick, Line(0))?;
+            let start = draft.place()?;
+            draft.put(Instr::Tick, Line(0))?;
+            emit_expr(bound, cells, spot, draft, 0, condition)?;
+            let jump = draft.here();
+            draft.leave_hole()?;
+            emit_statement(bound, cells, spot, draft, body)?;
+            draft.put(Instr::Jump(start), Line(0))?;
+            let end = draft.place()?;
+            draft.fill_in(jump, Instr::JumpF(end));
+            Ok(())
+        }
+        Stmt::For {
+            variable,
+            elements,
+            body,
+            ..
+        } => {
+            draft.put(Instr::Tick, Line(0))?;
+            emit_for(bound, cells, spot, draft, variable, elements, body)?;
+            Ok(())
+        }
+        Stmt::PrefixedBlock { .. } => {
+            draft.give_up();
+            Ok(())
+        }
+        Stmt::Inner { .. } => {
+            draft.give_up();
+            Ok(())
+        }
+        Stmt::ForReference { .. } => {
+            draft.give_up();
+            Ok(())
+        }
+        Stmt::Inspect { .. } => {
+            draft.give_up();
+            Ok(())
+        }
+        Stmt::InspectWhen { .. } => {
+            draft.give_up();
+            Ok(())
+        }
+        Stmt::Activation { .. } => {
+            draft.give_up();
+            Ok(())
+        }
+    }
+}
+
+/// Statements, one behind another.
+#[cycle(emit)]
+#[tactic(auto, using(crate::proofs::Statements::writes))]
+pub(crate) fn emit_statements(
+    bound: &Bound,
+    cells: &Cells,
+    spot: Spot,
+    draft: &mut Draft,
+    list: &[Stmt],
+) -> Result<(), AllocError>
+    requires cells { Known bound.now cells.now }
+    ensures { OnOk result (WritesStatements bound.now spot draft.old draft.new list.now) }
+{
+    for item in list {
+        emit_statement(bound, cells, spot, draft, item)?;
+    }
+    Ok(())
+}
+
+/// A compound statement, or the entry of a sub-block.
+#[cycle(emit)]
+#[tactic(auto, using(crate::proofs::Statements::writes))]
+fn emit_block(
+    bound: &Bound,
+    cells: &Cells,
+    spot: Spot,
+    draft: &mut Draft,
+    block: &Block,
+) -> Result<(), AllocError>
+    requires cells { Known bound.now cells.now }
+    ensures { OnOk result (WritesBlock bound.now spot draft.old draft.new block.now) }
+{
+    if block.declarations.len() == 0 {
+        emit_statements(bound, cells, spot, draft, &block.statements)?;
+        return Ok(());
+    }
+    emit_entry(bound, cells, spot, draft, block)?;
+    Ok(())
+}
+
+/// The instruction that enters a block.
+fn enter(number: u32) -> Instr
+    ensures { result ≡ i.Enter (pos number) }
+{
+    Instr::Enter(i64::from(number))
+}
+
+/// The entry of a sub-block.
+#[tactic(auto, using(crate::proofs::Statements::writes))]
+fn emit_entry(
+    bound: &Bound,
+    cells: &Cells,
+    spot: Spot,
+    draft: &mut Draft,
+    block: &Block,
+) -> Result<(), AllocError>
+    requires cells { Known bound.now cells.now }
+    requires sub_block { length block.now.declarations.items ≢ 0 }
+    ensures { OnOk result (WritesBlock bound.now spot draft.old draft.new block.now) }
+{
+    let Some(text) = block_at(&bound.scopes, block.token) else {
+        draft.give_up();
+        return Ok(());
+    };
+    if text == 0 {
+        draft.give_up();
+        return Ok(());
+    }
+    if encloser(&bound.scopes, text) == Some(spot.text) {
+        draft.put(
+            enter(block_number(bound, cells, text)),
+            line_at(bound, block.token),
+        )?;
+        return Ok(());
+    }
+    draft.give_up();
+    Ok(())
+}
+
+/// A call behind its tick.
+#[tactic(auto, using(crate::proofs::Statements::writes))]
+fn emit_call(
+    bound: &Bound,
+    cells: &Cells,
+    spot: Spot,
+    draft: &mut Draft,
+    call: &Expr,
+) -> Result<(), AllocError>
+    requires cells { Known bound.now cells.now }
+    ensures { OnOk result (WritesCall bound.now spot draft.old draft.new call.now) }
+{
+    let Some(node) = identifier(call) else {
+        draft.give_up();
+        return Ok(());
+    };
+    match node {
+        Expr::Named { name, arguments } => {
+            emit_called(bound, cells, spot, draft, name, arguments)?;
+            Ok(())
+        }
+        _ => {
+            draft.give_up();
+            Ok(())
+        }
+    }
+}
+
+/// A call of an identifier, and what becomes of its value.
+#[tactic(auto, using(crate::proofs::Statements::writes))]
+fn emit_called(
+    bound: &Bound,
+    cells: &Cells,
+    spot: Spot,
+    draft: &mut Draft,
+    name: &Identifier,
+    arguments: &[Expr],
+) -> Result<(), AllocError>
+    requires cells { Known bound.now cells.now }
+    ensures { OnOk result (WritesCalled bound.now spot draft.old draft.new name.now arguments.now) }
+{
+    let denotation = denoted(bound, name.token);
+    if leaves(bound, denotation) {
+        if gives(bound, denotation) {
+            emit_named(
+                bound, cells, spot, draft, 0, name.token, denotation, arguments,
+            )?;
+            draft.put(Instr::Pop, Line(0))?;
+            return Ok(());
+        }
+        draft.give_up();
+        return Ok(());
+    }
+    if gives(bound, denotation) {
+        draft.give_up();
+        return Ok(());
+    }
+    emit_named(
+        bound, cells, spot, draft, 0, name.token, denotation, arguments,
+    )?;
+    Ok(())
+}
+
+/// An assignment behind its tick.
+#[tactic(auto, using(crate::proofs::Statements::writes))]
+fn emit_assignment(
+    bound: &Bound,
+    cells: &Cells,
+    spot: Spot,
+    draft: &mut Draft,
+    left: &Expr,
+    rest: &[Assigned],
+) -> Result<(), AllocError>
+    requires cells { Known bound.now cells.now }
+    ensures { OnOk result (WritesAssignment bound.now spot draft.old draft.new left.now rest.now) }
+{
+    if rest.len() == 1 {
+        let part = &rest[0];
+        match part.sign {
+            Assignment::Value => {
+                emit_one(bound, cells, spot, draft, left, &part.value)?;
+                return Ok(());
+            }
+            Assignment::Reference => {
+                draft.give_up();
+                return Ok(());
+            }
+        }
+    }
+    if rest.len() == 0 {
+        draft.give_up();
+        return Ok(());
+    }
+    emit_several(bound, cells, spot, draft, left, rest)?;
+    Ok(())
+}
+
+/// A value that goes to one left side.
+#[tactic(auto, using(crate::proofs::Statements::writes))]
+fn emit_one(
+    bound: &Bound,
+    cells: &Cells,
+    spot: Spot,
+    draft: &mut Draft,
+    left: &Expr,
+    value: &Expr,
+) -> Result<(), AllocError>
+    requires cells { Known bound.now cells.now }
+    ensures { OnOk result (WritesOne bound.now spot draft.old draft.new left.now value.now) }
+{
+    let Some(node) = identifier(left) else {
+        draft.give_up();
+        return Ok(());
+    };
+    match node {
+        Expr::Named { name, arguments } => {
+            emit_one_named(bound, cells, spot, draft, name, arguments, value)?;
+            Ok(())
+        }
+        _ => {
+            draft.give_up();
+            Ok(())
+        }
+    }
+}
+
+/// A value that goes to an identifier with subscripts, or none.
+#[tactic(auto, using(crate::proofs::Statements::writes))]
+fn emit_one_named(
+    bound: &Bound,
+    cells: &Cells,
+    spot: Spot,
+    draft: &mut Draft,
+    name: &Identifier,
+    subscripts: &[Expr],
+    value: &Expr,
+) -> Result<(), AllocError>
+    requires cells { Known bound.now cells.now }
+    ensures { OnOk result (WritesOneNamed bound.now spot draft.old draft.new name.now subscripts.now value.now) }
+{
+    match find_left(bound, cells, spot, name.token, subscripts.len()) {
+        Left::Cell { level, slot } => {
+            emit_expr(bound, cells, spot, draft, 0, value)?;
+            draft.put(store_instr(level, slot), Line(0))?;
+            Ok(())
+        }
+        Left::Element(array) => {
+            emit_element(bound, cells, spot, draft, 0, name.token, array, subscripts)?;
+            emit_expr(bound, cells, spot, draft, 1, value)?;
+            draft.put(Instr::Put, Line(0))?;
+            Ok(())
+        }
+        Left::NotBuilt => {
+            draft.give_up();
+            Ok(())
+        }
+    }
+}
+
+/// A `for` statement behind its tick.
+#[cycle(emit)]
+#[tactic(auto, using(crate::proofs::Statements::writes))]
+pub(crate) fn emit_for(
+    bound: &Bound,
+    cells: &Cells,
+    spot: Spot,
+    draft: &mut Draft,
+    variable: &Identifier,
+    elements: &[ForElement],
+    body: &Stmt,
+) -> Result<(), AllocError>
+    requires cells { Known bound.now cells.now }
+    ensures { OnOk result (WritesFor bound.now spot draft.old draft.new variable.now elements.now body.now) }
+{
+    match find_left(bound, cells, spot, variable.token, 0) {
+        Left::Cell { level, slot } => {
+            emit_elements(bound, cells, spot, draft, level, slot, elements, body)?;
+            Ok(())
+        }
+        Left::Element(_) => {
+            draft.give_up();
+            Ok(())
+        }
+        Left::NotBuilt => {
+            draft.give_up();
+            Ok(())
+        }
+    }
+}
+
+/// A list of elements over the variable in a cell.
+#[cycle(emit)]
+#[tactic(auto, using(crate::proofs::Statements::writes, crate::proofs::Elements::lists))]
+fn emit_elements(
+    bound: &Bound,
+    cells: &Cells,
+    spot: Spot,
+    draft: &mut Draft,
+    level: u32,
+    slot: u32,
+    elements: &[ForElement],
+    body: &Stmt,
+) -> Result<(), AllocError>
+    requires cells { Known bound.now cells.now }
+    ensures { OnOk result (WritesList bound.now spot draft.old draft.new level slot elements.now body.now) }
+{
+    if elements.len() == 1 {
+        let element = &elements[0];
+        emit_element_of(bound, cells, spot, draft, level, slot, element, body, None)?;
+        return Ok(());
+    }
+    if elements.len() == 0 {
+        draft.give_up();
+        return Ok(());
+    }
+    if is_empty(body) {
+        emit_each(bound, cells, spot, draft, level, slot, elements, body)?;
+        return Ok(());
+    }
+    emit_shared(bound, cells, spot, draft, level, slot, elements, body)?;
+    Ok(())
+}
+
+/// Elements that share a statement: the statement, the ways back, and the elements.
+#[cycle(emit)]
+#[tactic(auto, using(crate::proofs::Turns::turns))]
+fn emit_shared(
+    bound: &Bound,
+    cells: &Cells,
+    spot: Spot,
+    draft: &mut Draft,
+    level: u32,
+    slot: u32,
+    elements: &[ForElement],
+    body: &Stmt,
+) -> Result<(), AllocError>
+    requires cells { Known bound.now cells.now }
+    requires several { 1 < length elements.now }
+    requires stands { is_empty_of (statement_syntax body.now) ≡ false }
+    ensures { OnOk result (WritesList bound.now spot draft.old draft.new level slot elements.now body.now) }
+{
+    draft.take_temp(spot.used)?;
+    let over = draft.here();
+    draft.leave_hole()?;
+    let start = draft.here();
+    emit_inside(bound, cells, spot, draft, body)?;
+    let chain = draft.here();
+    emit_returns(bound, spot, draft, elements)?;
+    let first = draft.here();
+    let jump = jump_to(first)?;
+    draft.fill_in(over, jump);
+    emit_turns(
+        bound, cells, spot, draft, level, slot, elements, body, start, chain,
+    )?;
+    Ok(())
+}
+
+/// The statement, where one temp more is in use.
+#[cycle(emit)]
+#[tactic(auto, using(crate::proofs::Turns::turns))]
+fn emit_inside(
+    bound: &Bound,
+    cells: &Cells,
+    spot: Spot,
+    draft: &mut Draft,
+    body: &Stmt,
+) -> Result<(), AllocError>
+    requires cells { Known bound.now cells.now }
+    ensures { OnOk result (WritesInside bound.now spot draft.old draft.new body.now) }
+{
+    let used = deeper(spot.used)?;
+    let inner = Spot {
+        text: spot.text,
+        used,
+    };
+    emit_statement(bound, cells, inner, draft, body)?;
+    Ok(())
+}
+
+/// Elements whose turns go to a shared statement. Behind it, from `chain` on, stand the ways back.
+#[cycle(emit)]
+fn emit_turns(
+    bound: &Bound,
+    cells: &Cells,
+    spot: Spot,
+    draft: &mut Draft,
+    level: u32,
+    slot: u32,
+    elements: &[ForElement],
+    body: &Stmt,
+    start: usize,
+    chain: usize,
+) -> Result<(), AllocError>
+    requires cells { Known bound.now cells.now }
+    requires some { 0 < length elements.now }
+    ensures { OnOk result (WritesTurns bound.now spot draft.old draft.new level slot elements.now start chain 0) }
+{
+    let last = elements.len() - 1;
+    for number in 0..last {
+        let hole = hole_at(chain, number, 4)?;
+        let element = &elements[number];
+        let turn = Shared { start, number };
+        emit_turn_at(
+            bound, cells, spot, draft, level, slot, element, body, turn, hole,
+        )?;
+    }
+    let hole = hole_at(chain, last, 0)?;
+    let element = &elements[last];
+    let turn = Shared {
+        start,
+        number: last,
+    };
+    emit_turn_at(
+        bound, cells, spot, draft, level, slot, element, body, turn, hole,
+    )?;
+    Ok(())
+}
+
+/// An element whose turns go to a shared statement, and the jump back to it.
+#[cycle(emit)]
+#[tactic(auto, using(crate::proofs::Turns::turns))]
+fn emit_turn_at(
+    bound: &Bound,
+    cells: &Cells,
+    spot: Spot,
+    draft: &mut Draft,
+    level: u32,
+    slot: u32,
+    element: &ForElement,
+    body: &Stmt,
+    turn: Shared,
+    hole: usize,
+) -> Result<(), AllocError>
+    requires cells { Known bound.now cells.now }
+    ensures { OnOk result (PutsTurn bound.now spot draft.old draft.new level slot element.now turn.start turn.number hole) }
+{
+    let on = emit_element_of(
+        bound,
+        cells,
+        spot,
+        draft,
+        level,
+        slot,
+        element,
+        body,
+        Some(turn),
+    )?;
+    let jump = jump_to(on)?;
+    draft.fill_in(hole, jump);
+    Ok(())
+}
+
+/// Elements, each with the statement.
+#[cycle(emit)]
+#[tactic(auto, using(crate::proofs::Statements::writes))]
+fn emit_each(
+    bound: &Bound,
+    cells: &Cells,
+    spot: Spot,
+    draft: &mut Draft,
+    level: u32,
+    slot: u32,
+    elements: &[ForElement],
+    body: &Stmt,
+) -> Result<(), AllocError>
+    requires cells { Known bound.now cells.now }
+    ensures { OnOk result (WritesEach bound.now spot draft.old draft.new level slot elements.now body.now) }
+{
+    for element in elements {
+        emit_element_of(bound, cells, spot, draft, level, slot, element, body, None)?;
+    }
+    Ok(())
+}
+
+/// The turn of an element: the statement, or what goes to it where it is shared. The answer is the place behind it.
+#[cycle(emit)]
+#[tactic(auto, using(crate::proofs::Statements::writes))]
+fn emit_turn(
+    bound: &Bound,
+    cells: &Cells,
+    spot: Spot,
+    draft: &mut Draft,
+    body: &Stmt,
+    shared: Option<Shared>,
+) -> Result<usize, AllocError>
+    requires cells { Known bound.now cells.now }
+    ensures { IfOk result (λ on. WritesTurn bound.now spot draft.old draft.new body.now shared on) }
+{
+    match shared {
+        None => {
+            emit_statement(bound, cells, spot, draft, body)?;
+            Ok(draft.here())
+        }
+        Some(turn) => {
+            emit_sent(bound, spot, draft, turn)?;
+            Ok(draft.here())
+        }
+    }
+}
+
+/// One element with its turns. The answer is the place where a turn goes on.
+#[cycle(emit)]
+#[tactic(auto, using(crate::proofs::Statements::writes))]
+fn emit_element_of(
+    bound: &Bound,
+    cells: &Cells,
+    spot: Spot,
+    draft: &mut Draft,
+    level: u32,
+    slot: u32,
+    element: &ForElement,
+    body: &Stmt,
+    shared: Option<Shared>,
+) -> Result<usize, AllocError>
+    requires cells { Known bound.now cells.now }
+    ensures { IfOk result (λ on. WritesElementOf bound.now spot draft.old draft.new level slot element.now body.now shared on) }
+{
+    match element {
+        ForElement::Value { value } => {
+            draft.put(Instr::Tick, Line(0))?;
+            emit_expr(bound, cells, spot, draft, 0, value)?;
+            draft.put(store_instr(level, slot), Line(0))?;
+            let on = emit_turn(bound, cells, spot, draft, body, shared)?;
+            Ok(on)
+        }
+        ForElement::While {
+            value,
+            condition,
+            ..
+        } => {
+            let start = draft.place()?;
+            draft.put(Instr::Tick, Line(0))?;
+            emit_expr(bound, cells, spot, draft, 0, value)?;
+            draft.put(store_instr(level, slot), Line(0))?;
+            emit_expr(bound, cells, spot, draft, 0, condition)?;
+            let jump = draft.here();
+            draft.leave_hole()?;
+            let on = emit_turn(bound, cells, spot, draft, body, shared)?;
+            draft.put(Instr::Jump(start), Line(0))?;
+            let end = draft.place()?;
+            draft.fill_in(jump, Instr::JumpF(end));
+            Ok(on)
+        }
+        ForElement::Step {
+            start: first,
+            token,
+            step,
+            limit,
+        } => {
+            emit_expr(bound, cells, spot, draft, 0, first)?;
+            draft.put(store_instr(level, slot), Line(0))?;
+            emit_expr(bound, cells, spot, draft, 0, step)?;
+            let test = draft.place()?;
+            draft.put(Instr::Tick, Line(0))?;
+            draft.push(1, load_instr(level, slot), Line(0))?;
+            emit_expr(bound, cells, spot, draft, 2, limit)?;
+            draft.put(Instr::StepTest, Line(0))?;
+            let jump = draft.here();
+            draft.leave_hole()?;
+            let on = emit_turn(bound, cells, spot, draft, body, shared)?;
+            emit_expr(bound, cells, spot, draft, 0, step)?;
+            draft.push(1, Instr::Dup, Line(0))?;
+            draft.push(2, load_instr(level, slot), Line(0))?;
+            draft.put(Instr::Add, line_at(bound, *token))?;
+            draft.put(store_instr(level, slot), Line(0))?;
+            draft.put(Instr::Jump(test), Line(0))?;
+            let end = draft.place()?;
+            draft.fill_in(jump, Instr::JumpF(end));
+            Ok(on)
+        }
+    }
+}

@@ -1,0 +1,313 @@
+-- Identifiers with their operands.
+use Rattle.std.proofs.Common.{◌≡◌, ◌≢◌, ◌<◌, ◌+◌, ℕ, pos, suc, Bool, List, [], ◌∷◌, length, map, drop, Option, Some, None, true, false, refl, sym, ap, ◌∙◌, subst, arith}
+use Rattle.std.specs.Prelude.{⊤, option_map}
+use Rattle.sim_base.specs.declared.numbering.DeclNo.{DeclNo}
+use Rattle.sim_base.specs.declared.numbering.TokenNo.{TokenNo}
+use Rattle.sim_scope.specs.declared.bound.Bound.{Bound}
+use Rattle.sim_scope.specs.declared.scopes.Denotation.{Denotation}
+use Rattle.sim_scope.specs.declared.scopes.Denotation.TheVariants as denotation
+use Rattle.sim_scope.specs.declared.standard.Standard.{Standard}
+use Rattle.sim_scope.specs.declared.types.Entry.{Entry}
+use Rattle.sim_scope.specs.declared.types.Entry.TheVariants as entry
+use Rattle.sim_scope.specs.declared.types.Formal.{Formal}
+use Rattle.sim_scope.specs.declared.types.FormalKind.{FormalKind}
+use Rattle.sim_scope.specs.declared.types.FormalKind.TheVariants as shape
+use Rattle.sim_scope.specs.declared.types.Mode.{Mode}
+use Rattle.sim_scope.specs.declared.types.Mode.TheVariants as mode
+use Rattle.sim_scope.specs.declared.types.SimType.{SimType}
+use Rattle.sim_scope.specs.Scopes.{block_in, entry_of, formals_of}
+use Rattle.sim_scope.specs.Scopes.{formals_at as formals_at_block}
+use Rattle.sim_scope.specs.Source.{Source, block_of, denoted, level_of, line_at, source_of}
+use Rattle.sim_tree.specs.declared.expr.Expr.{Expr}
+use Rattle.sim_tree.specs.declared.expr.Identifier.{Identifier}
+use Rattle.sim_tree.specs.Syntax.{Expression, Expressions, Named, NoMore, Then, expressions}
+use Rattle.sim_tree.specs.SyntaxOf.{syntax_of}
+use Rattle.sim_values.specs.Plain.{Plain}
+use Rattle.sim_code.specs.declared.instr.Instr.{Instr}
+use Rattle.sim_code.specs.declared.instr.Instr.TheVariants as i
+use Rattle.sim_code.specs.Code.{CodeOf}
+use Rattle.sim_meaning.specs.Closing.{formals_at, formals_from, is_text_type}
+use Rattle.sim_meaning.specs.Texts.{constant_of}
+use Rattle.codegen_expr.specs.declared.cells.ConstantValue.{ConstantValue}
+use Rattle.codegen_expr.specs.declared.cells.ConstantValue.TheVariants as constant
+use Rattle.codegen_expr.specs.declared.operators.Passed.{Passed}
+use Rattle.codegen_expr.specs.declared.operators.Passed.TheVariants as passed
+use Rattle.codegen_expr.specs.declared.operators.Seen.{Seen}
+use Rattle.codegen_expr.specs.declared.operators.Seen.TheVariants as seen
+use Rattle.codegen_expr.specs.declared.spot.Spot.{Spot}
+use Rattle.codegen_expr.specs.Built.{ActualBuilt, ActualsBuilt, AreBuilt, CallBuilt, ConstantBuilt, DeclaredBuilt, IsBuilt, FormalBuilt, NamedBuilt, PlainBuilt, StandsIn, is_around}
+use Rattle.codegen_expr.specs.CodeExpr.{ActualAt, ActualsAt, CallAt, ConstantAt, DeclaredAt, ElementAt, ExprAt, ExprsAt, FormalAt, NamedAt, block_number, gives, operands}
+use Rattle.codegen_expr.specs.Drafts.{DraftOf, Emits, given_up, with_instr, with_push}
+use Rattle.codegen_expr.specs.Emit.{IsSmall, OwesActuals, Puts, PutsNamed, PutsSeen, SeenAt, SeenBuilt, Writes, WritesActual, WritesActuals, WritesCall, WritesCell, WritesConstant, WritesElement, WritesGiving, WritesLink, WritesNamed, WritesSeen, WritesStandard, formals_of_block, instr_of, passed_of, seen_formal, seen_of}
+use Rattle.codegen_expr.specs.Known.{plain_of}
+use Rattle.codegen_expr.specs.Sites.{At, Inside, Is, Pushes, Site}
+use Rattle.codegen_expr.proofs.Around.{inside}
+use Rattle.codegen_expr.proofs.Pieces.{emits_as, emits_at, emits_none, emits_nothing, emits_push, emits_then}
+
+abbrev Place : Type 1
+Place = CodeOf → Site → ℕ → ℕ → Type 0
+
+block_formals : (s : Source) (d : DeclNo) (result : Option SimType) (block : ℕ) → Some (entry.Procedure result block) ≡ entry_of s.tables d → formals_of_block s block ≡ formals_at s d
+unfolding formals_of
+block_formals s d result block e = ap (λ k. formals_from s (formals_at_block s.tables (block_in k))) e
+
+count : (es : List Expr) → operands (expressions (map syntax_of es)) ≡ length es
+count [] = refl
+count (x ∷ xs) = ap suc (count xs)
+
+module _ (b : Bound) (w : Spot) (n : ℕ) where
+  -- ---- constants
+
+  value_emits : (v : ConstantValue) (a c : DraftOf) → IsSmall v → c ≡ with_push a n (instr_of v) 0 → Emits w a c (PlainBuilt (plain_of v)) (λ final site p q. ConstantAt final site n (Some (plain_of v)) NoMore p q)
+  value_emits (constant.Integer z) a c small ec = emits_push w a c n (i.Int z) 0 ec (λ z. cc) refl
+  value_emits (constant.Character z) a c small ec = emits_as w ⊤ ⊤ (λ final site p q. Pushes final site n (i.Char (pos z)) p q) _ a c (λ t. t) (λ t. t) (λ final site p q _ _ r. (small, r)) (emits_push w a c n (i.Char (pos z)) 0 ec (λ z. cc) refl)
+  value_emits (constant.Truth true) a c small ec = emits_push w a c n (i.Bool (pos 1)) 0 ec (λ z. cc) refl
+  value_emits (constant.Truth false) a c small ec = emits_push w a c n (i.Bool (pos 0)) 0 ec (λ z. cc) refl
+
+  pub see_value : (a c : DraftOf) (d : DeclNo) (u : Option ConstantValue) (v : ConstantValue) (x : Instr) → option_map plain_of u ≡ constant_of (source_of b) d → u ≡ Some v → x ≡ instr_of v → IsSmall v → c ≡ with_push a n x 0 → WritesConstant b w n a c d
+  unfolding WritesConstant
+  see_value a c d u v x eu some ex small ec =
+      let is : Some (plain_of v) ≡ constant_of (source_of b) d = ap (option_map plain_of) (sym some) ∙ eu in
+      subst (λ o. Emits w a c (ConstantBuilt o NoMore) (λ final site p q. ConstantAt final site n o NoMore p q)) is (value_emits v a c small (ec ∙ ap (λ z. with_push a n z 0) ex))
+
+  pub see_no_value : (a c : DraftOf) (d : DeclNo) (u : Option ConstantValue) → option_map plain_of u ≡ constant_of (source_of b) d → u ≡ None → c ≡ given_up a → WritesConstant b w n a c d
+  unfolding WritesConstant
+  see_no_value a c d u eu none ec =
+      let is : None ≡ constant_of (source_of b) d = ap (option_map plain_of) (sym none) ∙ eu in
+      subst (λ o. Emits w a c (ConstantBuilt o NoMore) (λ final site p q. ConstantAt final site n o NoMore p q)) is (emits_nothing w a c _ _ (λ z. z) ec)
+
+  -- ---- calls
+
+  pub see_link : (a c : DraftOf) (d : DeclNo) (x : Instr) (block m : ℕ) → block ≡ block_of (source_of b) d → is_around b.scopes (length b.scopes.blocks) w.text block ≡ true → m ≡ level_of (source_of b) block → x ≡ i.Link (pos m) → c ≡ with_push a n x 0 → WritesLink b w n a c d
+  unfolding WritesLink source_of
+  see_link a c d x block m eb around em ex ec =
+      let s = source_of b in
+      let at : x ≡ i.Link (pos (level_of s (block_of s d))) = ex ∙ ap (λ z. i.Link (pos z)) (em ∙ ap (level_of s) eb) in
+      let there : is_around s.tables (length s.tables.blocks) w.text (block_of s d) ≡ true = ap (λ z. is_around s.tables (length s.tables.blocks) w.text z) (sym eb) ∙ around in
+      let is : Inside s.tables w.text (block_of s d) = inside s.tables (block_of s d) (length s.tables.blocks) w.text there in
+      emits_as w _ _ _ _ a c (λ t. tt) (λ t. record { found = there }) (λ final site p q stands _ r. (r, subst (λ z. Inside s.tables z (block_of s d)) (sym stands) is))
+      (emits_push w a c n (i.Link (pos (level_of s (block_of s d)))) 0 (ec ∙ ap (λ z. with_push a n z 0) at) (λ z. cc) refl)
+
+  pub see_no_link : (a c : DraftOf) (d : DeclNo) (block : ℕ) → block ≡ block_of (source_of b) d → is_around b.scopes (length b.scopes.blocks) w.text block ≡ false → c ≡ given_up a → WritesLink b w n a c d
+  unfolding WritesLink source_of
+  see_no_link a c d block eb out ec = emits_nothing w a c _ _ (λ h. let t : is_around b.scopes (length b.scopes.blocks) w.text block ≡ true = ap (λ z. is_around b.scopes (length b.scopes.blocks) w.text z) eb ∙ h.found in cc) ec
+
+  pub see_call : (a c0 c1 c : DraftOf) (token : TokenNo) (d : DeclNo) (block : ℕ) (es : List Expr) (fs : List Formal) (m k line : ℕ) (x : Instr) (number : ℕ) → m ≡ suc n → WritesLink b w n a c0 d → fs ≡ formals_of_block (source_of b) block → WritesActuals b w m c0 c1 token es fs → number ≡ block_number (source_of b) block → k ≡ length es → x ≡ i.Call (pos number) (pos k) → line ≡ line_at (source_of b) token.0 → c ≡ with_instr c1 x line → WritesCall b w n a c token d block es
+  unfolding WritesCall WritesSeen PutsSeen WritesLink WritesActuals
+  see_call a c0 c1 c token d block ys fs m k line x number em f ef g en ek ex el ec =
+      let s = source_of b in
+      let es = expressions (map syntax_of ys) in
+      let is : i.Call (pos (block_number s block)) (pos (operands es)) ≢ i.Halt = λ z. cc in
+      let at : x ≡ i.Call (pos (block_number s block)) (pos (operands es)) = ex ∙ ap (λ z. i.Call (pos z) (pos k)) en ∙ ap (λ z. i.Call (pos (block_number s block)) (pos z)) (ek ∙ sym (count ys)) in
+      let g1 = subst (λ z. Emits w c0 c1 (ActualsBuilt s w.text es fs) (λ final site p q. ActualsAt s final site z (line_at s token.0) es fs p q)) em g in
+      let g2 = subst (λ z. Emits w c0 c1 (ActualsBuilt s w.text es z) (λ final site p q. ActualsAt s final site (suc n) (line_at s token.0) es z p q)) ef g1 in
+      emits_as w _ _ _ _ a c (λ t. (t.0, (t.1, tt))) (λ t. (t.0, t.1.0)) (λ final site p q _ _ r. record { x = r.0; y = r.2.0; link = r.1.0; inside = r.1.1; actuals = r.2.1; call = r.2.2 })
+      (emits_then w _ _ (λ z site p q. Pushes z site n (i.Link (pos (level_of s (block_of s d)))) p q × Inside s.tables site.text (block_of s d)) (λ z site p q. (y : ℕ) × ActualsAt s z site (suc n) (line_at s token.0) es (formals_of_block s block) p y × At z (i.Call (pos (block_number s block)) (pos (operands es))) (line_at s token.0) y q) a c0 c f
+      (emits_then w _ _ (λ z site p q. ActualsAt s z site (suc n) (line_at s token.0) es (formals_of_block s block) p q) (λ z site. At z (i.Call (pos (block_number s block)) (pos (operands es))) (line_at s token.0)) c0 c1 c g2
+      (emits_at w c1 c (i.Call (pos (block_number s block)) (pos (operands es))) (line_at s token.0) (ec ∙ ap (λ z. with_instr c1 z line) at ∙ ap (λ z. with_instr c1 (i.Call (pos (block_number s block)) (pos (operands es))) z) el) is refl)))
+
+  -- ---- actual parameters
+
+  plain_passed : (m : Mode) (k : FormalKind) (t : Bool) (line : ℕ) (P : Type 0) (A : Place) (a c : DraftOf) → passed.Plain ≡ passed_of m k t → Emits w a c P A → Emits w a c (P × ActualBuilt m k t) (λ final site p q. ActualAt final line m k t (A final site) p q)
+  plain_passed mode.ByValue shape.Array t line P A a c e f = absurd (cc)
+  plain_passed mode.ByValue shape.Simple true line P A a c e f = absurd (cc)
+  plain_passed mode.ByValue shape.Simple false line P A a c e f = emits_as w _ _ _ _ a c (λ t. t.0) (λ t. (t, tt)) (λ final site p q _ _ r. r) f
+  plain_passed mode.ByValue shape.Procedure t line P A a c e f = absurd (cc)
+  plain_passed mode.ByReference shape.Array t line P A a c e f = emits_as w _ _ _ _ a c (λ t. t.0) (λ t. (t, tt)) (λ final site p q _ _ r. r) f
+  plain_passed mode.ByReference shape.Simple t line P A a c e f = emits_as w _ _ _ _ a c (λ t. t.0) (λ t. (t, tt)) (λ final site p q _ _ r. r) f
+  plain_passed mode.ByReference shape.Procedure t line P A a c e f = absurd (cc)
+  plain_passed mode.ByName shape.Array t line P A a c e f = absurd (cc)
+  plain_passed mode.ByName shape.Simple t line P A a c e f = absurd (cc)
+  plain_passed mode.ByName shape.Procedure t line P A a c e f = absurd (cc)
+
+  copied_passed : (m : Mode) (k : FormalKind) (t : Bool) (line : ℕ) (P : Type 0) (A : Place) (a c : DraftOf) → passed.Copied ≡ passed_of m k t → Emits w a c (P × ⊤) (λ final site p q. (x : ℕ) × A final site p x × At final i.CopyArr line x q) → Emits w a c (P × ActualBuilt m k t) (λ final site p q. ActualAt final line m k t (A final site) p q)
+  copied_passed mode.ByValue shape.Array t line P A a c e f = f
+  copied_passed mode.ByValue shape.Simple true line P A a c e f = absurd (cc)
+  copied_passed mode.ByValue shape.Simple false line P A a c e f = absurd (cc)
+  copied_passed mode.ByValue shape.Procedure t line P A a c e f = absurd (cc)
+  copied_passed mode.ByReference shape.Array t line P A a c e f = absurd (cc)
+  copied_passed mode.ByReference shape.Simple t line P A a c e f = absurd (cc)
+  copied_passed mode.ByReference shape.Procedure t line P A a c e f = absurd (cc)
+  copied_passed mode.ByName shape.Array t line P A a c e f = absurd (cc)
+  copied_passed mode.ByName shape.Simple t line P A a c e f = absurd (cc)
+  copied_passed mode.ByName shape.Procedure t line P A a c e f = absurd (cc)
+
+  other_passed : (m : Mode) (k : FormalKind) (t : Bool) → passed.Other ≡ passed_of m k t → ActualBuilt m k t → ⊥
+  other_passed mode.ByValue shape.Array t e h = cc
+  other_passed mode.ByValue shape.Simple true e h = h
+  other_passed mode.ByValue shape.Simple false e h = cc
+  other_passed mode.ByValue shape.Procedure t e h = h
+  other_passed mode.ByReference shape.Array t e h = cc
+  other_passed mode.ByReference shape.Simple t e h = cc
+  other_passed mode.ByReference shape.Procedure t e h = h
+  other_passed mode.ByName shape.Array t e h = h
+  other_passed mode.ByName shape.Simple t e h = h
+  other_passed mode.ByName shape.Procedure t e h = h
+
+  pub see_plain_actual : (a c : DraftOf) (token : TokenNo) (x : Expr) (f : Formal) (k : Passed) → Writes b w n a c x → k ≡ passed_of f.mode f.kind (is_text_type f.ty) → k ≡ passed.Plain → WritesActual b w n a c token x f
+  unfolding WritesActual Writes Puts
+  see_plain_actual a c token x f k g ek is = plain_passed f.mode f.kind (is_text_type f.ty) (line_at (source_of b) token.0) _ (λ z site p q. ExprAt (source_of b) z site n (syntax_of x) p q) a c (sym is ∙ ek) g
+
+  pub see_copied_actual : (a c0 c : DraftOf) (token : TokenNo) (x : Expr) (f : Formal) (k : Passed) (line : ℕ) → Writes b w n a c0 x → k ≡ passed_of f.mode f.kind (is_text_type f.ty) → k ≡ passed.Copied → line ≡ line_at (source_of b) token.0 → c ≡ with_instr c0 i.CopyArr line → WritesActual b w n a c token x f
+  unfolding WritesActual Writes Puts
+  see_copied_actual a c0 c token x f k line g ek is el ec =
+      let s = source_of b in
+      copied_passed f.mode f.kind (is_text_type f.ty) (line_at s token.0) _ (λ z site p q. ExprAt s z site n (syntax_of x) p q) a c (sym is ∙ ek)
+      (emits_then w _ _ (λ z site p q. ExprAt s z site n (syntax_of x) p q) (λ z site. At z i.CopyArr (line_at s token.0)) a c0 c g (emits_at w c0 c i.CopyArr (line_at s token.0) (ec ∙ ap (λ z. with_instr c0 i.CopyArr z) el) (λ z. cc) refl))
+
+  pub see_no_actual : (a c0 c : DraftOf) (token : TokenNo) (x : Expr) (f : Formal) (k : Passed) → Writes b w n a c0 x → k ≡ passed_of f.mode f.kind (is_text_type f.ty) → k ≡ passed.Other → c ≡ given_up c0 → WritesActual b w n a c token x f
+  unfolding WritesActual Writes Puts
+  see_no_actual a c0 c token x f k g ek is ec =
+      let never : ActualBuilt f.mode f.kind (is_text_type f.ty) → ⊥ = other_passed f.mode f.kind (is_text_type f.ty) (sym is ∙ ek) in
+      emits_as w (IsBuilt (source_of b) w.text (syntax_of x) × ⊥) _ _ _ a c (λ q. absurd (never q.1)) (λ q. absurd q.1) (λ final site p q _ _ r. absurd r.2)
+      (emits_then w _ ⊥ (λ z site p q. ExprAt (source_of b) z site n (syntax_of x) p q) (λ final site p q. ⊥) a c0 c g (emits_nothing w c0 c ⊥ (λ final site p q. ⊥) (λ z. z) ec))
+
+  unlike : (s : Source) (es : List Expr) (fs : List Formal) → length es ≢ length fs → ActualsBuilt s w.text (expressions (map syntax_of es)) fs → ⊥
+  unlike s [] [] other h = other refl
+  unlike s [] (f ∷ fs) other h = h
+  unlike s (x ∷ es) [] other h = h
+  unlike s (x ∷ es) (f ∷ fs) other h = unlike s es fs (λ e. other (ap suc e)) h.2
+
+  pub see_unlike : (a c : DraftOf) (token : TokenNo) (es : List Expr) (fs : List Formal) → length es ≢ length fs → c ≡ given_up a → WritesActuals b w n a c token es fs
+  unfolding WritesActuals
+  see_unlike a c token es fs other ec = emits_nothing w a c _ _ (unlike (source_of b) es fs other) ec
+
+  pub actuals_all : (a : DraftOf) (token : TokenNo) (es : List Expr) (fs : List Formal) → OwesActuals b w n a token es fs n a es fs
+  unfolding OwesActuals
+  actuals_all a token es fs end f = f
+
+  pub actuals_next : (a c d : DraftOf) (token : TokenNo) (es r r' : List Expr) (fs g g' : List Formal) (m m' : ℕ) (x : Expr) (f : Formal) → OwesActuals b w n a token es fs m c r g → r ≡ x ∷ r' → g ≡ f ∷ g' → WritesActual b w m c d token x f → m' ≡ suc m → OwesActuals b w n a token es fs m' d r' g'
+  unfolding OwesActuals WritesActuals WritesActual
+  actuals_next a c d token es r r' fs g g' m m' x f owes er eg one em end rest =
+      let s = source_of b in
+      let line = line_at s token.0 in
+      let xs' = expressions (map syntax_of r') in
+      let rest' = subst (λ z. Emits w d end (ActualsBuilt s w.text xs' g') (λ final site p q. ActualsAt s final site z line xs' g' p q)) em rest in
+      owes end
+      (subst (λ z. Emits w c end (ActualsBuilt s w.text (expressions (map syntax_of z)) g) (λ final site p q. ActualsAt s final site m line (expressions (map syntax_of z)) g p q)) (sym er)
+      (subst (λ z. Emits w c end (ActualsBuilt s w.text (expressions (map syntax_of (x ∷ r'))) z) (λ final site p q. ActualsAt s final site m line (expressions (map syntax_of (x ∷ r'))) z p q)) (sym eg)
+      (emits_as w _ _ _ _ c end (λ t. ((t.0, t.1), t.2)) (λ t. (t.0.0, t.0.1, t.1)) (λ final site p q _ _ r. r)
+      (emits_then w _ _ (λ z site p q. ActualAt z line f.mode f.kind (is_text_type f.ty) (λ u v. ExprAt s z site m (syntax_of x) u v) p q) (λ z site p q. ActualsAt s z site (suc m) line xs' g' p q) c d end one rest'))))
+
+  pub actuals_none : (a c : DraftOf) (token : TokenNo) (es r : List Expr) (fs g : List Formal) (m : ℕ) → OwesActuals b w n a token es fs m c r g → r ≡ [] → g ≡ [] → WritesActuals b w n a c token es fs
+  unfolding OwesActuals WritesActuals
+  actuals_none a c token es r fs g m f er eg =
+      let s = source_of b in
+      f c (subst (λ z. Emits w c c (ActualsBuilt s w.text (expressions (map syntax_of z)) g) (λ final site p q. ActualsAt s final site m (line_at s token.0) (expressions (map syntax_of z)) g p q)) (sym er)
+      (subst (λ z. Emits w c c (ActualsBuilt s w.text NoMore z) (λ final site p q. ActualsAt s final site m (line_at s token.0) NoMore z p q)) (sym eg) (emits_none w c)))
+
+  -- ---- what a declared identifier is seen as
+
+  abbrev AsSeen : (a c : DraftOf) → TokenNo → DeclNo → Seen → Expressions → Type 0
+  AsSeen a c token d x es = PutsSeen (source_of b) w n a c token d x es
+
+  pub see_variable : (a c : DraftOf) (token : TokenNo) (d : DeclNo) (x : Seen) (es : List Expr) → x ≡ seen.Variable → length es ≡ 0 → WritesCell b w n a c d → WritesSeen b w n a c token d x es
+  unfolding WritesSeen PutsSeen WritesCell
+  see_variable a c token d x [] is none f = subst (λ z. AsSeen a c token d z NoMore) (sym is) f
+  see_variable a c token d x (y ∷ ys) is none f = absurd (omega (arith, none))
+
+  pub see_no_variable : (a c : DraftOf) (token : TokenNo) (d : DeclNo) (x : Seen) (es : List Expr) → x ≡ seen.Variable → length es ≢ 0 → c ≡ given_up a → WritesSeen b w n a c token d x es
+  unfolding WritesSeen PutsSeen
+  see_no_variable a c token d x [] is some' ec = absurd (some' refl)
+  see_no_variable a c token d x (y ∷ ys) is some' ec = subst (λ z. AsSeen a c token d z (expressions (map syntax_of (y ∷ ys)))) (sym is) (emits_nothing w a c _ _ (λ z. z) ec)
+
+  pub see_constant : (a c : DraftOf) (token : TokenNo) (d : DeclNo) (x : Seen) (es : List Expr) → x ≡ seen.Constant → length es ≡ 0 → WritesConstant b w n a c d → WritesSeen b w n a c token d x es
+  unfolding WritesSeen PutsSeen WritesConstant
+  see_constant a c token d x [] is none f = subst (λ z. AsSeen a c token d z NoMore) (sym is) f
+  see_constant a c token d x (y ∷ ys) is none f = absurd (omega (arith, none))
+
+  with_operands : (o : Option Plain) (x : Expression) (xs : Expressions) → ConstantBuilt o (Then x xs) → ⊥
+  with_operands None x xs h = h
+  with_operands (Some v) x xs h = h
+
+  pub see_no_constant : (a c : DraftOf) (token : TokenNo) (d : DeclNo) (x : Seen) (es : List Expr) → x ≡ seen.Constant → length es ≢ 0 → c ≡ given_up a → WritesSeen b w n a c token d x es
+  unfolding WritesSeen PutsSeen
+  see_no_constant a c token d x [] is some' ec = absurd (some' refl)
+  see_no_constant a c token d x (y ∷ ys) is some' ec =
+      subst (λ z. AsSeen a c token d z (expressions (map syntax_of (y ∷ ys)))) (sym is)
+      (emits_nothing w a c _ _ (with_operands (constant_of (source_of b) d) (syntax_of y) (expressions (map syntax_of ys))) ec)
+
+  pub see_array : (a c : DraftOf) (token : TokenNo) (d : DeclNo) (x : Seen) (es : List Expr) → x ≡ seen.Array → length es ≡ 0 → WritesCell b w n a c d → WritesSeen b w n a c token d x es
+  unfolding WritesSeen PutsSeen WritesCell
+  see_array a c token d x [] is none f = subst (λ z. AsSeen a c token d z NoMore) (sym is) f
+  see_array a c token d x (y ∷ ys) is none f = absurd (omega (arith, none))
+
+  pub see_element : (a c0 c : DraftOf) (token : TokenNo) (d : DeclNo) (x : Seen) (es : List Expr) → x ≡ seen.Array → length es ≢ 0 → WritesElement b w n a c0 token d es → c ≡ with_instr c0 i.Fetch 0 → WritesSeen b w n a c token d x es
+  unfolding WritesSeen PutsSeen WritesElement
+  see_element a c0 c token d x [] is some' f ec = absurd (some' refl)
+  see_element a c0 c token d x (y ∷ ys) is some' f ec =
+      let s = source_of b in
+      let es = expressions (map syntax_of (y ∷ ys)) in
+      subst (λ z. AsSeen a c token d z es) (sym is)
+      (emits_as w _ _ _ _ a c (λ t. (t, tt)) (λ t. t.0) (λ final site p q _ _ r. (r.0, r.1, record { line = 0; is = r.2 }))
+      (emits_then w _ _ (λ z site p q. ElementAt s z site n (line_at s token.0) d es (λ u v. ExprsAt s z site (suc n) es u v) p q) (λ z site. At z i.Fetch 0) a c0 c f (emits_at w c0 c i.Fetch 0 ec (λ z. cc) refl)))
+
+  pub see_called : (a c : DraftOf) (token : TokenNo) (d : DeclNo) (x : Seen) (block : ℕ) (es : List Expr) → x ≡ seen.Call block → WritesCall b w n a c token d block es → WritesSeen b w n a c token d x es
+  unfolding WritesCall
+  see_called a c token d x block es is f = subst (λ z. WritesSeen b w n a c token d z es) (sym is) f
+
+  pub see_nothing : (a c : DraftOf) (token : TokenNo) (d : DeclNo) (x : Seen) (es : List Expr) → x ≡ seen.Nothing → c ≡ given_up a → WritesSeen b w n a c token d x es
+  unfolding WritesSeen PutsSeen
+  see_nothing a c token d x es is ec = subst (λ z. AsSeen a c token d z (expressions (map syntax_of es))) (sym is) (emits_nothing w a c _ _ (λ z. z) ec)
+
+  -- ---- identifiers
+
+  seen_emits : (a c : DraftOf) (line : ℕ) (d : DeclNo) (k : Option Entry) (es : Expressions) (O : Type 0) (P : List Formal → Type 0) (A : Place) (B : CodeOf → Site → List Formal → ℕ → ℕ → Type 0) → k ≡ entry_of (source_of b).tables d
+      → Emits w a c (SeenBuilt (source_of b) w.text d (seen_of k) es O P) (λ final site p q. SeenAt (source_of b) final site n line d (seen_of k) es (A final site) (B final site) p q)
+      → Emits w a c (DeclaredBuilt (source_of b) w.text d k es O P) (λ final site p q. DeclaredAt (source_of b) final site n line d k es (A final site) (B final site) p q)
+  seen_emits a c line d None es O P A B ek f = f
+  seen_emits a c line d (Some (entry.Variable type)) es O P A B ek f = f
+  seen_emits a c line d (Some (entry.Constant type)) es O P A B ek f = f
+  seen_emits a c line d (Some (entry.Array element dimensions)) es O P A B ek f = f
+  seen_emits a c line d (Some (entry.Procedure result block)) es O P A B ek f =
+      subst (λ fs. Emits w a c (CallBuilt (source_of b) w.text d (P fs)) (λ final site p q. CallAt (source_of b) final site n line d block es (B final site fs) p q)) (block_formals (source_of b) d result block ek) f
+  seen_emits a c line d (Some (entry.Class text)) es O P A B ek f = f
+  seen_emits a c line d (Some (entry.Virtual result own)) es O P A B ek f = f
+  seen_emits a c line d (Some (entry.Unspecified written)) es O P A B ek f = f
+  seen_emits a c line d (Some (entry.Formal x)) es O P A B ek f = formal x.mode x.kind f
+    where
+      formal : (m : Mode) (k : FormalKind)
+          → Emits w a c (SeenBuilt (source_of b) w.text d (seen_formal m k) es O P) (λ final site p q. SeenAt (source_of b) final site n line d (seen_formal m k) es (A final site) (B final site) p q)
+          → Emits w a c (FormalBuilt (source_of b) w.text d m k es O) (λ final site p q. FormalAt (source_of b) final site n line d m k es (A final site) p q)
+      formal mode.ByName shape.Simple f = f
+      formal mode.ByName shape.Array f = f
+      formal mode.ByName shape.Procedure f = f
+      formal mode.ByValue shape.Simple f = f
+      formal mode.ByValue shape.Array f = f
+      formal mode.ByValue shape.Procedure f = f
+      formal mode.ByReference shape.Simple f = f
+      formal mode.ByReference shape.Array f = f
+      formal mode.ByReference shape.Procedure f = f
+
+  pub see_declared : (a c : DraftOf) (token : TokenNo) (es : List Expr) (u : Option Denotation) (d : DeclNo) (k : Option Entry) (x : Seen) → u ≡ Some (denotation.Declared d) → k ≡ entry_of b.scopes d → x ≡ seen_of k → WritesSeen b w n a c token d x es → WritesNamed b w n a c token u es
+  unfolding WritesNamed PutsNamed WritesSeen PutsSeen source_of
+  see_declared a c token ys u d k x some ek ex f =
+      let s = source_of b in
+      let es = expressions (map syntax_of ys) in
+      let line = line_at s token.0 in
+      let same : x ≡ seen_of (entry_of s.tables d) = ex ∙ ap seen_of ek in
+      let f' = subst (λ z. PutsSeen s w n a c token d z es) same f in
+      subst (λ z. PutsNamed s w n a c token z es) (sym some)
+      (seen_emits a c line d (entry_of s.tables d) es (AreBuilt s w.text es) (λ formals. ActualsBuilt s w.text es formals) (λ final site p q. ExprsAt s final site (suc n) es p q) (λ final site formals p q. ActualsAt s final site (suc n) line es formals p q) refl f')
+
+  pub see_standard : (a c : DraftOf) (token : TokenNo) (es : List Expr) (u : Option Denotation) (k : Standard) → u ≡ Some (denotation.Standard k) → WritesStandard b w n a c token k es → WritesNamed b w n a c token u es
+  unfolding WritesNamed PutsNamed WritesStandard
+  see_standard a c token ys u k some f = subst (λ z. PutsNamed (source_of b) w n a c token z (expressions (map syntax_of ys))) (sym some) f
+
+  pub see_undeclared : (a c : DraftOf) (token : TokenNo) (es : List Expr) (u : Option Denotation) → u ≡ None → c ≡ given_up a → WritesNamed b w n a c token u es
+  unfolding WritesNamed PutsNamed
+  see_undeclared a c token ys u none ec = subst (λ z. PutsNamed (source_of b) w n a c token z (expressions (map syntax_of ys))) (sym none) (emits_nothing w a c _ _ (λ z. z) ec)
+
+  pub see_giving : (a c : DraftOf) (x : Identifier) (es : List Expr) (u : Option Denotation) → u ≡ denoted (source_of b) x.token.0 → gives (source_of b) u ≡ true → WritesNamed b w n a c x.token u es → WritesGiving b w n a c x es
+  unfolding WritesNamed PutsNamed WritesGiving Puts
+  see_giving a c x ys u eu does f =
+      let s = source_of b in
+      let es = expressions (map syntax_of ys) in
+      let does' : gives s (denoted s x.token.0) ≡ true = ap (gives s) (sym eu) ∙ does in
+      emits_as w _ _ _ _ a c (λ t. t.1) (λ t. (does', t)) (λ final site p q _ _ r. (does', r)) (subst (λ z. PutsNamed s w n a c x.token z es) eu f)
+
+  pub see_not_giving : (a c : DraftOf) (x : Identifier) (es : List Expr) (u : Option Denotation) → u ≡ denoted (source_of b) x.token.0 → gives (source_of b) u ≡ false → c ≡ given_up a → WritesGiving b w n a c x es
+  unfolding WritesGiving Puts
+  see_not_giving a c x ys u eu not' ec = emits_nothing w a c _ _ (λ h. let t : gives (source_of b) u ≡ true = ap (gives (source_of b)) eu ∙ h.0 in cc) ec
+
+pub ruleset sees = (see_value, see_no_value, see_link, see_no_link, see_call, see_plain_actual, see_copied_actual, see_no_actual, see_unlike, see_variable, see_no_variable, see_constant, see_no_constant, see_array, see_element, see_called, see_nothing, see_declared, see_standard, see_undeclared, see_giving, see_not_giving)

@@ -1,0 +1,60 @@
+-- What the emitter knows of the texts of a program: tables that are made once.
+use Rattle.std.specs.Prelude.{◌≡◌, ℕ, Bool, true, false, List, [], length, slice_get, Option, Some, None, option_map}
+use Rattle.std.specs.declared.alloc.Global.{Global}
+use Rattle.std.specs.declared.vec.Vec.{Vec}
+use Rattle.sim_base.specs.declared.numbering.DeclNo.{DeclNo}
+use Rattle.sim_scope.specs.declared.bound.Bound.{Bound}
+use Rattle.sim_scope.specs.declared.types.Formal.{Formal}
+use Rattle.sim_scope.specs.Scopes.{formals_in, joined}
+use Rattle.sim_scope.specs.Source.{Source, block_of, source_of}
+use Rattle.sim_tree.specs.declared.stmt.TypeName.{TypeName}
+use Rattle.sim_values.specs.Plain.{Plain, Integer, Truth, Character}
+use Rattle.sim_meaning.specs.Closing.{formals_from}
+use Rattle.sim_meaning.specs.Pending.{Declared}
+use Rattle.sim_meaning.specs.Texts.{ProcedureText, Text, constant_of, text}
+use Rattle.codegen_expr.specs.declared.cells.Cells.{Cells}
+use Rattle.codegen_expr.specs.declared.cells.ConstantValue.{ConstantValue}
+use Rattle.codegen_expr.specs.declared.cells.ConstantValue.TheVariants as constant
+use Rattle.codegen_expr.specs.Built.{slot_in}
+use Rattle.codegen_expr.specs.CodeExpr.{block_number}
+use Rattle.codegen_expr.specs.Sites.{cells_in}
+
+-- whether a text is a procedure with a result, whose cell is then the first
+abbrev pub has_result : Option Text → Bool
+has_result (Some (ProcedureText (Some type) h a)) = true
+has_result _ = false
+
+-- the value of a constant
+abbrev pub plain_of : ConstantValue → Plain
+plain_of (constant.Integer z) = Integer z
+plain_of (constant.Character c) = Character c
+plain_of (constant.Truth b) = Truth b
+
+-- ---- rows of the tables
+
+abbrev pub number_or : ℕ → Option ℕ → ℕ
+number_or other None = other
+number_or other (Some n) = n
+
+abbrev pub truth_or_false : Option Bool → Bool
+truth_or_false None = false
+truth_or_false (Some b) = b
+
+abbrev pub formals_or_none : Option (Vec Formal Global) → List Formal
+formals_or_none None = []
+formals_or_none (Some v) = v.items
+
+-- The tables are those of the program.
+pub record KnownOf (s : Source) (w : Cells) : Type 0 where
+  -- by declaration: the number of its cell; the value of a constant
+  pub slots : (d : DeclNo) → joined (slice_get w.slots.items d.0) ≡ slot_in s (block_of s d) (Declared d.0)
+  pub constants : (d : DeclNo) → option_map plain_of (joined (slice_get w.constants.items d.0)) ≡ constant_of s d
+  -- by text: whether it is a procedure with a result, and how many cells it has
+  pub results : (k : ℕ) → truth_or_false (slice_get w.results.items k) ≡ has_result (text s k)
+  pub counts : (k : ℕ) → number_or 0 (slice_get w.counts.items k) ≡ length (cells_in s k (text s k))
+  -- by block of the tables: its number among the blocks of code, and its formal parameters
+  pub numbers : (k : ℕ) → number_or w.block_count (slice_get w.numbers.items k) ≡ block_number s k
+  pub formals : (k : ℕ) → formals_or_none (slice_get w.formals.items k) ≡ formals_from s (formals_in (slice_get s.tables.blocks k))
+
+unfoldable pub Known : Bound → Cells → Type 0
+Known b w = KnownOf (source_of b) w

@@ -1,0 +1,70 @@
+//! Instructions with operands.
+ghost use Rattle.std.specs.Prelude.{◌≡◌, ◌<◌, IfOk, pos};
+ghost use Rattle.sim_code.specs.declared.instr.Instr.TheVariants as i;
+
+use sim_code::Instr;
+use std::alloc::AllocError;
+
+/// The instruction that pushes the value of a cell.
+pub fn load_instr(level: u32, cell: u32) -> Instr
+    ensures { result ≡ i.Load (pos level) (pos cell) }
+{
+    Instr::Load {
+        level: i64::from(level),
+        cell: i64::from(cell),
+    }
+}
+
+/// The instruction that finds an element by so many subscripts.
+pub fn element_instr(subscripts: usize) -> Result<Instr, AllocError>
+    ensures { IfOk result (λ x. x ≡ i.Elem (pos subscripts) (pos 0)) }
+{
+    let subscripts = i64::try_from(subscripts).map_err(|_| AllocError)?;
+    Ok(Instr::Elem {
+        subscripts,
+        class: 0,
+    })
+}
+
+/// The instruction of a standard name.
+pub fn standard_instr(number: u32) -> Instr
+    ensures { result ≡ i.Std (pos number) }
+{
+    Instr::Std(i64::from(number))
+}
+
+/// The instruction that pushes the link to a frame.
+pub fn link_instr(level: u32) -> Instr
+    ensures { result ≡ i.Link (pos level) }
+{
+    Instr::Link(i64::from(level))
+}
+
+/// The instruction that calls a block of code with so many actual parameters.
+pub fn call_instr(block: u32, actuals: usize) -> Result<Instr, AllocError>
+    ensures { IfOk result (λ x. x ≡ i.Call (pos block) (pos actuals)) }
+{
+    let values = i64::try_from(actuals).map_err(|_| AllocError)?;
+    Ok(Instr::Call {
+        block: i64::from(block),
+        values,
+    })
+}
+
+/// The instruction that pushes a character.
+pub fn character_instr(value: u8) -> Instr
+    ensures is { result ≡ i.Char (pos value) }
+    ensures small { value < 256 }
+{
+    Instr::Char(i64::from(value))
+}
+
+/// The instruction that takes a value into a cell.
+pub fn store_instr(level: u32, cell: u32) -> Instr
+    ensures { result ≡ i.Store (pos level) (pos cell) }
+{
+    Instr::Store {
+        level: i64::from(level),
+        cell: i64::from(cell),
+    }
+}

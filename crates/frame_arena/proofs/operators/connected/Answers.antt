@@ -1,0 +1,19 @@
+use Rattle.std.proofs.Common.{sym, ap, ◌∙◌}
+use Rattle.sim_values.specs.Operators.{a_truth}
+use Rattle.sim_code.specs.Machine.{plain}
+use Rattle.frame_arena.specs.Operators.{answer_of_plain}
+use Rattle.frame_arena.specs.Slots.{value_of}
+use Rattle.frame_arena.proofs.Operands.{connect_top, connect_below, connect_both}
+use Rattle.frame_arena.proofs.operators.connected.Goals as goal
+
+pub returns-in_default-clause-answer : goal.returns-in_default-clause-answer
+returns-in_default-clause-answer c = sym (connect_top c.args.op (value_of c.args.x) (value_of c.args.y) c.in_default.ensures)
+
+pub returns-in-None-clause-answer : goal.returns-in-None-clause-answer
+returns-in-None-clause-answer c = sym (connect_below c.args.op (value_of c.args.x) (value_of c.args.y) c.in-Some.b c.in-Some.ensures c.in-None.ensures)
+
+pub returns-in-Some-as_truth-clause-answer : goal.returns-in-Some-as_truth-clause-answer
+returns-in-Some-as_truth-clause-answer c =
+    ap (λ v. answer_of_plain (plain v)) c.truth.ensures.value
+    ∙ ap a_truth c.apply.ensures.result
+    ∙ sym (connect_both c.args.op (value_of c.args.x) (value_of c.args.y) c.in-Some-as_truth.a c.in-Some.b c.in-Some.ensures c.in-Some-as_truth.ensures)

@@ -1,0 +1,91 @@
+-- A new frame stands in the parts.
+use Rattle.std.proofs.Common.{◌≡◌, ℕ, zero, suc, ◌+◌, ◌≤◌, List, [], ◌∷◌, length, length-append, replicate, sym, subst, refl, ap, ◌∙◌}
+use Rattle.std.specs.Prelude.{false, Option}
+use Rattle.sim_base.specs.declared.limits.Limits.{Limits}
+use Rattle.sim_values.specs.declared.value.FrameRef.{FrameRef}
+use Rattle.sim_code.specs.Code.{BlockOf}
+use Rattle.sim_code.specs.Machine.{Frames, first_cells}
+use Rattle.sim_code.specs.Outcome.{ArrayOf, World}
+use Rattle.frame_arena.specs.declared.frames.Frame.{Frame}
+use Rattle.frame_arena.specs.declared.slot.Slot.{Slot}
+use Rattle.frame_arena.specs.Arrays.{AllLeadArrays, ElementsLead, HoldsArrays, RegionOf, names_array}
+use Rattle.frame_arena.specs.Frames.{AllLead, Holds, Leads, names_frame, number_in}
+use Rattle.frame_arena.specs.Slots.{empty_slot}
+use Rattle.frame_arena.specs.Stacks.{slot_at, values_of}
+use Rattle.object_machine.specs.declared.machine.Storage.{Storage}
+use Rattle.object_machine.specs.declared.machine.Activation as working
+use Rattle.object_machine.specs.Standing.{Stores, Works, activation_at, activation_of}
+use Rattle.object_machine.specs.Entering.{Opens, opened}
+use Rattle.object_machine.proofs.Going.{act}
+use Rattle.object_machine.proofs.Places.{lead_later}
+use Rattle.object_machine.proofs.Scalars.{off}
+
+-- a stack with no value in it
+pub empty_stack : (n q : ℕ) → slot_at (replicate n empty_slot) q ≡ empty_slot
+empty_stack zero q = refl
+empty_stack (suc n) zero = refl
+empty_stack (suc n) (suc q) = empty_stack n q
+
+pub empty_leads : (n : ℕ) (fs : List Frame) (m : Frames) → AllLead fs m (replicate n empty_slot)
+empty_leads n fs m q names = absurd (off (sym (ap (λ s. names_frame s.kind) (empty_stack n q)) ∙ names))
+
+pub empty_leads_arrays : (n : ℕ) (regions : List RegionOf) (arrays : List ArrayOf) → AllLeadArrays regions arrays (replicate n empty_slot)
+empty_leads_arrays n regions arrays q names = absurd (off (sym (ap (λ s. names_array s.kind) (empty_stack n q)) ∙ names))
+
+values_none : (stack : List Slot) → values_of 0 stack ≡ []
+values_none [] = refl
+values_none (x ∷ xs) = refl
+
+long_replicate : (n : ℕ) → length (replicate n empty_slot) ≡ n
+long_replicate zero = refl
+long_replicate (suc n) = ap suc (long_replicate n)
+
+pub first_activation : (number count region entry room : ℕ) (stack : List Slot) → number ≡ count → stack ≡ replicate room empty_slot →
+    activation_at (record { home = record { frame = region; stamp = number }; pc = entry; depth = 0 }) stack ≡ record { thunk = false; home = count; pc = entry; stack = []; room = room }
+first_activation number count region entry room stack e s =
+    ap (λ h. act h entry (values_of 0 stack) (length stack)) e
+    ∙ ap (λ v. act count entry v (length stack)) (values_none stack)
+    ∙ ap (λ n. act count entry [] n) (ap length s ∙ long_replicate room)
+
+module _ (l : Limits) (p p2 : Storage) (k : ℕ) (b : BlockOf) (parent : Option FrameRef) (t : working.Activation) (before now : Option (List ℕ)) (o : World) (m : Frames) (s : Stores l p before now o m) where
+  pub opens : p2.arrays ≡ p.arrays → p2.texts ≡ p.texts → p2.image ≡ p.image → p2.ticks ≡ p.ticks → p2.words ≡ p.words → p2.entered ≡ p.entered + 1 →
+      Holds p2.frames.items p2.cells.items (opened m k b parent) → ((r : FrameRef) → Leads p.frames.items m r → Leads p2.frames.items (opened m k b parent) r) →
+      AllLeadArrays p.arrays.regions o.arrays p2.cells.items →
+      Leads p2.frames.items (opened m k b parent) t.registers.home → AllLead p2.frames.items (opened m k b parent) t.stack.items → AllLeadArrays p.arrays.regions o.arrays t.stack.items →
+      activation_of t ≡ record { thunk = false; home = length m.instances; pc = b.entry; stack = []; room = b.room } → Opens l p p2 k b parent t before now o m
+  opens ea et ei ek ew en h leads cells home slots arrays top =
+      let count = length-append m.instances (record { text = k; level = b.level; encloser = number_in parent; cells = first_cells b; passing = b.class_free; kept = false; given_back = false } ∷ []) in
+      record {
+        stores = record {
+          world = record { ticks = s.world.ticks ∙ sym ek; words = s.world.words ∙ sym ew; texts = s.world.texts ∙ sym et; image = s.world.image ∙ sym ei; written = s.world.written };
+          budget = subst (λ n. n ≤ l.storage) (sym ew) s.budget;
+          frames = h;
+          entered = en ∙ ap (λ n. n + 1) s.entered ∙ sym count;
+          arrays = subst (λ a. HoldsArrays a o.arrays) (sym ea) s.arrays;
+          cells = subst (λ a. AllLeadArrays a.regions o.arrays p2.cells.items) (sym ea) cells;
+          elements = subst (λ a. ElementsLead p2.frames.items (opened m k b parent) a.regions) (sym ea) (λ place at names. leads _ (s.elements place at names));
+        };
+        top = top;
+        works = subst (λ a. Works p2.frames.items (opened m k b parent) a.regions o.arrays t.registers t.stack.items) (sym ea) (record { home = home; slots = slots; arrays_lead = arrays });
+        others = λ r stack w. subst (λ a. Works p2.frames.items (opened m k b parent) a.regions o.arrays r stack) (sym ea)
+            (record { home = leads r.home w.home; slots = lead_later p.frames.items p2.frames.items m (opened m k b parent) leads stack w.slots; arrays_lead = w.arrays_lead });
+      }
+
+  -- the same where the regions and the cells are told
+  pub opens_from : (fs : List Frame) (cs : List Slot) → p2.frames.items ≡ fs → p2.cells.items ≡ cs →
+      p2.arrays ≡ p.arrays → p2.texts ≡ p.texts → p2.image ≡ p.image → p2.ticks ≡ p.ticks → p2.words ≡ p.words → p2.entered ≡ p.entered + 1 →
+      Holds fs cs (opened m k b parent) → ((r : FrameRef) → Leads p.frames.items m r → Leads fs (opened m k b parent) r) →
+      AllLeadArrays p.arrays.regions o.arrays cs →
+      Leads fs (opened m k b parent) t.registers.home → AllLead fs (opened m k b parent) t.stack.items → AllLeadArrays p.arrays.regions o.arrays t.stack.items →
+      activation_of t ≡ record { thunk = false; home = length m.instances; pc = b.entry; stack = []; room = b.room } → Opens l p p2 k b parent t before now o m
+  opens_from fs cs ef ec ea et ei ek ew en h leads cells home slots arrays top =
+      opens ea et ei ek ew en
+      (subst (λ f. Holds f p2.cells.items (opened m k b parent)) (sym ef) (subst (λ x. Holds fs x (opened m k b parent)) (sym ec) h))
+      (λ r q. subst (λ f. Leads f (opened m k b parent) r) (sym ef) (leads r q))
+      (subst (λ x. AllLeadArrays p.arrays.regions o.arrays x) (sym ec) cells)
+      (subst (λ f. Leads f (opened m k b parent) t.registers.home) (sym ef) home)
+      (subst (λ f. AllLead f (opened m k b parent) t.stack.items) (sym ef) slots) arrays top
+
+pub for_block : (l : Limits) (p p2 : Storage) (k : ℕ) (b b2 : BlockOf) (parent : Option FrameRef) (t : working.Activation) (before now : Option (List ℕ)) (o : World) (m : Frames) → b ≡ b2 →
+    Opens l p p2 k b parent t before now o m → Opens l p p2 k b2 parent t before now o m
+for_block l p p2 k b b2 parent t before now o m e h = subst (λ b. Opens l p p2 k b parent t before now o m) e h

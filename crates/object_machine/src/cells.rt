@@ -1,0 +1,196 @@
+//! Rows on frames and their cells.
+ghost use Rattle.std.specs.Prelude.{◌≡◌, ℕ, ◌+◌, ◌<◌, ◌≤◌, ◌^◌, List, Option, IfSome, length};
+ghost use Rattle.sim_code.specs.Events.{having, popping};
+ghost use Rattle.sim_code.specs.Instances.{CellPlace};
+ghost use Rattle.sim_code.specs.Machine.{Activation as ActivationOf, Address, Frames, Link as LinkTo, Machine, cell as cell_value_of, cell_at, cell_set, level as at_level_of, on};
+ghost use Rattle.sim_code.specs.Outcome.{Run, World};
+ghost use Rattle.sim_code.specs.Code.{CodeOf};
+ghost use Rattle.sim_code.specs.declared.instr.Instr.{Instr};
+ghost use Rattle.sim_code.specs.Rows.{no_class, pushed, row};
+ghost use Rattle.frame_arena.specs.Frames.{Has, Holds, Leads, number_in};
+ghost use Rattle.frame_arena.specs.Slots.{cell_value, value_of};
+ghost use Rattle.frame_arena.specs.Stacks.{slot_at};
+ghost use Rattle.frame_arena.specs.Arrays.{AllLeadArrays, RegionOf, SlotLeadsArray};
+ghost use Rattle.frame_arena.specs.Frames.{AllLead, SlotLeads};
+ghost use Rattle.sim_code.specs.Outcome.{ArrayOf};
+ghost use Rattle.object_machine.specs.Arrayed.{is_unqualified};
+ghost use Rattle.object_machine.specs.Standing.{Obeys, SameBut};
+
+use crate::constants::index;
+use crate::machine::{Activation, Flow, Registers, Storage};
+use crate::operands::push;
+use frame_arena::frames::{self, Frame};
+use frame_arena::{NOTHING, Slot, SlotKind, stack};
+use sim_base::Limits;
+use sim_values::FrameRef;
+
+/// The frame of a level.
+#[inline(always)]
+pub fn level_frame(frames: &[Frame], home: FrameRef, operand: i64) -> Option<FrameRef>
+    ensures there { IfSome result (λ f. Has frames.now f.frame f.stamp) }
+    ensures row { (cells : List Slot) (m : Frames) (a : ActivationOf) (o : World) (go : ℕ → Run Machine) → Holds frames.now cells m → Leads frames.now m home → a.home ≡ home.stamp →
+        at_level_of m a operand o go ≡ having (number_in result) o go }
+{
+    let Some(level) = index(operand) else {
+        return None;
+    };
+    frames::at_level(frames, home, level)
+}
+
+/// Pushes the frame of a level as a link.
+#[inline(always)]
+pub fn link(frames: &[Frame], stack: &mut [Slot], regs: &mut Registers, level: i64) -> Flow
+    requires fits { regs.old.depth ≤ length stack.old }
+    requires short { regs.old.pc + 1 < 2 ^ 64 }
+    ensures fits { regs.new.depth ≤ length stack.new }
+    ensures row { (l : Limits) (line : ℕ) (p : Storage) (below : List Activation) (now : Option (List ℕ)) → p.frames.items ≡ frames.now →
+        Obeys result l line (λ o m a b. at_level_of m a level o (λ j. pushed o m a b (LinkTo j))) p p regs.old regs.new stack.old stack.new below below now now }
+{
+    let Some(frame) = level_frame(frames, regs.home, level) else {
+        return Flow::NoRule;
+    };
+    if frame.stamp >= 1 << 63 {
+        return Flow::Memory;
+    }
+    push(stack, regs, Slot::link(frame))
+}
+
+/// Pushes the value of a cell.
+#[inline(always)]
+pub fn load(
+    frames: &[Frame],
+    cells: &[Slot],
+    stack: &mut [Slot],
+    regs: &mut Registers,
+    level: i64,
+    cell: i64,
+) -> Flow
+    requires fits { regs.old.depth ≤ length stack.old }
+    requires short { regs.old.pc + 1 < 2 ^ 64 }
+    ensures fits { regs.new.depth ≤ length stack.new }
+    ensures row { (l : Limits) (line : ℕ) (p : Storage) (below : List Activation) (now : Option (List ℕ)) → p.frames.items ≡ frames.now → p.cells.items ≡ cells.now →
+        Obeys result l line (λ o m a b. cell_at m a level cell o (λ j c. having (cell_value_of m j c) o (λ v. pushed o m a b v))) p p regs.old regs.new stack.old stack.new below below now now }
+{
+    let Some(frame) = level_frame(frames, regs.home, level) else {
+        return Flow::NoRule;
+    };
+    let Some(number) = index(cell) else {
+        return Flow::NoRule;
+    };
+    let Some(slot) = frames::cell(frames, cells, frame, number) else {
+        return Flow::NoRule;
+    };
+    push(stack, regs, slot)
+}
+
+/// The same value, as one that a cell may hold.
+#[inline(always)]
+pub fn held(slot: Slot) -> Slot
+    ensures value { value_of result ≡ value_of slot }
+    ensures held { cell_value result ≡ Some (value_of result) }
+    ensures leads { (frames : List Frame) (m : Frames) → SlotLeads frames m slot → SlotLeads frames m result }
+    ensures leads_arrays { (regions : List RegionOf) (arrays : List ArrayOf) → SlotLeadsArray regions arrays slot → SlotLeadsArray regions arrays result }
+{
+    match slot.kind {
+        SlotKind::Empty => NOTHING,
+        _ => slot,
+    }
+}
+
+/// Pops a value into a cell.
+#[inline(always)]
+pub fn store(
+    frames: &[Frame],
+    cells: &mut [Slot],
+    stack: &[Slot],
+    regs: &mut Registers,
+    level: i64,
+    cell: i64,
+) -> Flow
+    requires fits { regs.old.depth ≤ length stack.now }
+    requires short { regs.old.pc + 1 < 2 ^ 64 }
+    ensures fits { regs.new.depth ≤ length stack.now }
+    ensures row { (l : Limits) (line : ℕ) (p p2 : Storage) (below : List Activation) (now : Option (List ℕ)) → SameBut p p2 → p.frames.items ≡ frames.now → p.cells.items ≡ cells.old → p2.cells.items ≡ cells.new →
+        Obeys result l line (λ o m a b. popping a.stack o (λ v s. cell_at m a level cell o (λ j c. having (cell_set m j c v) o (λ m. on o m a s b)))) p p2 regs.old regs.new stack.now stack.now below below now now }
+{
+    let Some(at) = stack::pop(stack, regs.depth) else {
+        return Flow::NoRule;
+    };
+    let Some(frame) = level_frame(frames, regs.home, level) else {
+        return Flow::NoRule;
+    };
+    let Some(number) = index(cell) else {
+        return Flow::NoRule;
+    };
+    let slot = held(stack[at]);
+    if frames::set_cell(frames, cells, frame, number, slot) {
+        regs.depth = at;
+        regs.pc += 1;
+        return Flow::On;
+    }
+    Flow::NoRule
+}
+
+/// Ends the program, where the frame on top is that of block 0. It stops as for want of memory where the frame was given back, which
+/// does not happen to a frame on the chain.
+pub fn end_level(frames: &[Frame], regs: &Registers, operand: i64) -> Flow
+    ensures row { (code : CodeOf) (l : Limits) (line : ℕ) (p : Storage) (stack : List Slot) (below : List Activation) (now : Option (List ℕ)) → p.frames.items ≡ frames.now →
+        Obeys result l line (λ o m a b. row code l o m a b line (Instr.EndLevel operand)) p p regs.now regs.now stack stack below below now now }
+{
+    let Some(level) = index(operand) else {
+        return Flow::NoRule;
+    };
+    if level != 0 {
+        return Flow::NoRule;
+    }
+    let Some(place) = frames::find(frames, regs.home) else {
+        return Flow::Memory;
+    };
+    if frames[place].block != 0 {
+        return Flow::NoRule;
+    }
+    Flow::Normal
+}
+
+/// Pushes the address of a cell. It stops as for want of memory where the cell's number is 2^32 or more: no frame has such a cell.
+pub fn address(
+    frames: &[Frame],
+    stack: &mut [Slot],
+    regs: &mut Registers,
+    level: i64,
+    cell: i64,
+    class: i64,
+) -> Flow
+    requires fits { regs.old.depth ≤ length stack.old }
+    requires short { regs.old.pc + 1 < 2 ^ 64 }
+    ensures fits { regs.new.depth ≤ length stack.new }
+    ensures row { (l : Limits) (line : ℕ) (p : Storage) (below : List Activation) (now : Option (List ℕ)) → p.frames.items ≡ frames.now →
+        Obeys result l line (λ o m a b. having (no_class class) o (λ _. cell_at m a level cell o (λ j c. pushed o m a b (Address (CellPlace j c 0))))) p p regs.old regs.new stack.old stack.new below below now now }
+{
+    if !unqualified(class) {
+        return Flow::NoRule;
+    }
+    let Some(frame) = level_frame(frames, regs.home, level) else {
+        return Flow::NoRule;
+    };
+    let Some(number) = index(cell) else {
+        return Flow::NoRule;
+    };
+    let Ok(short) = u32::try_from(number) else {
+        return Flow::Memory;
+    };
+    if frame.stamp >= 1 << 63 {
+        return Flow::Memory;
+    }
+    push(stack, regs, Slot::cell(frame, short, 0))
+}
+
+// Whether no class is named.
+fn unqualified(class: i64) -> bool
+    ensures { result ≡ is_unqualified class }
+{
+    match class {
+        0 => true,
+        _ => false,
+    }
+}

@@ -1,0 +1,208 @@
+//! Rows that end frames.
+ghost use Rattle.std.specs.Prelude.{◌≡◌, ℕ, ◌<◌, ◌≤◌, List, Option, IfSome, None, length, true};
+ghost use Rattle.sim_base.specs.declared.limits.Limits.{Limits};
+ghost use Rattle.sim_code.specs.Code.{BlockOf, CodeOf};
+ghost use Rattle.sim_code.specs.Events.{having, when};
+ghost use Rattle.sim_code.specs.Machine.{Frames, Machine, Value, is_nothing as is_nothing_of, leaving, own_block as own_block_of, pushing_any, with_result};
+ghost use Rattle.sim_code.specs.Outcome.{ArrayOf, Run, World};
+ghost use Rattle.frame_arena.specs.Arrays.{AllLeadArrays, RegionOf};
+ghost use Rattle.frame_arena.specs.Frames.{AllLead, Has, Holds, Leads, found_value, frame_at};
+ghost use Rattle.frame_arena.specs.Stacks.{slot_at, values_of};
+ghost use Rattle.object_machine.specs.FrameEnds.{Ends, IsOwn, ValueLeads, handed};
+ghost use Rattle.object_machine.specs.Standing.{AllFit, Leaves, Obeys, Stands, Stores, below_of};
+
+use crate::blocks::same_kind;
+use crate::machine::{Activation, Flow, Registers, Storage};
+use frame_arena::frames::{self, Frame};
+use frame_arena::{Slot, stack};
+use sim_code::{BlockKind, BlockRecord, CodeType};
+use sim_values::{FrameRef, words_instance};
+
+/// What the end of a frame asks of its block.
+#[derive(Clone, Copy, Debug)]
+pub struct OwnBlock {
+    /// How many of its cells cost words.
+    pub cells: u32,
+    /// What a procedure gives.
+    pub result_type: CodeType,
+}
+
+// The number of the block of the frame in a region.
+#[inline(always)]
+fn block_of_frame(frames: &[Frame], place: usize) -> u32
+    requires there { place < length frames.now }
+    ensures { result ≡ (frame_at frames.now place).block }
+{
+    frames[place].block
+}
+
+// The block of a number, which is of this kind.
+fn own_block(blocks: &[BlockRecord], number: u32, kind: BlockKind) -> Option<OwnBlock>
+    ensures row { (code : CodeOf) → code.blocks ≡ blocks.now → IsOwn result code kind number }
+{
+    let Some(block) = blocks.get(number as usize) else {
+        return None;
+    };
+    if !same_kind(block.kind, kind) {
+        return None;
+    }
+    Some(OwnBlock {
+        cells: block.cells,
+        result_type: block.result_type,
+    })
+}
+
+// Whether a block gives no result.
+fn is_nothing(result_type: CodeType) -> bool
+    ensures { result ≡ is_nothing_of result_type }
+{
+    match result_type {
+        CodeType::Nothing => true,
+        _ => false,
+    }
+}
+
+// The result of a procedure, which stands in its first cell, if it has one; `None` where there is no value in that yet.
+fn result_of(
+    frames: &[Frame],
+    cells: &[Slot],
+    home: FrameRef,
+    result_type: CodeType,
+) -> Option<Option<Slot>>
+    ensures row { (b : BlockOf) (m : Frames) (o : World) (go : Option Value → Run Machine) → b.result_type ≡ result_type → Holds frames.now cells.now m → Leads frames.now m home →
+        with_result b m home.stamp o go ≡ having (handed result) o go }
+    ensures lies { IfSome result (λ v. IfSome v (λ s. (k : ℕ) × (s ≡ slot_at cells.now k))) }
+{
+    if is_nothing(result_type) {
+        return Some(None);
+    }
+    let Some(slot) = frames::cell(frames, cells, home, 0) else {
+        return None;
+    };
+    Some(Some(slot))
+}
+
+// Pushes a value, if there is one. It answers whether there was room.
+fn put(stack: &mut [Slot], regs: &mut Registers, value: Option<Slot>) -> bool
+    requires fits { regs.old.depth ≤ length stack.old }
+    ensures fits { regs.new.depth ≤ length stack.new }
+    ensures home { regs.new.home ≡ regs.old.home }
+    ensures place { regs.new.pc ≡ regs.old.pc }
+    ensures long { length stack.new ≡ length stack.old }
+    ensures leads { (frames : List Frame) (m : Frames) (regions : List RegionOf) (arrays : List ArrayOf) → AllLead frames m stack.old → ValueLeads frames m regions arrays value → AllLead frames m stack.new }
+    ensures leads_arrays { (frames : List Frame) (m : Frames) (regions : List RegionOf) (arrays : List ArrayOf) → AllLeadArrays regions arrays stack.old → ValueLeads frames m regions arrays value → AllLeadArrays regions arrays stack.new }
+    ensures row { (o : World) (go : List Value → Run Machine) → pushing_any (length stack.old) (values_of regs.old.depth stack.old) (found_value value) o go ≡ when result o (go (values_of regs.new.depth stack.new)) }
+{
+    let Some(slot) = value else {
+        return true;
+    };
+    let Some(depth) = stack::push(stack, regs.depth, slot) else {
+        return false;
+    };
+    regs.depth = depth;
+    true
+}
+
+// A frame gives back its words, and its arrays with theirs, and its region becomes free, where it is given back at its end.
+fn give(storage: &mut Storage, home: FrameRef, cells: u32)
+    requires there { Has storage.old.frames.items home.frame home.stamp }
+    ensures texts { storage.new.texts ≡ storage.old.texts }
+    ensures image { storage.new.image ≡ storage.old.image }
+    ensures row { (l : Limits) (b : BlockOf) (before now : Option (List ℕ)) (o : World) (m : Frames) → b.cells ≡ cells → Stores l storage.old before now o m →
+        Ends l storage.old storage.new b home.stamp before now o m }
+{
+    if !frames::is_given_at_end(&storage.frames, home.frame as usize) {
+        return;
+    }
+    let words = storage.words.saturating_sub(words_instance(cells, false));
+    storage.words = storage.arrays.give_back_owned(home.stamp, words);
+    frames::give_back(&mut storage.frames, &mut storage.heads, home.frame);
+}
+
+// The frame on top ends, and the one below it, which gets a value or none, becomes the top.
+fn finish(
+    storage: &mut Storage,
+    top: &mut Activation,
+    below: &mut Vec<Activation>,
+    cells: u32,
+    value: Option<Slot>,
+) -> Flow
+    requires there { Has storage.old.frames.items top.old.registers.home.frame top.old.registers.home.stamp }
+    requires fits { top.old.registers.depth ≤ length top.old.stack.items }
+    requires others { AllFit below.old.items }
+    ensures fits { top.new.registers.depth ≤ length top.new.stack.items }
+    ensures others { AllFit below.new.items }
+    ensures texts { storage.new.texts ≡ storage.old.texts }
+    ensures image { storage.new.image ≡ storage.old.image }
+    ensures row { (l : Limits) (line : ℕ) (b : BlockOf) (before now : Option (List ℕ)) (o : World) (m : Frames) → b.cells ≡ cells →
+        Stands l storage.old top.old.registers top.old.stack.items below.old.items before now o m → ValueLeads storage.old.frames.items m storage.old.arrays.regions o.arrays value →
+        Leaves result l line storage.new top.new.registers top.new.stack.items below.new.items before now (leaving b (below_of below.old.items) (found_value value) top.old.registers.home.stamp o m) }
+{
+    let Some(mut next) = below.pop() else {
+        return Flow::NoRule;
+    };
+    if !put(&mut next.stack, &mut next.registers, value) {
+        return Flow::NoRule;
+    }
+    give(storage, top.registers.home, cells);
+    *top = next;
+    Flow::On
+}
+
+/// The end of a sub-block. It answers want of memory where the frame on top was given back already, to which no run comes.
+pub fn leave(
+    blocks: &[BlockRecord],
+    storage: &mut Storage,
+    top: &mut Activation,
+    below: &mut Vec<Activation>,
+) -> Flow
+    requires fits { top.old.registers.depth ≤ length top.old.stack.items }
+    requires others { AllFit below.old.items }
+    ensures fits { top.new.registers.depth ≤ length top.new.stack.items }
+    ensures others { AllFit below.new.items }
+    ensures texts { storage.new.texts ≡ storage.old.texts }
+    ensures image { storage.new.image ≡ storage.old.image }
+    ensures row { (code : CodeOf) (l : Limits) (line : ℕ) (now : Option (List ℕ)) → code.blocks ≡ blocks.now →
+        Obeys result l line (λ o m a b. own_block_of code BlockKind.SubBlock m a o (λ x. leaving x b None a.home o m)) storage.old storage.new top.old.registers top.new.registers top.old.stack.items top.new.stack.items below.old.items below.new.items now now }
+{
+    let home = top.registers.home;
+    let Some(place) = frames::find(&storage.frames, home) else {
+        return Flow::Memory;
+    };
+    let number = block_of_frame(&storage.frames, place);
+    let Some(own) = own_block(blocks, number, BlockKind::SubBlock) else {
+        return Flow::NoRule;
+    };
+    finish(storage, top, below, own.cells, None)
+}
+
+/// The end of a procedure, whose result goes to the frame below. It answers want of memory where the frame on top was given back
+/// already, to which no run comes.
+pub fn give_result(
+    blocks: &[BlockRecord],
+    storage: &mut Storage,
+    top: &mut Activation,
+    below: &mut Vec<Activation>,
+) -> Flow
+    requires fits { top.old.registers.depth ≤ length top.old.stack.items }
+    requires others { AllFit below.old.items }
+    ensures fits { top.new.registers.depth ≤ length top.new.stack.items }
+    ensures others { AllFit below.new.items }
+    ensures texts { storage.new.texts ≡ storage.old.texts }
+    ensures image { storage.new.image ≡ storage.old.image }
+    ensures row { (code : CodeOf) (l : Limits) (line : ℕ) (now : Option (List ℕ)) → code.blocks ≡ blocks.now →
+        Obeys result l line (λ o m a b. own_block_of code BlockKind.Procedure m a o (λ x. with_result x m a.home o (λ v. leaving x b v a.home o m))) storage.old storage.new top.old.registers top.new.registers top.old.stack.items top.new.stack.items below.old.items below.new.items now now }
+{
+    let home = top.registers.home;
+    let Some(place) = frames::find(&storage.frames, home) else {
+        return Flow::Memory;
+    };
+    let number = block_of_frame(&storage.frames, place);
+    let Some(own) = own_block(blocks, number, BlockKind::Procedure) else {
+        return Flow::NoRule;
+    };
+    let Some(value) = result_of(&storage.frames, &storage.cells, home, own.result_type) else {
+        return Flow::NoRule;
+    };
+    finish(storage, top, below, own.cells, value)
+}

@@ -1,0 +1,27 @@
+//! The machine that runs code.
+#![tactic(auto)]
+
+mod arrays;
+mod begin;
+mod blocks;
+mod calling;
+mod cells;
+mod constants;
+mod control;
+mod ending;
+mod entering;
+mod first;
+mod handing;
+mod leaving;
+mod machine;
+mod names;
+mod openings;
+mod operands;
+mod paying;
+mod rows;
+mod running;
+mod start;
+mod stepping;
+mod steps;
+
+pub use running::run;

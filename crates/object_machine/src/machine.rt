@@ -1,0 +1,76 @@
+//! What the machine works on.
+
+use basic_io::OutImage;
+use frame_arena::frames::Frame;
+use frame_arena::{Arrays, Slot};
+use sim_base::RunError;
+use sim_values::FrameRef;
+use text_objects::Texts;
+
+/// Where a frame at work goes on.
+#[derive(Clone, Copy, Debug)]
+pub struct Registers {
+    /// The frame.
+    pub home: FrameRef,
+    /// The index of its next instruction.
+    pub pc: usize,
+    /// How many values are in its operand stack.
+    pub depth: usize,
+}
+
+/// A frame at work.
+#[derive(Drop)]
+pub struct Activation {
+    /// Where it goes on.
+    pub registers: Registers,
+    /// Its operand stack, as long as its room.
+    pub stack: Vec<Slot>,
+}
+
+/// What all frames share.
+#[derive(Drop)]
+pub struct Storage {
+    /// The regions with their frames.
+    pub frames: Vec<Frame>,
+    /// The cells of all regions.
+    pub cells: Vec<Slot>,
+    /// The operands of all regions, of which there are none: each frame at work has its own.
+    pub operands: Vec<Slot>,
+    /// For each block the region that was given back last.
+    pub heads: Vec<u32>,
+    /// How many frames were entered.
+    pub entered: u64,
+    /// The arrays.
+    pub arrays: Arrays,
+    /// The texts.
+    pub texts: Texts,
+    /// The image of sysout.
+    pub image: OutImage,
+    /// The ticks taken.
+    pub ticks: u64,
+    /// The words in use.
+    pub words: u64,
+    /// The words that were wanted last.
+    pub wanted: u64,
+}
+
+/// How a step ends.
+#[derive(Clone, Copy, Debug, PartialEq, Eq)]
+pub enum Flow {
+    /// The run goes on.
+    On,
+    /// The program came to its end.
+    Normal,
+    /// There is no rule.
+    NoRule,
+    /// All ticks are taken.
+    TickLimit,
+    /// The words that are wanted are not left.
+    Exhausted,
+    /// A run-time error.
+    Fault(RunError),
+    /// Want of memory.
+    Memory,
+    /// The output failed.
+    WriteFault,
+}

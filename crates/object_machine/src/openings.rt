@@ -1,0 +1,142 @@
+//! New frames.
+ghost use Rattle.std.specs.Prelude.{◌≡◌, ◌<◌, ◌≤◌, ◌^◌, ℕ, List, Option, IfOk, Some, None, length, map, false};
+ghost use Rattle.sim_code.specs.Machine.{Frames, first_value};
+ghost use Rattle.sim_code.specs.Outcome.{ArrayOf, World};
+ghost use Rattle.sim_values.specs.declared.value.FrameRef.{FrameRef as Reference};
+ghost use Rattle.sim_base.specs.declared.limits.Limits.{Limits};
+ghost use Rattle.frame_arena.specs.Arrays.{AllLeadArrays, RegionOf, names_array};
+ghost use Rattle.frame_arena.specs.Frames.{Holds, Leads, cells_at, frame_at, names_frame};
+ghost use Rattle.frame_arena.specs.Slots.{cell_value};
+ghost use Rattle.object_machine.specs.Entering.{Opens};
+ghost use Rattle.object_machine.specs.Standing.{Stores};
+
+use crate::machine::{Activation, Registers, Storage};
+use frame_arena::frames::{self, Entry, Frame};
+use frame_arena::regions::{add_region, take_free};
+use frame_arena::{EMPTY, NOTHING, Slot, SlotKind};
+use sim_code::{BlockRecord, CodeType};
+use sim_values::FrameRef;
+use std::alloc::{AllocError, Global};
+
+// What a cell of a type holds at the entry.
+fn first_slot(code_type: CodeType) -> Slot
+    ensures value { cell_value result ≡ first_value code_type }
+    ensures no_frame { names_frame result.kind ≡ false }
+    ensures no_array { names_array result.kind ≡ false }
+{
+    match code_type {
+        CodeType::Nothing => EMPTY,
+        CodeType::Integer => Slot {
+            kind: SlotKind::Integer,
+            ..EMPTY
+        },
+        CodeType::Boolean => Slot {
+            kind: SlotKind::Truth,
+            ..EMPTY
+        },
+        CodeType::Character => Slot {
+            kind: SlotKind::Character,
+            ..EMPTY
+        },
+        CodeType::Text => Slot {
+            kind: SlotKind::Text,
+            more: 1,
+            data: 1,
+            ..EMPTY
+        },
+        CodeType::Reference => NOTHING,
+    }
+}
+
+// A region that is free, with so many cells.
+fn reserve(
+    frames: &mut Vec<Frame>,
+    cells: &mut Vec<Slot>,
+    operands: &mut Vec<Slot>,
+    heads: &mut [u32],
+    block: u32,
+    count: u32,
+) -> Result<usize, AllocError>
+    ensures there { IfOk result (λ place. place < length frames.new.items) }
+    ensures free { IfOk result (λ place. (frame_at frames.new.items place).live ≡ false) }
+    ensures cells { IfOk result (λ place. (frame_at frames.new.items place).cells ≡ count) }
+    ensures holds { IfOk result (λ place. (m : Frames) → Holds frames.old.items cells.old.items m → Holds frames.new.items cells.new.items m) }
+    ensures leads { IfOk result (λ place. (m : Frames) (r : Reference) → Leads frames.old.items m r → Leads frames.new.items m r) }
+    ensures arrays { IfOk result (λ place. (regions : List RegionOf) (arrays : List ArrayOf) → AllLeadArrays regions arrays cells.old.items → AllLeadArrays regions arrays cells.new.items) }
+{
+    if let Some(place) = take_free(frames, heads, block, count, 0) {
+        return Ok(place);
+    }
+    add_region(frames, cells, operands, count, 0)
+}
+
+// The cells of a free region get their first values.
+fn fill_first(frames: &[Frame], cells: &mut [Slot], place: usize, types: &[CodeType])
+    requires there { place < length frames.now }
+    requires free { (frame_at frames.now place).live ≡ false }
+    requires count { (frame_at frames.now place).cells ≡ length types.now }
+    ensures holds { (m : Frames) → Holds frames.now cells.old m → Holds frames.now cells.new m }
+    ensures arrays { (regions : List RegionOf) (arrays : List ArrayOf) → AllLeadArrays regions arrays cells.old → AllLeadArrays regions arrays cells.new }
+    ensures cells { (m : Frames) → Holds frames.now cells.old m → cells_at cells.new (frame_at frames.now place).base (length types.now) ≡ map first_value types.now }
+{
+    for at in 0..types.len() {
+        let slot = first_slot(types[at]);
+        frames::set_free(frames, cells, place, at, slot);
+    }
+}
+
+/// A new frame of a block, with its first values, which is not yet on the chain. It answers want of memory also where there would be
+/// 2^32 regions or 2^63 frames.
+pub fn open(
+    alloc: Global,
+    storage: &mut Storage,
+    number: u32,
+    block: &BlockRecord,
+    parent: Option<FrameRef>,
+) -> Result<Activation, AllocError>
+    ensures texts { storage.new.texts ≡ storage.old.texts }
+    ensures image { storage.new.image ≡ storage.old.image }
+    ensures fits { IfOk result (λ t. t.registers.depth ≤ length t.stack.items) }
+    ensures row { IfOk result (λ t. (l : Limits) (before now : Option (List ℕ)) (o : World) (m : Frames) → Stores l storage.old before now o m → ((r : Reference) → parent ≡ Some r → Leads storage.old.frames.items m r) →
+        Opens l storage.old storage.new number block.now parent t before now o m) }
+{
+    let Ok(count) = u32::try_from(block.types.len()) else {
+        return Err(AllocError);
+    };
+    if storage.entered >= 1 << 63 {
+        return Err(AllocError);
+    }
+    let stack = vec![in alloc; EMPTY; block.room as usize]?;
+    let place = reserve(
+        &mut storage.frames,
+        &mut storage.cells,
+        &mut storage.operands,
+        &mut storage.heads,
+        number,
+        count,
+    )?;
+    let Ok(region) = u32::try_from(place) else {
+        return Err(AllocError);
+    };
+    fill_first(&storage.frames, &mut storage.cells, place, &block.types);
+    let entry = Entry {
+        number: storage.entered,
+        block: number,
+        level: block.level,
+        parent,
+        passing: block.class_free,
+    };
+    frames::enter(&mut storage.frames, place, entry);
+    storage.entered += 1;
+    Ok(Activation {
+        registers: Registers {
+            home: FrameRef {
+                frame: region,
+                stamp: entry.number,
+            },
+            pc: block.entry as usize,
+            depth: 0,
+        },
+        stack,
+    })
+}

@@ -1,0 +1,155 @@
+//! The table: what each instruction does.
+ghost use Rattle.std.specs.Prelude.{◌≡◌, ℕ, ◌+◌, ◌<◌, ◌≤◌, ◌^◌, List, Option, length};
+ghost use Rattle.sim_base.specs.declared.limits.Limits.{Limits as LimitsOf};
+ghost use Rattle.sim_code.specs.Code.{CodeOf};
+ghost use Rattle.sim_code.specs.Events.{no_rule as no_rule_of, stopping};
+ghost use Rattle.sim_code.specs.Outcome.{Normal};
+ghost use Rattle.sim_code.specs.Rows.{row};
+ghost use Rattle.frame_arena.specs.declared.slot.Slot.{Slot as SlotOf};
+ghost use Rattle.object_machine.specs.Standing.{Obeys, Row};
+
+use crate::arrays::{array, copy_array, elem, fetch, keep, put};
+use crate::cells::{address, end_level, link, load, store};
+use crate::control::{jump, jump_if_false, tick};
+use crate::machine::{Activation, Flow, Registers, Storage};
+use crate::operands::{
+    drop_top, dup, one, push_character, push_integer, push_none, push_truth, relation, step_test,
+    swap, two,
+};
+use frame_arena::Slot;
+use sim_base::Limits;
+use sim_code::{Instr, Lined};
+use sim_values::{Calculation, Connective, Dyadic, Monadic};
+
+// The end of the program.
+#[inline(always)]
+fn halt() -> Flow
+    ensures { (l : LimitsOf) (line : ℕ) (p : Storage) (r : Registers) (stack : List SlotOf) (below : List Activation) (now : Option (List ℕ)) →
+        Obeys result l line (λ o m a b. stopping Normal o) p p r r stack stack below below now now }
+{
+    Flow::Normal
+}
+
+// Where there is no rule.
+#[inline(always)]
+fn no_rule() -> Flow
+    ensures { (l : LimitsOf) (line : ℕ) (p : Storage) (r : Registers) (stack : List SlotOf) (below : List Activation) (now : Option (List ℕ)) →
+        Obeys result l line (λ o m a b. no_rule_of o) p p r r stack stack below below now now }
+{
+    Flow::NoRule
+}
+
+// What is not built: the machine stops as for want of memory.
+#[inline(always)]
+fn not_built() -> Flow
+    ensures { (l : LimitsOf) (line : ℕ) (does : Row) (p : Storage) (r : Registers) (stack : List SlotOf) (below : List Activation) (now : Option (List ℕ)) →
+        Obeys result l line does p p r r stack stack below below now now }
+{
+    Flow::Memory
+}
+
+/// Does an instruction that leaves the frame on top where it is.
+#[inline(always)]
+pub fn obey(
+    instrs: &[Lined],
+    limits: &Limits,
+    storage: &mut Storage,
+    stack: &mut [Slot],
+    regs: &mut Registers,
+    instr: Instr,
+) -> Flow
+    requires fits { regs.old.depth ≤ length stack.old }
+    requires short { regs.old.pc + 1 < 2 ^ 64 }
+    ensures fits { regs.new.depth ≤ length stack.new }
+    ensures texts { storage.new.texts ≡ storage.old.texts }
+    ensures image { storage.new.image ≡ storage.old.image }
+    ensures row { (code : CodeOf) (line : ℕ) (below : List Activation) (now : Option (List ℕ)) → code.instrs ≡ instrs.now →
+        Obeys result limits.now line (λ o m a b. row code limits.now o m a b line instr) storage.old storage.new regs.old regs.new stack.old stack.new below below now now }
+{
+    match instr {
+        Instr::Halt => halt(),
+        Instr::Int(value) => push_integer(stack, regs, value),
+        Instr::Bool(value) => push_truth(stack, regs, value),
+        Instr::Char(value) => push_character(stack, regs, value),
+        Instr::None => push_none(stack, regs),
+        Instr::Link(level) => link(&storage.frames, stack, regs, level),
+        Instr::Addr { level, cell, class } => {
+            address(&storage.frames, stack, regs, level, cell, class)
+        }
+        Instr::Load { level, cell } => {
+            load(&storage.frames, &storage.cells, stack, regs, level, cell)
+        }
+        Instr::Store { level, cell } => store(
+            &storage.frames,
+            &mut storage.cells,
+            stack,
+            regs,
+            level,
+            cell,
+        ),
+        Instr::Elem { subscripts, class } => {
+            elem(&storage.arrays, stack, regs, subscripts, class)
+        }
+        Instr::Fetch => fetch(
+            &storage.frames,
+            &storage.cells,
+            &storage.arrays,
+            stack,
+            regs,
+        ),
+        Instr::Put => put(storage, stack, regs),
+        Instr::Array {
+            element,
+            dimensions,
+        } => array(limits, storage, stack, regs, element, dimensions),
+        Instr::CopyArr => copy_array(limits, storage, stack, regs),
+        Instr::Keep => keep(&mut storage.arrays, stack, regs),
+        Instr::Dup => dup(stack, regs),
+        Instr::Pop => drop_top(stack, regs),
+        Instr::Swap => swap(stack, regs),
+        Instr::Neg => one(stack, regs, Monadic::Negate),
+        Instr::Add => two(stack, regs, Dyadic::Calculate(Calculation::Add)),
+        Instr::Sub => two(stack, regs, Dyadic::Calculate(Calculation::Subtract)),
+        Instr::Mul => two(stack, regs, Dyadic::Calculate(Calculation::Multiply)),
+        Instr::Div => two(stack, regs, Dyadic::Calculate(Calculation::Divide)),
+        Instr::Pow => two(stack, regs, Dyadic::Calculate(Calculation::Power)),
+        Instr::Rel(operand) => relation(stack, regs, operand),
+        Instr::Same => two(stack, regs, Dyadic::SameObject),
+        Instr::Not => one(stack, regs, Monadic::Not),
+        Instr::And => two(stack, regs, Dyadic::Connect(Connective::And)),
+        Instr::Or => two(stack, regs, Dyadic::Connect(Connective::Or)),
+        Instr::Imp => two(stack, regs, Dyadic::Connect(Connective::Implies)),
+        Instr::Eqv => two(stack, regs, Dyadic::Connect(Connective::Equivalent)),
+        Instr::Jump(to) => jump(instrs, regs, to),
+        Instr::JumpF(to) => jump_if_false(instrs, stack, regs, to),
+        Instr::Tick => tick(limits, storage, regs),
+        Instr::StepTest => step_test(stack, regs),
+        Instr::EndLevel(level) => end_level(&storage.frames, regs, level),
+        Instr::This(_) => no_rule(),
+        Instr::AddrR { .. } => no_rule(),
+        Instr::AddrImg(_) => no_rule(),
+        Instr::Is(_) => no_rule(),
+        Instr::In(_) => no_rule(),
+        Instr::Qua(_) => no_rule(),
+        Instr::ProcVal(_) => no_rule(),
+        Instr::Virt(_) => no_rule(),
+        Instr::Check(_) => no_rule(),
+        Instr::Param { .. } => no_rule(),
+        Instr::CallV(_) => no_rule(),
+        Instr::Thunk(_) => no_rule(),
+        Instr::NameVal { .. } => no_rule(),
+        Instr::NameAddr { .. } => no_rule(),
+        Instr::EndThunk => no_rule(),
+        Instr::New { .. } => no_rule(),
+        Instr::Pref { .. } => no_rule(),
+        Instr::NextDecl(_) => no_rule(),
+        Instr::Inner(_) => no_rule(),
+        Instr::AssignT => no_rule(),
+        Instr::Act(_) => no_rule(),
+        Instr::Detach => no_rule(),
+        Instr::Attach => no_rule(),
+        Instr::Resume => no_rule(),
+        Instr::NotNone => no_rule(),
+        _ => not_built(),
+    }
+}

@@ -1,0 +1,47 @@
+//! Running code.
+ghost use Rattle.std.specs.Prelude.{◌≡◌, ℕ};
+ghost use Rattle.sim_code.specs.Running.{AllRun};
+ghost use Rattle.object_machine.specs.Running.{FaultsAs, RanAs};
+
+use crate::begin::Begun;
+use crate::ending::answer;
+use crate::first::begin;
+use crate::machine::Flow;
+use crate::start::start;
+use crate::steps::steps;
+use sim_base::Limits;
+use sim_code::{Code, Ending};
+use sim_ports::Sink;
+use std::alloc::Global;
+
+/// Runs code from its first step to its end, and writes its output.
+pub fn run<O: Sink>(alloc: Global, code: &Code, limits: &Limits, out: &mut O) -> Ending
+    requires runs { AllRun code.now.instrs }
+    ensures ran { RanAs code.now limits.now result (O.written out.old) (O.written out.new) }
+    ensures faults { FaultsAs O.written O.faults result out.old out.new }
+{
+    let Ok(mut storage) = start(alloc, &code.texts, limits) else {
+        return Ending::Memory;
+    };
+    let begun = begin(alloc, &code.blocks, &code.instrs, limits, &mut storage);
+    match begun {
+        Begun::Stopped(stop) => answer(limits, &mut storage, out, stop),
+        Begun::Started(mut top) => {
+            let mut below = Vec::new(alloc);
+            let stop = steps(
+                alloc,
+                &code.blocks,
+                &code.instrs,
+                limits,
+                &mut storage,
+                out,
+                &mut top,
+                &mut below,
+            );
+            match stop.flow {
+                Flow::WriteFault => Ending::WriteFault,
+                _ => answer(limits, &mut storage, out, stop),
+            }
+        }
+    }
+}

@@ -1,0 +1,59 @@
+//! The machine before its first step.
+ghost use Rattle.std.specs.Prelude.{◌≡◌, ◌++◌, ◌∷◌, [], ℕ, List, Option, IfOk, OnOk, length, replicate};
+ghost use Rattle.sim_code.specs.Outcome.{first_world};
+ghost use Rattle.sim_values.specs.Store.{constant_frames};
+ghost use Rattle.basic_io.specs.Image.{IsImage};
+ghost use Rattle.frame_arena.specs.Frames.{empty_memory};
+ghost use Rattle.object_machine.specs.Standing.{Stores};
+
+use crate::machine::Storage;
+use basic_io::OutImage;
+use frame_arena::Arrays;
+use sim_base::{ByteString, Limits, Memory};
+use std::alloc::Global;
+use text_objects::Texts;
+
+// The text constants, each a frame of its own.
+fn add_constants(texts: &mut Texts, constants: &[ByteString]) -> Result<(), Memory>
+    ensures { OnOk result (texts.new ≡ texts.old ++ constant_frames constants.now) }
+{
+    for at in 0..constants.len() {
+        let Some(constant) = constants.get(at) else {
+            return Err(Memory);
+        };
+        let bytes = constant.as_bytes();
+        if bytes.len() >= u32::MAX as usize {
+            return Err(Memory);
+        }
+        texts.constant(bytes)?;
+    }
+    Ok(())
+}
+
+/// The machine before its first step: the text constants, and then the two images. It answers want of memory also for a constant of
+/// 2^32-1 characters or more, and where sysout has no character in a line.
+pub fn start(alloc: Global, constants: &[ByteString], limits: &Limits) -> Result<Storage, Memory>
+    ensures valid { IfOk result (λ p. IsImage p.texts p.image) }
+    ensures row { IfOk result (λ p. (before : Option (List ℕ)) (input : List ℕ) → Stores limits.now p before before (first_world constants.now limits.now input) empty_memory) }
+{
+    if limits.out_length == 0 {
+        return Err(Memory);
+    }
+    let mut texts = Texts::new(alloc);
+    add_constants(&mut texts, constants)?;
+    texts.image(limits.in_length)?;
+    let image = OutImage::new(&mut texts, limits.out_length)?;
+    Ok(Storage {
+        frames: Vec::new(alloc),
+        cells: Vec::new(alloc),
+        operands: Vec::new(alloc),
+        heads: Vec::new(alloc),
+        entered: 0,
+        arrays: Arrays::new(alloc),
+        texts,
+        image,
+        ticks: 0,
+        words: 0,
+        wanted: 0,
+    })
+}

@@ -1,0 +1,3 @@
+pub mod AsJudged
+pub mod Gathering
+pub mod Holding

@@ -1,0 +1,69 @@
+-- The texts of a program as parts of its tree.
+use Rattle.std.specs.Prelude.{◌≡◌, List, [], ◌∷◌, ◌++◌, map, Option, Some, None}
+use Rattle.std.specs.declared.alloc.Global.{Global}
+use Rattle.std.specs.declared.boxed.Box.{Box}
+use Rattle.sim_tree.specs.declared.program.Program.{Program as ProgramTree}
+use Rattle.sim_tree.specs.declared.stmt.Block.{Block as BlockTree}
+use Rattle.sim_tree.specs.declared.stmt.Decl.{Decl}
+use Rattle.sim_tree.specs.declared.stmt.Stmt.{Stmt}
+use Rattle.sim_tree.specs.declared.stmt.When.{When}
+use Rattle.sim_tree.specs.Syntax.{Begin, Block, Prefix, Program}
+use Rattle.sim_tree.specs.SyntaxOfProgram.{arm_syntax, block_syntax, branch_syntax, declaration_syntax, heading_syntax, prefix_syntax, program_syntax, statement_syntax}
+use Rattle.sim_meaning.specs.Texts.{BlockText, ClassText, ConnectionText, PrefixedText, ProcedureText, Text, block_texts, declaration_texts, declarations_texts, program_texts, statement_texts, statements_texts}
+use Rattle.program_texts.specs.declared.tree.TextTree.{TextTree}
+use Rattle.program_texts.specs.declared.tree.TextTree.TheVariants as tree
+
+-- ---- one text
+
+abbrev pub block_text : Block → Text
+block_text (Begin token ds ss end) = BlockText token ds ss
+
+abbrev pub prefixed_text : Prefix → Block → Text
+prefixed_text p (Begin token ds ss end) = PrefixedText p.class p.arguments ds ss
+
+-- the text that a part of the tree is
+abbrev pub text_in : TextTree → Text
+text_in (tree.Block b) = block_text (block_syntax b.now)
+text_in (tree.Procedure result p) = ProcedureText result.now (heading_syntax p.now.name p.now.parameters.items p.now.modes.items p.now.specifications.items) (statement_syntax p.now.body.value)
+text_in (tree.Class prefix c) = ClassText prefix.now (heading_syntax c.now.name c.now.parameters.items c.now.modes.items c.now.specifications.items) (statement_syntax c.now.body.value)
+text_in (tree.Prefixed p b) = prefixed_text (prefix_syntax p.now) (block_syntax b.now)
+text_in tree.Connection = ConnectionText
+
+-- the text of the program's block
+abbrev pub outer_of : Option Prefix → Block → Text
+outer_of None b = block_text b
+outer_of (Some p) b = prefixed_text p b
+
+abbrev pub outer_text : Program → Text
+outer_text p = outer_of p.prefix p.block
+
+-- the parts of the tree are the texts of the program
+unfoldable pub AreTexts : ProgramTree → List TextTree → Type 0
+AreTexts p ts = map text_in ts ≡ program_texts (program_syntax p).prefix (program_syntax p).block
+
+-- ---- texts behind texts
+
+-- behind old there are these texts
+unfoldable pub Lists : (old new : List TextTree) → List Text → Type 0
+Lists old new xs = map text_in new ≡ map text_in old ++ xs
+
+unfoldable pub of_statement : Stmt → List Text
+of_statement x = statement_texts (statement_syntax x)
+
+unfoldable pub of_branch : Option (Box Stmt Global) → List Text
+of_branch x = statements_texts (branch_syntax x)
+
+unfoldable pub of_arm : When → List Text
+of_arm w = ConnectionText ∷ statement_texts (arm_syntax w).body
+
+unfoldable pub of_block : BlockTree → List Text
+of_block b = block_texts (block_syntax b)
+
+abbrev pub inside_texts : Block → List Text
+inside_texts (Begin token ds ss end) = declarations_texts ds ++ statements_texts ss
+
+unfoldable pub of_inside : BlockTree → List Text
+of_inside b = inside_texts (block_syntax b)
+
+unfoldable pub of_declaration : Decl → List Text
+of_declaration d = declaration_texts (declaration_syntax d)

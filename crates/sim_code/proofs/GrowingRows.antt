@@ -1,0 +1,212 @@
+-- Each row of the machine's table leaves what is written.
+use Rattle.std.proofs.Common.{◌≡◌, ℕ, zero, suc, ◌+◌, List, [], ◌∷◌, length, Option, Some, None, Bool, true, false, refl, sym, subst, ap, ◌∙◌}
+use Rattle.std.specs.Prelude.{◌==◌, ◌*◌, ℤ, pos, negsuc, slice_get, slice_set, if◌then◌else◌}
+use Rattle.sim_base.specs.declared.limits.Limits.{Limits}
+use Rattle.sim_values.specs.declared.kind.Kind.{Kind}
+use Rattle.sim_values.specs.declared.operators.Comparison.{Comparison}
+use Rattle.sim_values.specs.declared.operators.Dyadic.{Dyadic}
+use Rattle.sim_values.specs.declared.operators.Monadic.{Monadic}
+use Rattle.sim_values.specs.declared.standard.Standard.{Standard}
+use Rattle.sim_values.specs.Plain.{Plain, Truth}
+use Rattle.sim_code.specs.declared.code.BlockKind.{BlockKind}
+use Rattle.sim_code.specs.declared.instr.Instr.{Instr}
+use Rattle.sim_code.specs.declared.instr.Instr.TheVariants as i
+use Rattle.sim_code.specs.declared.instr.Lined.{Lined}
+use Rattle.sim_code.specs.Code.{BlockOf, CodeOf}
+use Rattle.sim_code.specs.Outcome.{ArrayOf, Going, Run, World, after}
+use Rattle.sim_code.specs.Events.{having, no_rule, when}
+use Rattle.sim_code.specs.Arrays.{element, element_set, element_set_in, giving_back, handed_over, live_array, owned_by, with_array}
+use Rattle.sim_code.specs.Instances.{CellPlace, ElementPlace, ImagePlace, Place, at_level, is_given_at_end, is_live}
+use Rattle.sim_code.specs.Machine.{Activation, Cells, Frames, Machine, arrays_by_value, words_of_block, Value, array_in, block_at, cell, cell_at, cell_set, frame_in, index, is_there, is_tick, jumping, leaving, level, number, own_block, owner, place_in, plain, pushing, pushing_any, same_kind, text_in, value_at, with_result}
+use Rattle.sim_code.specs.Rows.{code_of, comparison_of, element_kind, entering_procedure, first_step, mstep, mrun, no_class, on_chain, on_top, one_row, opening, pushed, putting, row, standard_of, truth_of, two_row}
+use Rattle.sim_code.specs.Growing.{Grown, OutputGrows, written}
+use Rattle.sim_code.proofs.Growing.{Grows, after_grows, after_more, grown_same, grows_choosing, grows_computing, grows_copying, grows_entering, grows_finding, grows_having, grows_if, grows_integers, grows_keeping, grows_making, grows_many, grows_no_rule, grows_one, grows_performing, grows_plain, grows_popping, grows_step, grows_stopping, grows_ticking, grows_truth, grows_two, grows_when}
+
+-- going on here writes nothing
+abbrev Here : World → Run Machine → Type 0
+Here o r = Grows o.store.written r
+
+going : (o : World) (s : Machine) → Here o (Going o s)
+going o s = record { more = grown_same o.store.written }
+
+pushed_grows : (room : ℕ) (stack : List Value) (v : Value) (o : World) (go : List Value → Run Machine) → ((s : List Value) → Here o (go s)) → Here o (pushing room stack v o go)
+unfolding pushing
+pushed_grows room stack v o go h = grows_when Machine _ o _ (h _)
+
+any_grows : (room : ℕ) (stack : List Value) (v : Option Value) (o : World) (go : List Value → Run Machine) → ((s : List Value) → Here o (go s)) → Here o (pushing_any room stack v o go)
+any_grows room stack None o go h = h stack
+any_grows room stack (Some v) o go h = pushed_grows room stack v o go h
+
+index_grows : (z : ℤ) (o : World) (go : ℕ → Run Machine) → ((n : ℕ) → Here o (go n)) → Here o (index z o go)
+unfolding index
+index_grows z o go h = grows_having Machine ℕ (number z) o _ (λ n _. h n)
+
+level_grows : (m : Frames) (a : Activation) (z : ℤ) (o : World) (go : ℕ → Run Machine) → ((n : ℕ) → Here o (go n)) → Here o (level m a z o go)
+unfolding level
+level_grows m a z o go h = index_grows z o _ (λ l. grows_having Machine ℕ (at_level m l a.home) o _ (λ j _. h j))
+
+cell_grows : (m : Frames) (a : Activation) (l c : ℤ) (o : World) (go : ℕ → ℕ → Run Machine) → ((j c : ℕ) → Here o (go j c)) → Here o (cell_at m a l c o go)
+unfolding cell_at
+cell_grows m a l c o go h = level_grows m a l o _ (λ j. index_grows c o _ (λ c. h j c))
+
+jump_grows : (code : CodeOf) (pc : ℕ) (z : ℤ) (o : World) (go : ℕ → Run Machine) → ((q : ℕ) → Here o (go q)) → Here o (jumping code pc z o go)
+unfolding jumping
+jump_grows code pc z o go h = index_grows z o _ (λ q. grows_when Machine _ o _ (h q))
+
+block_grows : (code : CodeOf) (kind : BlockKind) (z : ℤ) (o : World) (go : ℕ → BlockOf → Lined → Run Machine) → ((k : ℕ) (b : BlockOf) (x : Lined) → Here o (go k b x)) → Here o (block_at code kind z o go)
+unfolding block_at
+block_grows code kind z o go h = index_grows z o _ (λ k. grows_having Machine BlockOf _ o _ (λ b _. grows_when Machine (same_kind b.kind kind) o _ (grows_having Machine Lined _ o _ (λ x _. h k b x))))
+
+own_grows : (code : CodeOf) (kind : BlockKind) (m : Frames) (a : Activation) (o : World) (go : BlockOf → Run Machine) → ((b : BlockOf) → Here o (go b)) → Here o (own_block code kind m a o go)
+unfolding own_block
+own_grows code kind m a o go h = grows_having Machine ℕ (owner a) o _ (λ j _. grows_having Machine ℕ _ o _ (λ k _. grows_having Machine BlockOf _ o _ (λ b _. grows_when Machine (same_kind b.kind kind) o _ (h b))))
+
+result_grows : (b : BlockOf) (m : Frames) (j : ℕ) (o : World) (go : Option Value → Run Machine) → ((v : Option Value) → Here o (go v)) → Here o (with_result b m j o go)
+unfolding with_result
+result_grows b m j o go h = grows_if Machine _ o _ _ (h None) (grows_having Machine Value (cell m j 0) o _ (λ v _. h (Some v)))
+
+-- ---- what changes the world and writes nothing
+
+back_same : (o : World) (j words : ℕ) → (giving_back o j words).store.written ≡ o.store.written
+unfolding giving_back
+back_same o j words = refl
+
+left_same : (c : Bool) (o : World) (j words : ℕ) → (if c then giving_back o j words else o).store.written ≡ o.store.written
+left_same true o j words = back_same o j words
+left_same false o j words = refl
+
+handed_same : (owner : ℕ) (arrays : List ℕ) (o : World) → (handed_over owner arrays o).store.written ≡ o.store.written
+unfolding handed_over
+handed_same owner [] o = refl
+handed_same owner (n ∷ rest) o = handed_same owner rest _ ∙ owned_same (slice_get o.arrays n) n owner o
+  where
+    owned_same : (a : Option ArrayOf) (n owner : ℕ) (o : World) → (owned_by owner a o n).store.written ≡ o.store.written
+    owned_same None n owner o = refl
+    owned_same (Some a) n owner o = refl
+
+leaving_grows : (b : BlockOf) (below : List Activation) (v : Option Value) (j : ℕ) (o : World) (m : Frames) → Here o (leaving b below v j o m)
+unfolding leaving
+leaving_grows b [] v j o m = grows_no_rule Machine o
+leaving_grows b (a ∷ below) v j o m = any_grows a.room a.stack v o _ (λ stack. record { more = subst (λ w. Grown o.store.written w) (sym (left_same (is_given_at_end m j) o j (words_of_block b))) (grown_same o.store.written) })
+
+set_same : (o : World) (n i : ℕ) (v : Plain) (p : World) → element_set o n i v ≡ Some p → p.store.written ≡ o.store.written
+set_same o n i v p is = by_parts (live_array o n) (element o n i) is
+  where
+    by_parts : (a : Option ArrayOf) (old : Option Plain) → element_set_in o n i v a old ≡ Some p → p.store.written ≡ o.store.written
+    by_parts (Some a) (Some old) is = let same : with_array o n (record a { elements = slice_set a.elements i v }) ≡ p = cc in ap (λ (w : World). w.store.written) (sym same)
+    by_parts (Some a) None is = absurd (cc)
+    by_parts None old is = absurd (cc)
+
+putting_grows : (p : Place ℕ ℕ) (v : Value) (o : World) (m : Frames) (go : World → Frames → Run Machine) → ((o : World) (m : Frames) → Here o (go o m)) → Here o (putting p v o m go)
+unfolding putting
+putting_grows (CellPlace j c zero) v o m go h = grows_having Machine Frames (cell_set m j c v) o _ (λ m _. h o m)
+putting_grows (CellPlace j c (suc k)) v o m go h = grows_no_rule Machine o
+putting_grows (ElementPlace a n zero) v o m go h = grows_having Machine Plain (plain v) o _ (λ p _. grows_having Machine World (element_set o a n p) o _ (λ q is. subst (λ w. Grows w (go q m)) (set_same o a n p q is) (h q m)))
+putting_grows (ElementPlace a n (suc k)) v o m go h = grows_no_rule Machine o
+putting_grows (ImagePlace n) v o m go h = grows_no_rule Machine o
+
+-- ---- the rows
+
+none : (o : World) → Here o (no_rule o)
+none o = grows_no_rule Machine o
+
+two_grows : (o : World) (m : Frames) (a : Activation) (below : List Activation) (line : ℕ) (op : Dyadic) → Here o (two_row o m a below line op)
+two_grows o m a below line op = grows_two Machine Value plain op line a.stack o _ (λ z stack. going o _)
+
+one_grows : (o : World) (m : Frames) (a : Activation) (below : List Activation) (line : ℕ) (op : Monadic) → Here o (one_row o m a below line op)
+one_grows o m a below line op = grows_one Machine Value plain op line a.stack o _ (λ z stack. going o _)
+
+push_grows : (o : World) (m : Frames) (a : Activation) (below : List Activation) (v : Value) → Here o (pushed o m a below v)
+push_grows o m a below v = pushed_grows a.room a.stack v o _ (λ s. going o _)
+
+call_grows : (code : CodeOf) (l : Limits) (o : World) (m : Frames) (a : Activation) (below : List Activation) (line : ℕ) (k n : ℤ) → Here o (entering_procedure code l o m a below line k n)
+call_grows code l o m a below line k n =
+    index_grows n o _ (λ n. grows_many Machine Value plain n [] a.stack o _ (λ values stack. grows_popping Machine Value plain stack o _ (λ v stack. grows_having Machine ℕ (frame_in v) o _ (λ parent _. grows_when Machine (is_live m parent) o _ (
+    block_grows code _ k o _ (λ k b x. grows_having Machine Cells _ o _ (λ cells _. grows_entering Machine l line (words_of_block b) o _ (λ p.
+    record { more = subst (λ w. Grown p.store.written w) (sym (handed_same (length m.instances) (arrays_by_value b.formals values) p)) (grown_same p.store.written) }))))))))
+
+row_grows : (code : CodeOf) (l : Limits) (o : World) (m : Frames) (a : Activation) (below : List Activation) (line : ℕ) (x : Instr) → Here o (row code l o m a below line x)
+row_grows code l o m a below line i.Halt = grows_stopping Machine _ o
+row_grows code l o m a below line (i.Int z) = push_grows o m a below _
+row_grows code l o m a below line (i.Bool z) = grows_having Machine Bool (truth_of z) o _ (λ b _. push_grows o m a below _)
+row_grows code l o m a below line (i.Char z) = grows_having Machine ℕ (code_of z) o _ (λ c _. push_grows o m a below _)
+row_grows code l o m a below line (i.TextK z) = index_grows z o _ (λ n. grows_having Machine (List ℕ) _ o _ (λ bytes _. push_grows o m a below _))
+row_grows code l o m a below line i.None = push_grows o m a below _
+row_grows code l o m a below line i.NoText = push_grows o m a below _
+row_grows code l o m a below line (i.Link z) = level_grows m a z o _ (λ j. push_grows o m a below _)
+row_grows code l o m a below line (i.This z) = none o
+row_grows code l o m a below line (i.Addr z c class) = grows_having Machine (Unit {0}) (no_class class) o _ (λ _ _. cell_grows m a z c o _ (λ j c. push_grows o m a below _))
+row_grows code l o m a below line (i.AddrR c class) = none o
+row_grows code l o m a below line (i.AddrImg z) = none o
+row_grows code l o m a below line (i.Elem n class) = grows_having Machine (Unit {0}) (no_class class) o _ (λ _ _. index_grows n o _ (λ n. grows_finding Machine Value plain array_in n line a.stack o _ (λ array k stack. going o _)))
+row_grows code l o m a below line i.Fetch = grows_popping Machine Value plain a.stack o _ (λ v stack. grows_having Machine (Place ℕ ℕ) (place_in v) o _ (λ p _. grows_having Machine Value (value_at o m p) o _ (λ v _. going o _)))
+row_grows code l o m a below line i.Put = grows_popping Machine Value plain a.stack o _ (λ v stack. grows_popping Machine Value plain stack o _ (λ p stack. grows_having Machine (Place ℕ ℕ) (place_in p) o _ (λ p _. putting_grows p v o m _ (λ o m. going o _))))
+row_grows code l o m a below line (i.Load z c) = cell_grows m a z c o _ (λ j c. grows_having Machine Value (cell m j c) o _ (λ v _. push_grows o m a below v))
+row_grows code l o m a below line (i.Store z c) = grows_popping Machine Value plain a.stack o _ (λ v stack. cell_grows m a z c o _ (λ j c. grows_having Machine Frames (cell_set m j c v) o _ (λ m _. going o _)))
+row_grows code l o m a below line i.Dup = grows_popping Machine Value plain a.stack o _ (λ v stack. push_grows o m a below v)
+row_grows code l o m a below line i.Pop = grows_popping Machine Value plain a.stack o _ (λ v stack. going o _)
+row_grows code l o m a below line i.Swap = grows_popping Machine Value plain a.stack o _ (λ y stack. grows_popping Machine Value plain stack o _ (λ x stack. going o _))
+row_grows code l o m a below line i.Neg = one_grows o m a below line _
+row_grows code l o m a below line i.Add = two_grows o m a below line _
+row_grows code l o m a below line i.Sub = two_grows o m a below line _
+row_grows code l o m a below line i.Mul = two_grows o m a below line _
+row_grows code l o m a below line i.Div = two_grows o m a below line _
+row_grows code l o m a below line i.Pow = two_grows o m a below line _
+row_grows code l o m a below line (i.Rel z) = grows_having Machine Comparison (comparison_of z) o _ (λ r _. two_grows o m a below line _)
+row_grows code l o m a below line (i.RelT z) = grows_having Machine Comparison (comparison_of z) o _ (λ r _. two_grows o m a below line _)
+row_grows code l o m a below line i.Same = two_grows o m a below line _
+row_grows code l o m a below line i.SameT = two_grows o m a below line _
+row_grows code l o m a below line i.Not = one_grows o m a below line _
+row_grows code l o m a below line i.And = two_grows o m a below line _
+row_grows code l o m a below line i.Or = two_grows o m a below line _
+row_grows code l o m a below line i.Imp = two_grows o m a below line _
+row_grows code l o m a below line i.Eqv = two_grows o m a below line _
+row_grows code l o m a below line (i.Is z) = none o
+row_grows code l o m a below line (i.In z) = none o
+row_grows code l o m a below line (i.Qua z) = none o
+row_grows code l o m a below line (i.Jump q) = jump_grows code a.pc q o _ (λ q. going o _)
+row_grows code l o m a below line (i.JumpF q) = grows_truth Machine Value plain a.stack o _ (λ b stack. grows_choosing Machine b o _ _ (going o _) (jump_grows code a.pc q o _ (λ q. going o _)))
+row_grows code l o m a below line i.Tick = grows_ticking Machine l o _ (λ p. going p _)
+row_grows code l o m a below line i.StepTest = grows_step Machine Value plain line a.stack o _ (λ b stack. going o _)
+row_grows code l o m a below line (i.Enter z) = block_grows code _ z o _ (λ k b x. grows_entering Machine l line (words_of_block b) o _ (λ p. going p _))
+row_grows code l o m a below line i.Leave = own_grows code _ m a o _ (λ b. leaving_grows b below None a.home o m)
+row_grows code l o m a below line (i.Call k n) = call_grows code l o m a below line k n
+row_grows code l o m a below line i.Return = own_grows code _ m a o _ (λ b. result_grows b m a.home o _ (λ v. leaving_grows b below v a.home o m))
+row_grows code l o m a below line (i.ProcVal z) = none o
+row_grows code l o m a below line (i.Virt z) = none o
+row_grows code l o m a below line (i.Check z) = none o
+row_grows code l o m a below line (i.Param f t p) = none o
+row_grows code l o m a below line (i.CallV n) = none o
+row_grows code l o m a below line (i.Thunk t) = none o
+row_grows code l o m a below line (i.NameVal z c class) = none o
+row_grows code l o m a below line (i.NameAddr z c value) = none o
+row_grows code l o m a below line i.EndThunk = none o
+row_grows code l o m a below line (i.New class n) = none o
+row_grows code l o m a below line (i.Pref k n) = none o
+row_grows code l o m a below line (i.NextDecl z) = none o
+row_grows code l o m a below line (i.Inner z) = none o
+row_grows code l o m a below line (i.EndLevel (pos zero)) = grows_having Machine ℕ (owner a) o _ (λ j _. grows_having Machine ℕ _ o _ (λ k _. grows_when Machine (k == 0) o _ (grows_stopping Machine _ o)))
+row_grows code l o m a below line (i.EndLevel (pos (suc n))) = none o
+row_grows code l o m a below line (i.EndLevel (negsuc n)) = none o
+row_grows code l o m a below line (i.Array z n) = grows_having Machine Kind (element_kind z) o _ (λ kind _. index_grows n o _ (λ n. grows_integers Machine Value plain (2 * n) [] a.stack o _ (λ bounds stack. grows_making Machine l line a.home kind _ o _ (λ array p. pushed_grows a.room stack _ p _ (λ s. going p _)))))
+row_grows code l o m a below line i.CopyArr = grows_popping Machine Value plain a.stack o _ (λ v stack. grows_having Machine ℕ (array_in v) o _ (λ array _. grows_copying Machine l line a.home array o _ (λ copy p. going p _)))
+row_grows code l o m a below line i.Keep = grows_popping Machine Value plain a.stack o _ (λ v stack. grows_having Machine ℕ (array_in v) o _ (λ array _. grows_keeping Machine array o _ (λ p. going p _)))
+row_grows code l o m a below line i.AssignT = none o
+row_grows code l o m a below line (i.Std z) = grows_having Machine Standard (standard_of z) o _ (λ name _. grows_when Machine _ o _ (grows_performing Machine Value plain l line name a.stack o _ (λ p moved value stack. going p _)))
+row_grows code l o m a below line (i.Act z) = none o
+row_grows code l o m a below line i.Detach = none o
+row_grows code l o m a below line i.Attach = none o
+row_grows code l o m a below line i.Resume = none o
+row_grows code l o m a below line i.NotNone = none o
+
+-- ---- runs
+
+step_grows : (code : CodeOf) (l : Limits) (o : World) (m : Frames) (chain : List Activation) → Here o (on_chain code l o m chain)
+step_grows code l o m [] = grows_when Machine _ o _ (block_grows code _ (pos 0) o _ (λ k b x. grows_entering Machine l x.line.0 (words_of_block b) o _ (λ p. going p _)))
+step_grows code l o m (a ∷ below) = grows_having Machine Lined (slice_get code.instrs a.pc) o _ (λ x _. row_grows code l o m a below x.line.0 x.instr)
+
+pub output_grows : OutputGrows
+output_grows code l input n k =
+    let r : Run Machine = mrun code l input n in
+    subst (λ q. Grown (written r) (written q)) (sym (after_more Machine (mstep code l) n k (opening code l input)))
+    (after_grows Machine (mstep code l) (λ o s. step_grows code l o s.memory s.chain) k r)

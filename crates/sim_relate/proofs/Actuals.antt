@@ -1,0 +1,122 @@
+-- What the entry of a procedure makes of its actual parameters and of what is below on the chain.
+use Rattle.std.proofs.Common.{◌≡◌, ◌+◌, ℕ, zero, suc, Bool, true, false, List, [], ◌∷◌, length, map, Option, Some, None, refl, sym, ap, ◌∙◌, arith}
+use Rattle.std.specs.List.{list_any}
+use Rattle.std.specs.Prelude.{◌&&◌, ◌||◌, not, if◌then◌else◌}
+use Rattle.sim_scope.specs.declared.types.Formal.{Formal}
+use Rattle.sim_scope.specs.declared.types.FormalKind.{FormalKind}
+use Rattle.sim_scope.specs.declared.types.FormalKind.TheVariants as shape
+use Rattle.sim_scope.specs.declared.types.Mode.{Mode}
+use Rattle.sim_scope.specs.declared.types.Mode.TheVariants as mode
+use Rattle.sim_scope.specs.Source.{Source}
+use Rattle.sim_tree.specs.declared.stmt.TypeName.{TypeName}
+use Rattle.sim_code.specs.declared.code.BlockKind.{BlockKind}
+use Rattle.sim_code.specs.declared.code.CodeType.{CodeType}
+use Rattle.sim_code.specs.Code.{BlockOf, CodeOf}
+use Rattle.sim_code.specs.Events.{pop_many}
+use Rattle.sim_code.specs.Instances.{kept_on}
+use Rattle.sim_code.specs.Machine.{Frames, Machine, Value, frames_kept, is_nothing}
+use Rattle.sim_code.specs.Machine as machine
+use Rattle.sim_code.specs.Outcome.{Run, World}
+use Rattle.sim_code.proofs.Lifts.{EachAt}
+use Rattle.sim_code.proofs.Simulation.{Alike}
+use Rattle.sim_meaning.specs.Entries.{arrays_by_value, formals_of, instances_kept, is_array_by_value, is_held, with_array_of}
+use Rattle.sim_meaning.specs.Pending.{Activation, Instances, Val}
+use Rattle.sim_meaning.specs.Pending as meaning
+use Rattle.sim_meaning.specs.Texts.{is_class_free}
+use Rattle.codegen.specs.Compiled.{RecordOf, code_formal, type_of_name}
+use Rattle.sim_relate.proofs.Ends.{is_typed}
+use Rattle.sim_relate.proofs.Heads.{Same, kept_same}
+use Rattle.sim_relate.proofs.Lists.{same_length}
+use Rattle.sim_relate.proofs.Relation.{Any, Keeps, Kind, Later, StackAt, StoreAt, ValAt, anys, array_at, element_at, link_at, more_at, plain_at}
+use Rattle.sim_relate.proofs.Slots.{results}
+use Rattle.sim_relate.proofs.Stores.{SameOwners, keeps_kept, later_kept, store_kept}
+
+-- ---- formal parameters, as the code says them
+
+held_by : (m : Mode) (k : FormalKind) (f : Formal) → f.mode ≡ m → f.kind ≡ k → machine.is_held (code_formal f) ≡ is_held f
+held_by mode.ByName shape.Simple f em ek = rw em
+held_by mode.ByName shape.Array f em ek = rw em
+held_by mode.ByName shape.Procedure f em ek = rw em
+held_by mode.ByValue shape.Simple f em ek = rw (em, ek)
+held_by mode.ByValue shape.Array f em ek = rw (em, ek)
+held_by mode.ByValue shape.Procedure f em ek = rw (em, ek)
+held_by mode.ByReference shape.Simple f em ek = rw (em, ek)
+held_by mode.ByReference shape.Array f em ek = rw (em, ek)
+held_by mode.ByReference shape.Procedure f em ek = rw (em, ek)
+
+any_held : (fs : List Formal) → list_any machine.is_held (map code_formal fs) ≡ list_any is_held fs
+any_held [] = refl
+any_held (f ∷ fs) = ap (λ b. b || list_any machine.is_held (map code_formal fs)) (held_by f.mode f.kind f refl refl) ∙ ap (λ b. is_held f || b) (any_held fs)
+
+array_by : (m : Mode) (k : FormalKind) (f : Formal) → f.mode ≡ m → f.kind ≡ k → machine.is_array_by_value (code_formal f) ≡ is_array_by_value f.mode f.kind
+array_by mode.ByName shape.Simple f em ek = rw em
+array_by mode.ByName shape.Array f em ek = rw em
+array_by mode.ByName shape.Procedure f em ek = rw em
+array_by mode.ByValue shape.Simple f em ek = rw (em, ek)
+array_by mode.ByValue shape.Array f em ek = rw (em, ek)
+array_by mode.ByValue shape.Procedure f em ek = rw (em, ek)
+array_by mode.ByReference shape.Simple f em ek = rw em
+array_by mode.ByReference shape.Array f em ek = rw em
+array_by mode.ByReference shape.Procedure f em ek = rw em
+
+-- ---- actual parameters
+
+array_same : (v : Val) (x : Value) (rest : List ℕ) → ValAt v x → machine.with_array_of x rest ≡ with_array_of v rest
+array_same _ _ rest plain_at = refl
+array_same _ _ rest link_at = refl
+array_same _ _ rest array_at = refl
+array_same _ _ rest element_at = refl
+
+pub arrays_same : (fs : List Formal) (vs : List Val) (xs : List Value) → EachAt ValAt vs xs → machine.arrays_by_value (map code_formal fs) xs ≡ arrays_by_value fs vs
+arrays_same [] vs xs e = refl
+arrays_same (f ∷ fs) [] [] e = refl
+arrays_same (f ∷ fs) [] (x ∷ xs) e = absurd e
+arrays_same (f ∷ fs) (v ∷ vs) [] e = absurd e
+arrays_same (f ∷ fs) (v ∷ vs) (x ∷ xs) e =
+    let more = arrays_same fs vs xs e.1 in
+    ap (λ b. if b then machine.with_array_of x (machine.arrays_by_value (map code_formal fs) xs) else machine.arrays_by_value (map code_formal fs) xs) (array_by f.mode f.kind f refl refl) ∙
+    ap (λ z. if is_array_by_value f.mode f.kind then machine.with_array_of x z else z) more ∙
+    ap (λ z. if is_array_by_value f.mode f.kind then z else arrays_by_value fs vs) (array_same v x (arrays_by_value fs vs) e.0)
+
+pub each_length : (vs : List Val) (xs : List Value) → EachAt ValAt vs xs → length xs ≡ length vs
+each_length [] [] e = refl
+each_length [] (x ∷ xs) e = absurd e
+each_length (v ∷ vs) [] e = absurd e
+each_length (v ∷ vs) (x ∷ xs) e = ap suc (each_length vs xs e.1)
+
+-- as many values of either side, and how many they are
+pub counted_many : (S M : Type 0) (R : S → M → Type 0) (W : Kind → Val → Value → Type 0) (m total : ℕ) (left : List Kind) (got : List Val) (got' : List Value) (vals : List Val) (stack : List Value) (o : World) (r : List Val → List Val → Run S) (q : List Value → List Value → Run M) → StackAt W (anys m left) vals stack → EachAt (W Any) got got' → m + length got ≡ total
+    → ((values : List Val) (values' : List Value) (vals' : List Val) (stack' : List Value) → EachAt (W Any) values values' → length values ≡ total → StackAt W left vals' stack' → Alike R (r values vals') (q values' stack')) → Alike R (pop_many m got vals o r) (pop_many m got' stack o q)
+unfolding pop_many
+counted_many S M R W zero total left got got' vals stack o r q h g n a = a got got' vals stack g (omega (arith, n)) h
+counted_many S M R W (suc m) total left got got' _ _ o r q (more_at {v = v} {vals = vals} {x = x} {stack = stack} w h) g n a = counted_many S M R W m total left (v ∷ got) (x ∷ got') vals stack o r q h (w, g) (omega (arith, n)) a
+
+-- the cells of formals stand behind that of the result
+pub behind_result : (result : Option TypeName) → (if is_nothing (type_of_name result) then 0 else 1) ≡ results result
+behind_result None = refl
+behind_result (Some type) = ap (λ b. if b then 0 else 1) (is_typed type)
+
+-- ---- instances that are kept at the entry
+
+module _ (s : Source) (code : CodeOf) where
+  pub record KeptIs (m : Instances) (fs : Frames) (m' : Instances) (fs' : Frames) : Type 0 where
+    pub store : StoreAt s code m' fs'
+    pub count : length m'.instances ≡ length m.instances
+    pub later : (bound : ℕ) → Later s m m' bound
+    pub keeps : (bound : ℕ) → Keeps s m fs fs' bound
+
+  kept_alike : (m : Instances) (fs : Frames) → StoreAt s code m fs → (chain : List Activation) (below : List machine.Activation) → SameOwners s code chain below → (b b' : Bool) → b' ≡ b → KeptIs m fs (if b then kept_on meaning.owner chain m else m) (if b' then kept_on machine.owner below fs else fs)
+  kept_alike m fs a chain below owners true true e = record {
+    store = store_kept s code chain below owners m fs a;
+    count = sym (same_length Same m.instances (kept_on meaning.owner chain m).instances (λ k. kept_same meaning.owner k chain m));
+    later = λ bound. later_kept s m chain bound;
+    keeps = λ bound. keeps_kept s m fs below bound;
+  }
+  kept_alike m fs a chain below owners true false e = absurd (cc)
+  kept_alike m fs a chain below owners false true e = absurd (cc)
+  kept_alike m fs a chain below owners false false e = record { store = a; count = refl; later = λ bound. record { stands = λ k t lt st. st; same = λ level k t lt st. refl }; keeps = λ bound. record { temps = λ k t c lt st le. refl } }
+
+  pub both_kept : (m : Instances) (fs : Frames) → StoreAt s code m fs → (chain : List Activation) (below : List machine.Activation) → SameOwners s code chain below → (k : ℕ) (kind : BlockKind) (result : CodeType) (b : BlockOf) → RecordOf s k kind result b → KeptIs m fs (instances_kept s k chain m) (frames_kept b below fs)
+  both_kept m fs a chain below owners k kind result b heads =
+      kept_alike m fs a chain below owners (not (is_class_free s k) && list_any is_held (formals_of s k)) (not b.class_free && list_any machine.is_held b.formals)
+      (ap (λ z. not z && list_any machine.is_held b.formals) heads.class_free ∙ ap (λ z. not (is_class_free s k) && list_any machine.is_held z) heads.formals ∙ ap (λ z. not (is_class_free s k) && z) (any_held (formals_of s k)))

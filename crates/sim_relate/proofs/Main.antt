@@ -1,0 +1,167 @@
+-- Where control has come to what is pending, the machine follows the program: both make a step, or the program one that shows nothing.
+use Rattle.std.proofs.Common.{◌≡◌, ◌<◌, ◌≤◌, ℕ, Bool, false, List, [], ◌∷◌, length, refl, sym, ap, ◌∙◌, subst, arith}
+use Rattle.std.specs.Prelude.{pos}
+use Rattle.sim_base.specs.declared.limits.Limits.{Limits}
+use Rattle.sim_scope.specs.Source.{Source, level_of}
+use Rattle.sim_tree.specs.Syntax.{Also, Element, NoStatement, Statement, Statements}
+use Rattle.sim_tree.specs.Syntax as syntax
+use Rattle.sim_code.specs.declared.instr.Instr.TheVariants as i
+use Rattle.sim_code.specs.Code.{BlockOf, CodeOf}
+use Rattle.sim_code.specs.Outcome.{Going, World}
+use Rattle.sim_code.specs.Machine.{Frames, Machine, Value}
+use Rattle.sim_code.specs.Machine as machine
+use Rattle.sim_code.specs.Rows.{mstep, on_top}
+use Rattle.sim_code.proofs.Simulation.{Alike}
+use Rattle.sim_meaning.specs.Meaning.{do_op, has_result, step}
+use Rattle.sim_meaning.specs.Pending.{Activation, AgainOp, ArrayOp, BackOp, BranchOp, CallOf, CallOp, Cell, ChooseOp, Configuration, CopyOf, CopyOp, Do, DropOp, Either, ElementOf, ElementOp, ElementsOp, EndBlock, EndProcedure, EndProgram, EnterOp, Eval, Exec, Execs, FetchOp, Given, GiveOp, IfOp, Instances, Item, One, OneOp, Op, PastOp, RaiseOp, ShareOp, StandardOf, StandardOp, StepOp, StepTestOp, StoreOp, Target, Term, Terms, TestOp, Two, TwoOp, Unbuilt, Val, ValueAt, WhileElementOp}
+use Rattle.sim_meaning.specs.Steps.{count}
+use Rattle.sim_meaning.specs.Texts.{text}
+use Rattle.codegen_expr.specs.Sites.{cells_in}
+use Rattle.codegen.specs.Compiled.{Compiled}
+use Rattle.sim_relate.proofs.Assigns as assigns
+use Rattle.sim_relate.proofs.Calls as calls
+use Rattle.sim_relate.proofs.Ends as ends
+use Rattle.sim_relate.proofs.Entries as entries
+use Rattle.sim_relate.proofs.Here.{Here, act, at_row, goes, state_at, with_values}
+use Rattle.sim_relate.proofs.Loops as loops
+use Rattle.sim_relate.proofs.Operators as operators
+use Rattle.sim_relate.proofs.Pending.{each_pends, pends}
+use Rattle.sim_relate.proofs.Quiet.{each_weight, weight}
+use Rattle.sim_relate.proofs.Quiet as quiet_steps
+use Rattle.sim_relate.proofs.Relation.{BeginsAt, ChainAt, ChainNow, Kind, LinkTo, NowAt, OpAt, StateAt, StateNow, StoreAt, WorkAt, anys, given, more_at, site_at, text_gives}
+use Rattle.sim_relate.proofs.Statements as statements
+
+-- a step of both, or one of the program alone that leaves less to be taken apart
+pub data MovesNow (s : Source) (code : CodeOf) (l : Limits) (o : World) (c : Configuration) (x : Machine) : Type 0 where
+  both : Alike (StateAt s code) (step s l o c) (mstep code l o x) → MovesNow s code l o c x
+  quiet : (c' : Configuration) → step s l o c ≡ Going o c' → StateAt s code c' x → weight s c' < weight s c → MovesNow s code l o c x
+
+module _ (s : Source) (code : CodeOf) (compiled : Compiled s code) (l : Limits) (o : World) (m : Instances) (inst : ℕ) (w : List Item) (vals : List Val) (rest : List Activation) (fs : Frames) (t : ℕ) (b : BlockOf) (pc : ℕ) (stack : List Value) (below : List machine.Activation) (ks : List Kind) (here : Here s code m fs inst t b ks vals stack) (u q : ℕ) (ks' : List Kind) (low : length (cells_in s t (text s t)) ≤ u) (k : WorkAt s code m fs (λ v. ChainAt s code m fs inst rest v below) inst t b u w q ks') where
+  abbrev Below : Bool → Type 0
+  Below v = ChainAt s code m fs inst rest v below
+
+  abbrev machine_here : Machine
+  machine_here = record { chain = act inst pc stack b.room ∷ below; memory = fs }
+
+  abbrev Follows : Op → Type 0
+  Follows op = BeginsAt s code m fs inst (site_at t b u) op pc q ks ks' → MovesNow s code l o (record { chain = record { instance = inst; work = Do op ∷ w; values = vals } ∷ rest; memory = m }) machine_here
+
+  -- where the work alone has changed
+  stands_so : (x : List Item) → WorkAt s code m fs Below inst t b u x pc ks → StateAt s code (record { chain = record { instance = inst; work = x; values = vals } ∷ rest; memory = m }) machine_here
+  stands_so x a = state_at s code u pc here a refl
+
+  -- a call begins with the link to the instance in which the procedure is declared
+  link : (j c : ℕ) (ts : Terms) (line : ℕ) → OpAt s code m fs inst (site_at t b u) (Eval (CallOf j c ts line)) pc q ks ks' → Alike (StateAt s code) (do_op s l o m inst w vals rest (Eval (CallOf j c ts line))) (on_top code l o fs (act inst pc stack b.room) below)
+  link j c ts line a =
+      let x = a.0 in
+      let p = x.procedure in
+      let reaches = x.reaches in
+      let is = (x.link).is in
+      let out : ks' ≡ given (has_result p.result) ks = a.1 ∙ ap (λ g. given g ks) (ap text_gives p.is) in
+      at_row s code l o fs (act inst pc stack b.room) below _ (i.Link (pos (level_of s x.text))) is.line x.x is.is
+      (operators.at_frame s code l o m inst w vals rest fs t b pc stack below ks here o (level_of s x.text) j _ _ reaches.found
+      (operators.pushes s code l o m inst w vals rest fs t b pc stack below ks here o (machine.Link j) _ _ (x.link).fits
+      (goes s code u x.x (with_values s code here (more_at (record { instance = j; is_val = refl; is_value = refl; stands = reaches.stands; before = reaches.before }) here.values))
+      (each_pends s code m fs Below inst t b u low (Do (CallOp c (count ts) line) ∷ w) ts x.x x.y (LinkTo x.text ∷ ks) x.actuals
+      (pends s code m fs Below inst t b u low w (CallOp c (count ts) line) x.y q (anys (count ts) (LinkTo x.text ∷ ks)) ks' (record { text = x.text; procedure = p; is = x.call; as_many = x.as_many; left = ks; fits = (x.link).fits; «in» = refl; out = out }) k))
+      (is.is).on)))
+
+  eval_moves : (x : Term) → Follows (Eval x)
+  eval_moves (Given v) a = both (operators.constant s code l o m inst w vals rest fs t b pc stack below ks here u q ks' low k v a)
+  eval_moves (Cell j key) a = both (operators.variable s code l o m inst w vals rest fs t b pc stack below ks here u q ks' low k j key a)
+  eval_moves (One op line x) a = quiet _ refl (stands_so _ (quiet_steps.one_opened s code m fs Below inst t b u low w pc q ks ks' k op line x a)) (omega arith)
+  eval_moves (Two op line x y) a = quiet _ refl (stands_so _ (quiet_steps.two_opened s code m fs Below inst t b u low w pc q ks ks' k op line x y a)) (omega arith)
+  eval_moves (Either c x y) a = quiet _ refl (stands_so _ (quiet_steps.either_opened s code m fs Below inst t b u low w pc q ks ks' k c x y a)) (omega arith)
+  eval_moves (ElementOf line x ts) a = quiet _ refl (stands_so _ (quiet_steps.element_opened s code m fs Below inst t b u low w pc q ks ks' k line x ts a)) (omega arith)
+  eval_moves (ValueAt x) a = quiet _ refl (stands_so _ (quiet_steps.value_opened s code m fs Below inst t b u low w pc q ks ks' k x a)) (omega arith)
+  eval_moves (CopyOf line x) a = quiet _ refl (stands_so _ (quiet_steps.copy_opened s code m fs Below inst t b u low w pc q ks ks' k line x a)) (omega arith)
+  eval_moves (CallOf j c ts line) a = both (link j c ts line a)
+  eval_moves (StandardOf name ts line) a =
+      let e = each_weight s m inst ts (Do (StandardOp name line) ∷ w) refl in
+      quiet _ refl (stands_so _ (quiet_steps.standard_opened s code m fs Below inst t b u low w pc q ks ks' k name ts line a)) (omega (arith, e))
+  eval_moves Unbuilt a = absurd (a.0)
+
+  statement_moves : (x : Statement) → Follows (Exec x)
+  statement_moves (syntax.Empty token) a = quiet _ refl (stands_so w (quiet_steps.empty_begun s code m fs Below inst t b u low w pc q ks ks' k token a)) (omega arith)
+  statement_moves (syntax.Compound x) a = both (statements.compound_statement s code l compiled.agrees o m inst w vals rest fs t b pc stack below ks here u q ks' low k x a)
+  statement_moves (syntax.Call e) a = both (statements.call_statement s code l compiled.agrees o m inst w vals rest fs t b pc stack below ks here u q ks' low k e a)
+  statement_moves (syntax.Assign left rs) a = both (statements.assign_statement s code l compiled.agrees o m inst w vals rest fs t b pc stack below ks here u q ks' low k left rs a)
+  statement_moves (syntax.Choose token c x y) a = both (statements.choose_statement s code l compiled.agrees o m inst w vals rest fs t b pc stack below ks here u q ks' low k token c x y a)
+  statement_moves (syntax.Repeat token c x) a = both (statements.repeat_statement s code l compiled.agrees o m inst w vals rest fs t b pc stack below ks here u q ks' low k token c x a)
+  statement_moves (syntax.For token x sign assign es y) a = both (loops.for_statement s code l compiled.agrees o m inst w vals rest fs t b pc stack below ks here u q ks' low k token x sign assign es y a)
+  statement_moves (syntax.Prefixed class arguments x) a = absurd (a.0)
+  statement_moves (syntax.Inner token) a = absurd (a.0)
+  statement_moves (syntax.Inspect token e opening x end other) a = absurd (a.0)
+  statement_moves (syntax.InspectWhen token e arms other) a = absurd (a.0)
+  statement_moves (syntax.Activate token word e schedule) a = absurd (a.0)
+
+  elements_move : (x : Target) (es : List Element) (y : Statement) → Follows (ElementsOp x es y)
+  elements_move x [] y a = quiet _ refl (stands_so w (loops.none_rests s code l compiled.agrees o m inst w vals rest fs t b pc stack below ks here u q ks' low k x y a)) (omega arith)
+  elements_move x (syntax.Once e ∷ es) y a = both (loops.once s code l compiled.agrees o m inst w vals rest fs t b pc stack below ks here u q ks' low k x e es y a)
+  elements_move x (syntax.While e token c ∷ es) y a = quiet _ refl (stands_so _ (loops.while_rests s code l compiled.agrees o m inst w vals rest fs t b pc stack below ks here u q ks' low k x e token c es y a)) (omega arith)
+  elements_move x (syntax.Step first token by limit ∷ es) y a = quiet _ refl (stands_so _ (loops.step_rests s code l compiled.agrees o m inst w vals rest fs t b pc stack below ks here u q ks' low k x first token by limit es y a)) (omega arith)
+
+  -- one line for each operator
+  op_moves : (op : Op) → Follows op
+  op_moves (Eval x) a = eval_moves x a
+  op_moves (OneOp op line) a = both (operators.one s code l o m inst w vals rest fs t b pc stack below ks here u q ks' low k op line a)
+  op_moves (TwoOp op line) a = both (operators.two s code l o m inst w vals rest fs t b pc stack below ks here u q ks' low k op line a)
+  op_moves (IfOp x y) a = both (operators.choice s code l o m inst w vals rest fs t b pc stack below ks here u q ks' low k x y a)
+  op_moves (ElementOp n line) a = both (operators.element_op s code l o m inst w vals rest fs t b pc stack below ks here u q ks' low k n line a)
+  op_moves FetchOp a = both (assigns.fetch s code l o m inst w vals rest fs t b pc stack below ks here u q ks' low k a)
+  op_moves (CopyOp line) a = both (operators.copy s code l o m inst w vals rest fs t b pc stack below ks here u q ks' low k line a)
+  op_moves (CallOp c n line) a = both (entries.call s code compiled l o m inst w vals rest fs t b pc stack below ks here u q ks' low k c n line a)
+  op_moves (StandardOp name line) a = both (calls.standard s code l o m inst w vals rest fs t b pc stack below ks here u q ks' low k name line a)
+  op_moves DropOp a = both (operators.drop s code l o m inst w vals rest fs t b pc stack below ks here u q ks' low k a)
+  op_moves AgainOp a = both (operators.again s code l o m inst w vals rest fs t b pc stack below ks here u q ks' low k a)
+  op_moves (StoreOp x) a = both (assigns.store s code l o m inst w vals rest fs t b pc stack below ks here u q ks' low k x a)
+  op_moves (ShareOp ts) a = both (assigns.share s code l o m inst w vals rest fs t b pc stack below ks here u q ks' low k ts a)
+  op_moves (GiveOp v []) a = quiet _ refl (stands_so w (quiet_steps.nothing_given s code m fs Below inst t b u low w pc q ks ks' k v a)) (omega arith)
+  op_moves (GiveOp v (x ∷ ts)) a = both (assigns.give s code l o m inst w vals rest fs t b pc stack below ks here u q ks' low k v x ts a)
+  op_moves (ArrayOp kind n line) a = both (entries.array s code compiled l o m inst w vals rest fs t b pc stack below ks here u q ks' low k kind n line a)
+  op_moves (Exec x) a = statement_moves x a
+  op_moves (Execs NoStatement) a = quiet _ refl (stands_so w (quiet_steps.none_begun s code m fs Below inst t b u low w pc q ks ks' k a)) (omega arith)
+  op_moves (Execs (Also x more)) a = quiet _ refl (stands_so _ (quiet_steps.also_begun s code m fs Below inst t b u low w pc q ks ks' k x more a)) (omega arith)
+  op_moves (EnterOp c line) a = both (entries.enter s code compiled l o m inst w vals rest fs t b pc stack below ks here u q ks' low k c line a)
+  op_moves (ChooseOp x y) a = both (statements.chosen_statement s code l compiled.agrees o m inst w vals rest fs t b pc stack below ks here u q ks' low k x y a)
+  op_moves (TestOp c x) a = both (statements.test s code l compiled.agrees o m inst w vals rest fs t b pc stack below ks here u q ks' low k c x a)
+  op_moves (BranchOp x next) a = both (statements.branch s code l compiled.agrees o m inst w vals rest fs t b pc stack below ks here u q ks' low k x next a)
+  op_moves (BackOp op) a = both (statements.back s code l compiled.agrees o m inst w vals rest fs t b pc stack below ks here u q ks' low k op a)
+  op_moves PastOp a = both (operators.past s code l o m inst w vals rest fs t b pc stack below ks here u q ks' low k a)
+  op_moves (ElementsOp x es y) a = elements_move x es y a
+  op_moves (WhileElementOp x e c y) a = both (loops.while_element s code l compiled.agrees o m inst w vals rest fs t b pc stack below ks here u q ks' low k x e c y a)
+  op_moves (StepTestOp x line by limit y) a = both (loops.step_tested s code l compiled.agrees o m inst w vals rest fs t b pc stack below ks here u q ks' low k x line by limit y a)
+  op_moves (StepOp line) a = both (loops.step_test_op s code l compiled.agrees o m inst w vals rest fs t b pc stack below ks here u q ks' low k line a)
+  op_moves (RaiseOp x line by limit y) a = quiet _ refl (stands_so _ (loops.raise_rests s code l compiled.agrees o m inst w vals rest fs t b pc stack below ks here u q ks' low k x line by limit y a)) (omega arith)
+
+module _ (s : Source) (code : CodeOf) (compiled : Compiled s code) (l : Limits) (o : World) where
+  abbrev Moves : Configuration → Machine → Type 0
+  Moves c x = MovesNow s code l o c x
+
+  work_moves : (m : Instances) (inst : ℕ) (work : List Item) (vals : List Val) (rest : List Activation) (fs : Frames) (t : ℕ) (b : BlockOf) (pc : ℕ) (stack : List Value) (below : List machine.Activation) (ks : List Kind) (used : ℕ) → Here s code m fs inst t b ks vals stack → NowAt s code m fs (λ v. ChainAt s code m fs inst rest v below) inst t b used work pc ks
+      → Moves (record { chain = record { instance = inst; work = work; values = vals } ∷ rest; memory = m }) (record { chain = act inst pc stack b.room ∷ below; memory = fs })
+  work_moves m inst [] vals rest fs t b pc stack below ks used here a = absurd a
+  work_moves m inst (Do op ∷ w) vals rest fs t b pc stack below ks used here a = op_moves s code compiled l o m inst w vals rest fs t b pc stack below ks here a.0 a.1 a.2 a.4 a.6 op a.5
+  work_moves m inst (EndBlock ∷ w) vals rest fs t b pc stack below ks used here a = both (ends.end_block s code l o m inst w vals rest fs t b pc stack below ks here used a)
+  work_moves m inst (EndProcedure leaves ∷ w) vals rest fs t b pc stack below ks used here a = both (ends.end_procedure s code l o m inst w vals rest fs t b pc stack below ks here used leaves a)
+  work_moves m inst (EndProgram ∷ w) vals rest fs t b pc stack below ks used here a = both (ends.end_program s code l o m inst w vals rest fs t b pc stack below ks here used a)
+
+  -- an activation is that of its instance
+  act_is : (y : machine.Activation) (j room : ℕ) → y.thunk ≡ false → y.home ≡ j → y.room ≡ room → y ≡ act j y.pc y.stack room
+  act_is y j room base home r =
+      let one : y ≡ record y { thunk = false } = ap (λ z. let x : machine.Activation = record y { thunk = z } in x) base in
+      let two : record y { thunk = false } ≡ record y { thunk = false; home = j } = ap (λ z. let x : machine.Activation = record y { thunk = false; home = z } in x) home in
+      let three : record y { thunk = false; home = j } ≡ act j y.pc y.stack room = ap (λ z. act j y.pc y.stack z) r in
+      one ∙ two ∙ three
+
+  chain_moves : (m : Instances) (chain : List Activation) (fs : Frames) (acts : List machine.Activation) → StoreAt s code m fs → ChainNow s code m fs (length m.instances) chain acts → Moves (record { chain = chain; memory = m }) (record { chain = acts; memory = fs })
+  chain_moves m [] fs [] store c = both (entries.first_alike s code compiled l o m fs store)
+  chain_moves m [] fs (y ∷ below) store c = absurd (cc (c.is))
+  chain_moves m (a ∷ rest) fs [] store c = absurd c
+  chain_moves m (a ∷ rest) fs (y ∷ below) store c =
+      let here : Here s code m fs a.instance c.text c.block c.kinds a.values y.stack = record { store = store; live = c.before; stands = c.stands; found = c.found; values = c.values } in
+      subst (λ z. Moves (record { chain = a ∷ rest; memory = m }) (record { chain = z ∷ below; memory = fs })) (sym (act_is y a.instance (c.block).room c.base c.home c.room))
+      (work_moves m a.instance a.work a.values rest fs c.text c.block y.pc y.stack below c.kinds c.used here c.goes)
+
+  pub moves_now : (c : Configuration) (x : Machine) → StateNow s code c x → MovesNow s code l o c x
+  moves_now c x a = chain_moves c.memory c.chain x.memory x.chain a.store a.chain

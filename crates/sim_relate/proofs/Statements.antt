@@ -1,0 +1,198 @@
+-- Statements.
+use Rattle.std.proofs.Common.{◌≡◌, ◌≤◌, ℕ, zero, suc, Bool, true, false, List, ◌∷◌, length, Option, Some, None, refl, sym, ap, ◌∙◌, subst}
+use Rattle.std.specs.Prelude.{pos}
+use Rattle.sim_base.specs.declared.limits.Limits.{Limits}
+use Rattle.sim_scope.specs.Source.{Source, block_around, line_at}
+use Rattle.sim_tree.specs.Syntax.{Also, Begin, Block, Element, Expression, NoDeclaration, NoMore, NoStatement, RightSide, Statement, Statements, With}
+use Rattle.sim_tree.specs.Syntax as syntax
+use Rattle.sim_code.specs.declared.instr.Instr.TheVariants as i
+use Rattle.sim_code.specs.Code.{BlockOf, CodeOf}
+use Rattle.sim_code.specs.Outcome.{Going, Run, World}
+use Rattle.sim_code.specs.Events.{choosing, pop_truth, ticking}
+use Rattle.sim_code.specs.Machine.{Frames, Machine, Value}
+use Rattle.sim_code.specs.Machine as machine
+use Rattle.sim_code.specs.Rows.{on_top}
+use Rattle.sim_code.proofs.Lifts.{alike_choosing, alike_ticking}
+use Rattle.sim_code.proofs.Simulation.{Alike}
+use Rattle.sim_meaning.specs.Closing.{close}
+use Rattle.sim_meaning.specs.Meaning.{do_op}
+use Rattle.sim_meaning.specs.Pending.{Activation, BackOp, BranchOp, ChooseOp, Configuration, Do, DropOp, EnterOp, Eval, Exec, Execs, Instances, Item, Op, PastOp, TestOp, Val, plain}
+use Rattle.sim_meaning.specs.Statements.{are_values, assigned, assigning, compound, dropping, entered_at, leaves, left_sides, lefts, right_side}
+use Rattle.sim_meaning.specs.Steps.{go}
+use Rattle.sim_meaning.specs.Texts.{text}
+use Rattle.codegen_expr.specs.Sites.{Ahead, Inside, Is, cells_in}
+use Rattle.codegen_expr.specs.CodeExpr.{ExprAt}
+use Rattle.codegen.specs.Agrees.{Agrees}
+use Rattle.codegen.specs.CodeLeft.{AssignAt, GoesAt, each_stored}
+use Rattle.codegen.specs.CodeStm.{BlockAt, CalledAt, DropsAt, EnterAt, StmAt, StmsAt}
+use Rattle.sim_relate.proofs.Relation.{Any, BeginsAt, ChainAt, HandAt, Kind, OpAt, Reaches, StateAt, WorkAt, anys, given, site_at, straight}
+use Rattle.sim_relate.proofs.Closing.{call_named_at, close_at}
+use Rattle.sim_relate.proofs.Hands.{hand_truth}
+use Rattle.sim_relate.proofs.Here.{Here, act, at_row, goes, kinds_as, with_values}
+use Rattle.sim_relate.proofs.Lefts.{goes_at, lefts_at}
+use Rattle.sim_relate.proofs.Operators.{jumps_ahead, jumps_back, same_plain}
+use Rattle.sim_relate.proofs.Pending.{evals, pends}
+use Rattle.sim_relate.proofs.Reach.{reach}
+
+module _ (s : Source) (code : CodeOf) (l : Limits) (agrees : Agrees s) (o : World) (m : Instances) (inst : ℕ) (w : List Item) (vals : List Val) (rest : List Activation) (fs : Frames) (t : ℕ) (b : BlockOf) (pc : ℕ) (stack : List Value) (below : List machine.Activation) (ks : List Kind) (here : Here s code m fs inst t b ks vals stack) (u q : ℕ) (ks' : List Kind) (low : length (cells_in s t (text s t)) ≤ u) (k : WorkAt s code m fs (λ v. ChainAt s code m fs inst rest v below) inst t b u w q ks') where
+  abbrev pub R : Configuration → Machine → Type 0
+  R = StateAt s code
+
+  abbrev pub top : machine.Activation
+  top = act inst pc stack b.room
+
+  abbrev pub Follows : Op → Type 0
+  Follows op = OpAt s code m fs inst (site_at t b u) op pc q ks ks' → Alike R (do_op s l o m inst w vals rest op) (on_top code l o fs top below)
+
+  abbrev pub FollowsStatement : Statement → Type 0
+  FollowsStatement x = BeginsAt s code m fs inst (site_at t b u) (Exec x) pc q ks ks' → Alike R (do_op s l o m inst w vals rest (Exec x)) (on_top code l o fs top below)
+
+  abbrev pub Rests : List Item → ℕ → List Kind → Type 0
+  Rests x p before = WorkAt s code m fs (λ v. ChainAt s code m fs inst rest v below) inst t b u x p before
+
+  pub pending : (x : List Item) (op : Op) (p p' : ℕ) (before behind : List Kind) → OpAt s code m fs inst (site_at t b u) op p p' before behind → Rests x p' behind → Rests (Do op ∷ x) p before
+  pending x op p p' before behind a r = pends s code m fs (λ v. ChainAt s code m fs inst rest v below) inst t b u low x op p p' before behind a r
+
+  pub reaching : (v : ℕ) → Inside s.tables t v → (j : ℕ) × Reaches s m inst v j
+  reaching v ins = reach s m inst t v agrees here.stands ins
+
+  -- an expression that is closed now
+  pub closing : (x : List Item) (e : Expression) (p p' : ℕ) (before : List Kind) → ExprAt s code (site_at t b u) (length before) e p p' → Rests x p' (Any ∷ before) → Rests (Do (Eval (close s m inst e)) ∷ x) p before
+  closing x e p p' before a r = evals s code m fs (λ v. ChainAt s code m fs inst rest v below) inst t b u low x (close s m inst e) p p' before (close_at s code m inst (site_at t b u) agrees reaching e (length before) p p' a) r
+
+  pub rests_as : {before : List Kind} → ks' ≡ before → Rests w q before
+  rests_as e = subst (λ z. Rests w q z) e k
+
+  -- where the machine stands at p, with the same values in hand
+  pub stays : {p : World} (x : List Item) (place : ℕ) {next : ℕ} → Rests x place ks → place ≡ next → Alike R (go p m inst x vals rest) (Going p (record { chain = act inst next stack b.room ∷ below; memory = fs }))
+  stays x place r e = goes s code u place here r e
+
+  -- a tick, and then
+  pub ticks : (r : World → Run Configuration) (p : ℕ) → Is code i.Tick pc p → ((x : World) → Alike R (r x) (Going x (record { chain = act inst p stack b.room ∷ below; memory = fs }))) → Alike R (ticking l o r) (on_top code l o fs top below)
+  ticks r p a f = at_row s code l o fs top below _ i.Tick a.line p a.is
+      (alike_ticking Configuration Machine R l o _ _ (λ x. subst (λ z. Alike R (r x) (Going x (record { chain = act inst z stack b.room ∷ below; memory = fs }))) a.is.on (f x)))
+
+  -- a test: the jump is taken where it is false
+  pub tests : (left : List Kind) (z x : ℕ) (on_true on_false : List Item) → ks ≡ anys 1 left → Is code (i.JumpF (pos x)) pc z → Ahead code pc x → Rests on_true z left → Rests on_false x left → (r : Bool → List Val → Run Configuration) → ((c : Bool) (vals' : List Val) → r c vals' ≡ choosing c (go o m inst on_true vals' rest) (go o m inst on_false vals' rest))
+      → Alike R (pop_truth plain vals o r) (on_top code l o fs top below)
+  tests left z x on_true on_false e jump ahead ryes rno r same =
+      at_row s code l o fs top below _ (i.JumpF (pos x)) jump.line z jump.is
+      (hand_truth Configuration Machine R Val Value (HandAt s m inst) plain machine.plain same_plain left vals stack o r _ (kinds_as s code e here.values)
+      (λ c vals' stack' h. subst (λ y. Alike R y (choosing c (machine.on o fs top stack' below) (machine.jumping code pc (pos x) o (λ q. machine.at o fs top q stack' below)))) (sym (same c vals'))
+      (alike_choosing Configuration Machine R c _ _ _ _
+      (goes s code u z (with_values s code here h) ryes jump.is.on)
+      (jumps_ahead s code l o m inst w vals rest fs t b pc stack below ks here o x _ _ ahead (goes s code u x (with_values s code here h) rno refl)))))
+
+  -- ---- calls
+
+  drops : (g : Bool) (x : ℕ) → DropsAt code g x q → ks' ≡ ks → Rests (dropping g w) x (given g ks)
+  drops true x a e = pending w DropOp x q (Any ∷ ks) ks' (record { line = a.line; works = record { is = a.is; left = ks; «in» = refl; out = e } }) k
+  drops false x a e = subst (λ z. Rests w z ks) a (rests_as e)
+
+  called : (p : World) (e : Expression) (y x : ℕ) → CalledAt s code (site_at t b u) (length ks) e y x → DropsAt code (leaves s e) x q → ks' ≡ ks → Alike R (go p m inst (Do (Eval (close s m inst e)) ∷ dropping (leaves s e) w) vals rest) (Going p (record { chain = act inst y stack b.room ∷ below; memory = fs }))
+  called p (syntax.Named name es) y x a d e =
+      let c = call_named_at s code m inst (site_at t b u) agrees reaching name es (length ks) y x a.1 in
+      stays (Do (Eval (close s m inst (syntax.Named name es))) ∷ dropping (leaves s (syntax.Named name es)) w) y
+      (pending (dropping (leaves s (syntax.Named name es)) w) (Eval (close s m inst (syntax.Named name es))) y x ks (given (leaves s (syntax.Named name es)) ks) (c.0, ap (λ g. given g ks) (a.0 ∙ sym c.1)) (drops (leaves s (syntax.Named name es)) x d e)) refl
+  called p (syntax.If token c z y') y x a d e = absurd a
+  called p (syntax.Binary op token z y') y x a d e = absurd a
+  called p (syntax.Not token z) y x a d e = absurd a
+  called p (syntax.Signed n token z) y x a d e = absurd a
+  called p (syntax.Member member token z class) y x a d e = absurd a
+  called p (syntax.Dot token z name es) y x a d e = absurd a
+  called p (syntax.Qua token z class) y x a d e = absurd a
+  called p (syntax.Constant z token) y x a d e = absurd a
+  called p (syntax.This token class) y x a d e = absurd a
+  called p (syntax.New token class es) y x a d e = absurd a
+  called p (syntax.Parentheses token z) y x a d e = absurd a
+
+  pub call_statement : (e : Expression) → FollowsStatement (syntax.Call e)
+  call_statement e a = let x = a.0 in ticks _ x.0 x.2 (λ p. called p e x.0 x.1 x.3 x.4 a.1)
+
+  -- ---- assignments
+
+  assigned_at : (p : World) (v : Bool) (left : Expression) (rs : List RightSide) (y : ℕ) → AssignAt s code (site_at t b u) (length ks) v (each_stored s (left_sides left rs)) (right_side left rs) y q → ks' ≡ ks
+      → Alike R (assigned s p m inst w vals rest v (lefts s m inst (left_sides left rs)) (right_side left rs)) (Going p (record { chain = act inst y stack b.room ∷ below; memory = fs }))
+  assigned_at p false left rs y a e = absurd a
+  assigned_at p true left rs y a e =
+      let es = left_sides left rs in
+      let x = right_side left rs in
+      let r = lefts_at s code m inst t b u agrees reaching fs (λ v. ChainAt s code m fs inst rest v below) low es (GoesAt s code (site_at t b u) x (each_stored s es)) ks y q a in
+      subst (λ z. Alike R (assigned s p m inst w vals rest true z x) (Going p (record { chain = act inst y stack b.room ∷ below; memory = fs }))) (sym r.is)
+      (stays _ y (r.works (Do (Eval (close s m inst x)) ∷ Do (assigning r.found.targets) ∷ w)
+      (goes_at s code m inst t b u agrees reaching fs (λ v. ChainAt s code m fs inst rest v below) low x (each_stored s es) r.found.targets w r.y q ks r.fit r.ends (rests_as e))) refl)
+
+  pub assign_statement : (left : Expression) (rs : List RightSide) → FollowsStatement (syntax.Assign left rs)
+  assign_statement left rs a = let x = a.0 in ticks _ x.0 x.1 (λ p. assigned_at p (are_values rs) left rs x.0 x.2 a.1)
+
+  -- ---- blocks
+
+  entered : (p : World) (o' : Option ℕ) (line y : ℕ) → EnterAt s code (site_at t b u) line o' y q → ks' ≡ ks → Alike R (entered_at p m inst w vals rest o' line) (Going p (record { chain = act inst y stack b.room ∷ below; memory = fs }))
+  entered p None line y a e = absurd a
+  entered p (Some zero) line y a e = absurd a
+  entered p (Some (suc n)) line y a e = stays (Do (EnterOp (suc n) line) ∷ w) y (pending w (EnterOp (suc n) line) y q ks ks' (a.1, a.0, e) k) refl
+
+  block_at : (p : World) (x : Block) (y : ℕ) → BlockAt s code (site_at t b u) (length ks) x y q → ks' ≡ ks → Alike R (compound s p m inst w vals rest x) (Going p (record { chain = act inst y stack b.room ∷ below; memory = fs }))
+  block_at p (Begin token NoDeclaration ss end) y a e = stays (Do (Execs ss) ∷ w) y (pending w (Execs ss) y q ks ks' (a, e) k) refl
+  block_at p (Begin token (With d ds) ss end) y a e = entered p (block_around s token) (line_at s token) y a e
+
+  pub compound_statement : (x : Block) → FollowsStatement (syntax.Compound x)
+  compound_statement x a = let y = a.0 in ticks _ y.0 y.1 (λ p. block_at p x y.0 y.2 a.1)
+
+  -- ---- choices
+
+  pub choose_statement : (token : ℕ) (c : Expression) (x : Statement) (y : Statements) → FollowsStatement (syntax.Choose token c x y)
+  choose_statement token c x NoStatement a =
+      let z = a.0 in
+      let h = z.2 in
+      ticks _ z.0 z.1 (λ p. stays (Do (Eval (close s m inst c)) ∷ Do (ChooseOp x NoStatement) ∷ w) z.0
+      (closing (Do (ChooseOp x NoStatement) ∷ w) c z.0 h.y ks h.test
+      (pending w (ChooseOp x NoStatement) h.y q (Any ∷ ks) ks' (record { chosen = (h.z, h.jump, h.leads, subst (λ n. StmAt s code (site_at t b u) n x h.z q) (ap length (sym a.1)) h.first); «in» = ap (λ z. Any ∷ z) (sym a.1) }) k)) refl)
+  choose_statement token c x (Also y more) a =
+      let z = a.0 in
+      let h = z.2 in
+      let n = ap length (sym a.1) in
+      ticks _ z.0 z.1 (λ p. stays (Do (Eval (close s m inst c)) ∷ Do (ChooseOp x (Also y more)) ∷ w) z.0
+      (closing (Do (ChooseOp x (Also y more)) ∷ w) c z.0 h.y ks h.test
+      (pending w (ChooseOp x (Also y more)) h.y q (Any ∷ ks) ks' (record {
+        chosen = record { z = h.z; w = h.w; x = h.x; jump = h.jump; leads = h.leads; first = subst (λ n. StmAt s code (site_at t b u) n x h.z h.w) n h.first; over = h.over; past = h.past; second = subst (λ n. StmsAt s code (site_at t b u) n (Also y more) h.x q) n h.second };
+        «in» = ap (λ z. Any ∷ z) (sym a.1);
+      }) k)) refl)
+
+  pub chosen_statement : (x : Statement) (y : Statements) → Follows (ChooseOp x y)
+  chosen_statement x NoStatement a =
+      let h = a.chosen in
+      tests ks' h.0 q (Do (Exec x) ∷ w) (Do (Execs NoStatement) ∷ w) a.«in» h.1 h.2 (pending w (Exec x) h.0 q ks' ks' (straight h.3, refl) k) (pending w (Execs NoStatement) q q ks' ks' (refl, refl) k) _ (λ c vals'. refl)
+  chosen_statement x (Also y more) a =
+      let h = a.chosen in
+      tests ks' h.z h.x (Do (Exec x) ∷ Do PastOp ∷ w) (Do (Execs (Also y more)) ∷ w) a.«in» h.jump h.leads
+      (pending (Do PastOp ∷ w) (Exec x) h.z h.w ks' ks' (straight h.first, refl) (pending w PastOp h.w q ks' ks' (h.x, h.over, h.past, refl) k)) (pending w (Execs (Also y more)) h.x q ks' ks' (h.second, refl) k) _ (λ c vals'. refl)
+
+  -- ---- loops
+
+  pub repeat_statement : (token : ℕ) (c : Expression) (x : Statement) → FollowsStatement (syntax.Repeat token c x)
+  repeat_statement token c x a = let z = a.0 in ticks _ z.0 z.3 (λ p. stays (Do (TestOp c x) ∷ w) z.0 (pending w (TestOp c x) z.0 q ks ks' (z.1, z.2, z.4, a.1) k) refl)
+
+  pub test : (c : Expression) (x : Statement) → Follows (TestOp c x)
+  test c x a =
+      let h = a.2 in
+      let n = ap length (sym a.3) in
+      ticks _ h.x h.tick (λ p. stays (Do (Eval (close s m inst c)) ∷ Do (BranchOp x (BackOp (TestOp c x))) ∷ w) h.x
+      (closing (Do (BranchOp x (BackOp (TestOp c x))) ∷ w) c h.x a.0 ks h.test
+      (pending w (BranchOp x (BackOp (TestOp c x))) a.0 q (Any ∷ ks) ks' (record {
+        z = h.z;
+        w = a.1;
+        jump = h.jump;
+        leads = h.leads;
+        turn = straight (subst (λ n. StmAt s code (site_at t b u) n x h.z a.1) n h.body);
+        next = record { t = pc; x = q; u = h.x; jump = h.back; back = h.behind; tick = h.tick; next = subst (λ z. OpAt s code m fs inst (site_at t b u) (TestOp c x) pc q z z) (sym a.3) (a.0, a.1, a.2, refl) };
+        «in» = ap (λ z. Any ∷ z) (sym a.3);
+      }) k)) refl)
+
+  pub branch : (x : Statement) (next : Op) → Follows (BranchOp x next)
+  branch x next a = tests ks' a.z q (Do (Exec x) ∷ Do next ∷ w) w a.«in» a.jump a.leads
+      (pending (Do next ∷ w) (Exec x) a.z a.w ks' ks' (a.turn, refl) (pending w next a.w q ks' ks' a.next k)) k _ (λ c vals'. refl)
+
+  pub back : (op : Op) → Follows (BackOp op)
+  back op a = at_row s code l o fs top below _ (i.Jump (pos a.t)) a.jump.line a.x a.jump.is
+      (jumps_back s code l o m inst w vals rest fs t b pc stack below ks here o a.t a.u _ _ a.back a.tick (stays (Do op ∷ w) a.t (pending w op a.t q ks ks' a.next k) refl))

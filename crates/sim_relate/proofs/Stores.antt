@@ -1,0 +1,417 @@
+-- Both stores alike: reading, writing, entries, ends, and instances that are kept.
+use Rattle.std.proofs.Common.{◌≡◌, ◌≢◌, ℕ, zero, suc, ◌+◌, ◌<◌, ◌≤◌, List, [], ◌∷◌, length, Option, Some, None, Bool, true, false, ⊎_elim, refl, sym, ap, ◌∙◌, subst, arith, length-append}
+use Rattle.std.proofs.lemmas.Bool.{cases_eq}
+use Rattle.std.specs.Prelude.{◌==◌, ◌&&◌, not, if◌then◌else◌, map, nat_lt, slice_get, slice_set}
+use Rattle.sim_chains.specs.Components.{Standing}
+use Rattle.sim_scope.specs.Scopes.{encloser}
+use Rattle.sim_scope.specs.Source.{Source, level_of}
+use Rattle.sim_code.specs.Code.{BlockOf, CodeOf}
+use Rattle.sim_code.specs.Instances.{Instance, at_level, cells_in as cells_of_live, cells_put, ends_in, entered, found_at, given, given_in, is_given_at_end, is_live, is_live_in, kept_at, kept_further, kept_on, level_within, live, outward, unless_given, with_instance}
+use Rattle.sim_code.specs.Machine.{Cells, Frames, Value, joined}
+use Rattle.sim_code.specs.Machine as machine
+use Rattle.sim_code.proofs.Lifts.{Both}
+use Rattle.sim_meaning.specs.Pending.{Activation, Held, Instances, Key, Val, held, held_set}
+use Rattle.sim_meaning.specs.Pending as meaning
+use Rattle.sim_meaning.specs.Texts.{text}
+use Rattle.codegen_expr.specs.CodeExpr.{block_number}
+use Rattle.codegen_expr.specs.Sites.{HasCell, cells_in, place_of, slot_of}
+use Rattle.sim_relate.proofs.Heads.{Heads, Same, both_found, both_heads, entered_same, given_both, given_same, heads_refl, is_live_at, kept_same, later_heads, live_same, lives_in, set_self}
+use Rattle.sim_relate.proofs.Lists.{append_at, append_both, both_as, set_both, set_len, set_other, set_same}
+use Rattle.sim_relate.proofs.Reach.{if_true, is_there}
+use Rattle.sim_relate.proofs.Relation.{CellsAt, InstanceAt, Keeps, Later, Stands, StoreAt, ValAt, inside, key_of, outermost, value_of}
+use Rattle.sim_relate.proofs.Slots.{cells_fit, cells_read, cells_write, keys_length, keys_place, less_true, temp_write}
+
+-- ---- cells of frames after a write of one frame
+
+module _ (fs : Frames) (j : ℕ) (y : Instance Cells) (lives : live fs j ≡ Some y) (cells : Cells) where
+  abbrev pub frames_with : Frames
+  frames_with = with_instance fs j (record y { cells = cells })
+
+  pub live_here : live frames_with j ≡ Some (let z : Instance Cells = record y { cells = cells } in z)
+  live_here =
+      let a = is_live_at (slice_get fs.instances j) y lives in
+      lives_in (slice_get frames_with.instances j) (record y { cells = cells }) (set_same fs.instances j y (record y { cells = cells }) a.there) a.stays
+
+  pub cell_here : (c : ℕ) → machine.cell frames_with j c ≡ joined (slice_get cells c)
+  cell_here c = ap (λ z. machine.value_in (cells_of_live z) c) live_here
+
+  pub cell_elsewhere : (k c : ℕ) → k ≢ j → machine.cell frames_with k c ≡ machine.cell fs k c
+  cell_elsewhere k c ne = ap (λ z. machine.value_in (cells_of_live (unless_given z)) c) (set_other fs.instances j k (record y { cells = cells }) ne)
+
+-- a value is put into a cell that is there
+module _ (fs : Frames) (j : ℕ) (y : Instance Cells) (lives : live fs j ≡ Some y) (c : ℕ) (v : Value) (fits : c < length y.cells) where
+  abbrev pub cells_with : Cells
+  cells_with = slice_set y.cells c (Some v)
+
+  pub frame_set : machine.cell_set fs j c v ≡ Some (frames_with fs j y lives cells_with)
+  frame_set =
+      ap (λ z. cells_put fs j z (machine.put_in (cells_of_live z) c v)) lives ∙
+      ap (cells_put fs j (Some y)) (if_true (nat_lt c (length y.cells)) (Some cells_with) None (less_true c (length y.cells) fits))
+
+  joined_other : (d : ℕ) → d ≢ c → joined (slice_get cells_with d) ≡ joined (slice_get y.cells d)
+  joined_other d ne = ap joined (set_other y.cells c d (Some v) ne)
+
+  old_cell : (d : ℕ) → machine.cell fs j d ≡ joined (slice_get y.cells d)
+  old_cell d = ap (λ z. machine.value_in (cells_of_live z) d) lives
+
+  pub frame_other : (k d : ℕ) → (k ≡ j → d ≢ c) → machine.cell (frames_with fs j y lives cells_with) k d ≡ machine.cell fs k d
+  frame_other k d apart =
+      ⊎_elim
+      (λ same.
+      ap (λ z. machine.cell (frames_with fs j y lives cells_with) z d) same ∙ cell_here fs j y lives cells_with d ∙ joined_other d (apart same) ∙ sym (old_cell d) ∙ ap (λ z. machine.cell fs z d) (sym same))
+      (λ other. cell_elsewhere fs j y lives cells_with k d other)
+      (cases_eq k j)
+
+  there_is_one : (cells : Cells) → c < length cells → (old : Option Value) × (slice_get cells c ≡ Some old)
+  there_is_one cells lt = go c cells lt
+    where
+      go : (c : ℕ) (cells : Cells) → c < length cells → (old : Option Value) × (slice_get cells c ≡ Some old)
+      go c [] lt = absurd (omega arith)
+      go zero (x ∷ cells) lt = (x, refl)
+      go (suc c) (x ∷ cells) lt = go c cells (omega arith)
+
+  pub frame_holds : machine.cell (frames_with fs j y lives cells_with) j c ≡ Some v
+  frame_holds = let x = there_is_one y.cells fits in cell_here fs j y lives cells_with c ∙ ap joined (set_same y.cells c x.0 (Some v) x.1)
+
+-- ---- both stores
+
+module _ (s : Source) (code : CodeOf) where
+  pub instance_kept : {x : Instance (List Held)} {y : Instance Cells} → InstanceAt s code x y → InstanceAt s code (record x { kept = true }) (record y { kept = true })
+  instance_kept a = record { number = a.number; level = a.level; encloser = a.encloser; passing = a.passing; kept = refl; given_back = a.given_back; cells = a.cells; keys = a.keys; size = a.size }
+
+  pub instance_given : {x : Instance (List Held)} {y : Instance Cells} → InstanceAt s code x y → InstanceAt s code (record x { given_back = true }) (record y { given_back = true })
+  instance_given a = record { number = a.number; level = a.level; encloser = a.encloser; passing = a.passing; kept = a.kept; given_back = refl; cells = a.cells; keys = a.keys; size = a.size }
+
+  pub store_put : {m : Instances} {fs : Frames} → StoreAt s code m fs → (j : ℕ) (x : Instance (List Held)) (y : Instance Cells) → InstanceAt s code x y → StoreAt s code (with_instance m j x) (with_instance fs j y)
+  store_put {m} {fs} a j x y p = record { as_many = set_len m.instances j x ∙ a.as_many ∙ sym (set_len fs.instances j y); at = set_both (InstanceAt s code) m.instances fs.instances j x y a.at p }
+
+  module _ (m : Instances) (fs : Frames) (a : StoreAt s code m fs) where
+    pub live_pair : (j : ℕ) → Both (InstanceAt s code) (live m j) (live fs j)
+    live_pair j = given_both (InstanceAt s code) (λ x y i. i.given_back) (slice_get m.instances j) (slice_get fs.instances j) (a.at j)
+
+    -- an instance that stands for a text, and its frame
+    pub record Framed (j t : ℕ) : Type 0 where
+      pub now : Instance (List Held)
+      pub lives : live m j ≡ Some now
+      pub frame : Instance Cells
+      pub frame_lives : live fs j ≡ Some frame
+      pub pair : InstanceAt s code now frame
+      pub of_text : now.text ≡ t
+      pub keys : map key_of now.cells ≡ map key_of (cells_in s t (text s t))
+
+    pub framed : {j t : ℕ} → Stands s m j t → Framed j t
+    framed {j} {t} st =
+        let x = is_there s m st in
+        let y = both_found (InstanceAt s code) (live m j) (live fs j) x.now x.lives (live_pair j) in
+        record { now = x.now; lives = x.lives; frame = y.it; frame_lives = y.is; pair = y.related; of_text = x.text; keys = subst (λ k. map key_of x.now.cells ≡ map key_of (cells_in s k (text s k))) x.text (y.related).keys }
+
+    pub slot_here : (j t : ℕ) (key : Key) (f : Framed j t) → slot_of s t key ≡ place_of key f.now.cells
+    unfolding slot_of
+    slot_here j t key f = sym (keys_place key f.now.cells (cells_in s t (text s t)) f.keys)
+
+    pub count_here : (j t : ℕ) (f : Framed j t) → length f.now.cells ≡ length (cells_in s t (text s t))
+    count_here j t f = keys_length f.now.cells (cells_in s t (text s t)) f.keys
+
+    fits_here : (j t : ℕ) (key : Key) (f : Framed j t) → HasCell s t key → place_of key f.now.cells < length f.now.cells
+    fits_here j t key f has = let e = slot_here j t key f in let n = count_here j t f in omega (arith, has, e, n)
+
+    -- reading a cell
+    pub cell_here_read : (j t : ℕ) (key : Key) → Stands s m j t → HasCell s t key → Both ValAt (meaning.cell m j key) (machine.cell fs j (slot_of s t key))
+    cell_here_read j t key st has =
+        let f = framed st in
+        both_as ValAt (held key f.now.cells) (meaning.cell m j key) (joined (slice_get f.frame.cells (place_of key f.now.cells))) (machine.cell fs j (slot_of s t key))
+        (ap (λ z. meaning.value_in (cells_of_live z) key) f.lives)
+        (ap (λ z. machine.value_in (cells_of_live z) (slot_of s t key)) f.frame_lives ∙ ap (λ c. joined (slice_get f.frame.cells c)) (slot_here j t key f))
+        (cells_read ValAt key f.now.cells f.frame.cells (f.pair).cells (fits_here j t key f has))
+
+    -- writing a cell
+    pub record Wrote (j t : ℕ) (key : Key) (v : Val) (y : Value) : Type 0 where
+      pub now : Instances
+      pub frames : Frames
+      pub is : meaning.cell_set m j key v ≡ Some now
+      pub is_frames : machine.cell_set fs j (slot_of s t key) y ≡ Some frames
+      pub store : StoreAt s code now frames
+      pub count : length now.instances ≡ length m.instances
+      pub later : (bound : ℕ) → Later s m now bound
+      pub keeps : (bound : ℕ) → Keeps s m fs frames bound
+
+    one_text : {j t u : ℕ} → Stands s m j t → Stands s m j u → u ≡ t
+    one_text {j} p q =
+        let x = is_there s m p in
+        let y = is_there s m q in
+        let same : x.now ≡ y.now = some_same (live m j) x.now y.now x.lives y.lives in
+        sym y.text ∙ sym (ap (λ z. z.text) same) ∙ x.text
+      where
+        some_same : {A : Type 0} (o : Option A) (p q : A) → o ≡ Some p → o ≡ Some q → p ≡ q
+        some_same o p q e f = cc
+
+    pub store_write : (j t : ℕ) (key : Key) (v : Val) (y : Value) → Stands s m j t → HasCell s t key → ValAt v y → Wrote j t key v y
+    store_write j t key v y st has w =
+        let f = framed st in
+        let slot = slot_of s t key in
+        let place = slot_here j t key f in
+        let n = count_here j t f in
+        let p = f.pair in
+        let hs = f.now.cells in
+        let cs = f.frame.cells in
+        let fits = cells_fit ValAt hs cs p.cells in
+        let lt : slot < length cs = omega (arith, fits, has, n) in
+        let x = cells_write ValAt key v y hs cs p.cells w (fits_here j t key f has) in
+        let new : Instance (List Held) = record f.now { cells = x.now } in
+        let new' : Instance Cells = record f.frame { cells = slice_set cs slot (Some y) } in
+        let pair : InstanceAt s code new new' = record {
+          number = p.number;
+          level = p.level;
+          encloser = p.encloser;
+          passing = p.passing;
+          kept = p.kept;
+          given_back = p.given_back;
+          cells = subst (λ c. CellsAt ValAt (map value_of x.now) (slice_set cs c (Some y))) (sym place) x.at;
+          keys = x.keys ∙ p.keys;
+          size = λ b e. set_len cs slot (Some y) ∙ p.size b e;
+        } in
+        let there = is_live_at (slice_get m.instances j) f.now f.lives in
+        let heads : Heads f.now new = record { text = refl; level = refl; encloser = refl; given_back = refl } in
+        record {
+          now = with_instance m j new;
+          frames = with_instance fs j new';
+          is = ap (λ z. cells_put m j z (meaning.put_in (cells_of_live z) key v)) f.lives ∙ ap (cells_put m j (Some f.now)) x.is;
+          is_frames = frame_set fs j f.frame f.frame_lives slot y lt;
+          store = store_put a j new new' pair;
+          count = set_len m.instances j new;
+          later = λ bound. later_heads s m (with_instance m j new) bound (λ k _. set_self Heads heads_refl m.instances j f.now new there.there heads k);
+          keeps = λ bound. record {
+            temps = λ k u c _ stands le.
+                frame_other fs j f.frame f.frame_lives slot y lt k c
+                (λ same.
+                let here : Stands s m j u = subst (λ z. Stands s m z u) same stands in
+                let texts : u ≡ t = one_text st here in
+                let behind : length (cells_in s t (text s t)) ≤ c = subst (λ z. length (cells_in s z (text s z)) ≤ c) texts le in
+                λ e. (let no : ⊥ = omega (arith, behind, has, e) in no));
+          };
+        }
+
+    -- writing a temp
+    pub record WroteTemp (j temp : ℕ) (y : Value) : Type 0 where
+      pub frames : Frames
+      pub is : machine.cell_set fs j temp y ≡ Some frames
+      pub store : StoreAt s code m frames
+      pub holds : machine.cell frames j temp ≡ Some y
+      pub others : (k c : ℕ) → (k ≡ j → c ≢ temp) → machine.cell frames k c ≡ machine.cell fs k c
+
+    set_right : (P : Instance (List Held) → Instance Cells → Type 0) (xs : List (Instance (List Held))) (ys : List (Instance Cells)) (j : ℕ) (x : Instance (List Held)) (y : Instance Cells) → ((k : ℕ) → Both P (slice_get xs k) (slice_get ys k)) → slice_get xs j ≡ Some x → P x y → (k : ℕ) → Both P (slice_get xs k) (slice_get (slice_set ys j y) k)
+    set_right P [] [] j x y all e p k = tt
+    set_right P [] (b ∷ ys) j x y all e p k = absurd (all 0)
+    set_right P (b ∷ xs) [] j x y all e p k = absurd (all 0)
+    set_right P (b ∷ xs) (c ∷ ys) zero x y all e p zero = let same : b ≡ x = cc in subst (λ z. P z y) (sym same) p
+    set_right P (b ∷ xs) (c ∷ ys) zero x y all e p (suc k) = all (suc k)
+    set_right P (b ∷ xs) (c ∷ ys) (suc j) x y all e p zero = all 0
+    set_right P (b ∷ xs) (c ∷ ys) (suc j) x y all e p (suc k) = set_right P xs ys j x y (λ k. all (suc k)) e p k
+
+    pub store_temp : (j t temp : ℕ) (y : Value) (b : BlockOf) → Stands s m j t → slice_get code.blocks (block_number s t) ≡ Some b → length (cells_in s t (text s t)) ≤ temp → temp < length b.types → WroteTemp j temp y
+    store_temp j t temp y b st found behind within =
+        let f = framed st in
+        let n = count_here j t f in
+        let p = f.pair in
+        let cs = f.frame.cells in
+        let size : length cs ≡ length b.types = p.size b (ap (λ k. slice_get code.blocks (block_number s k)) f.of_text ∙ found) in
+        let lt : temp < length cs = omega (arith, within, size) in
+        let past : length f.now.cells ≤ temp = omega (arith, behind, n) in
+        let new : Instance Cells = record f.frame { cells = slice_set cs temp (Some y) } in
+        let pair : InstanceAt s code f.now new = record {
+          number = p.number;
+          level = p.level;
+          encloser = p.encloser;
+          passing = p.passing;
+          kept = p.kept;
+          given_back = p.given_back;
+          cells = temp_write ValAt temp (Some y) f.now.cells cs p.cells past;
+          keys = p.keys;
+          size = λ b e. set_len cs temp (Some y) ∙ p.size b e;
+        } in
+        let there = is_live_at (slice_get m.instances j) f.now f.lives in
+        record {
+          frames = with_instance fs j new;
+          is = frame_set fs j f.frame f.frame_lives temp y lt;
+          store = record { as_many = a.as_many ∙ sym (set_len fs.instances j new); at = set_right (InstanceAt s code) m.instances fs.instances j f.now new a.at there.there pair };
+          holds = frame_holds fs j f.frame f.frame_lives temp y lt;
+          others = frame_other fs j f.frame f.frame_lives temp y lt;
+        }
+
+    -- ---- flags
+
+    same_flags : (x : Option (Instance (List Held))) (y : Option (Instance Cells)) → Both (InstanceAt s code) x y → ends_in x ≡ ends_in y
+    same_flags None None b = refl
+    same_flags None (Some y) b = absurd b
+    same_flags (Some x) None b = absurd b
+    same_flags (Some x) (Some y) b = ap (λ z. z && not x.kept) (sym b.passing) ∙ ap (λ z. y.passing && not z) (sym b.kept)
+
+    pub given_at_end_same : (j : ℕ) → is_given_at_end m j ≡ is_given_at_end fs j
+    given_at_end_same j = same_flags (live m j) (live fs j) (live_pair j)
+
+    same_life : (x : Option (Instance (List Held))) (y : Option (Instance Cells)) → Both (InstanceAt s code) x y → is_live_in x ≡ is_live_in y
+    same_life None None b = refl
+    same_life None (Some y) b = absurd b
+    same_life (Some x) None b = absurd b
+    same_life (Some x) (Some y) b = refl
+
+    pub is_live_same : (j : ℕ) → is_live m j ≡ is_live fs j
+    is_live_same j = same_life (live m j) (live fs j) (live_pair j)
+
+    -- ---- entries
+
+    pub store_entered : (x : Instance (List Held)) (y : Instance Cells) (p : Standing Activation) (q : Standing machine.Activation) → InstanceAt s code x y → StoreAt s code (entered m x p) (entered fs y q)
+    store_entered x y p q pair = record {
+      as_many = length-append m.instances (x ∷ []) ∙ ap (λ n. n + 1) a.as_many ∙ sym (length-append fs.instances (y ∷ []));
+      at = append_both (InstanceAt s code) m.instances fs.instances x y a.at pair;
+    }
+
+    -- ---- ends
+
+    given_pair : (i : ℕ) (x : Option (Instance (List Held))) (y : Option (Instance Cells)) → Both (InstanceAt s code) x y → StoreAt s code (given_in m i x) (given_in fs i y)
+    given_pair i None None b = a
+    given_pair i None (Some y) b = absurd b
+    given_pair i (Some x) None b = absurd b
+    given_pair i (Some x) (Some y) b = store_put a i (record x { given_back = true }) (record y { given_back = true }) (instance_given b)
+
+    pub store_given : (i : ℕ) → StoreAt s code (given m i) (given fs i)
+    store_given i = given_pair i (slice_get m.instances i) (slice_get fs.instances i) (a.at i)
+
+  -- ---- instances that are kept
+
+  -- the activations of both chains belong to the same instances
+  abbrev pub SameOwners : List Activation → List machine.Activation → Type 0
+  SameOwners [] [] = Unit {0}
+  SameOwners [] (x ∷ below) = ⊥
+  SameOwners (c ∷ rest) [] = ⊥
+  SameOwners (c ∷ rest) (x ∷ below) = (machine.owner x ≡ Some c.instance) × SameOwners rest below
+
+  abbrev KeptAlike : (Instances → Instances) → (Frames → Frames) → Type 0
+  KeptAlike go go' = (m : Instances) (fs : Frames) → StoreAt s code m fs → StoreAt s code (go m) (go' fs)
+
+  kept_flag : (go : Instances → Instances) (go' : Frames → Frames) → KeptAlike go go' → (m : Instances) (fs : Frames) → StoreAt s code m fs → (j : ℕ) (x : Instance (List Held)) (y : Instance Cells) → InstanceAt s code x y → (b b' : Bool) → b' ≡ b
+      → StoreAt s code (if b then go (with_instance m j (record x { kept = true })) else m) (if b' then go' (with_instance fs j (record y { kept = true })) else fs)
+  kept_flag go go' f m fs a j x y p true true e = f _ _ (store_put a j (record x { kept = true }) (record y { kept = true }) (instance_kept p))
+  kept_flag go go' f m fs a j x y p true false e = absurd (cc)
+  kept_flag go go' f m fs a j x y p false true e = absurd (cc)
+  kept_flag go go' f m fs a j x y p false false e = a
+
+  kept_pair : (go : Instances → Instances) (go' : Frames → Frames) → KeptAlike go go' → (m : Instances) (fs : Frames) → StoreAt s code m fs → (j : ℕ) (x : Option (Instance (List Held))) (y : Option (Instance Cells)) → Both (InstanceAt s code) x y → StoreAt s code (kept_further go m j x) (kept_further go' fs j y)
+  kept_pair go go' f m fs a j None None b = a
+  kept_pair go go' f m fs a j None (Some y) b = absurd b
+  kept_pair go go' f m fs a j (Some x) None b = absurd b
+  kept_pair go go' f m fs a j (Some x) (Some y) b = kept_flag go go' f m fs a j x y b x.passing y.passing b.passing
+
+  pub store_kept : (chain : List Activation) (below : List machine.Activation) → SameOwners chain below → KeptAlike (kept_on meaning.owner chain) (kept_on machine.owner below)
+  unfolding kept_on
+  store_kept [] [] e m fs a = a
+  store_kept [] (x ∷ below) e m fs a = absurd e
+  store_kept (c ∷ rest) [] e m fs a = absurd e
+  store_kept (c ∷ rest) (x ∷ below) e m fs a =
+      subst (λ o. StoreAt s code (kept_at (kept_on meaning.owner rest) m (Some c.instance)) (kept_at (kept_on machine.owner below) fs o)) (sym e.0)
+      (kept_pair (kept_on meaning.owner rest) (kept_on machine.owner below) (store_kept rest below e.1) m fs a c.instance (slice_get m.instances c.instance) (slice_get fs.instances c.instance) (a.at c.instance))
+
+-- ---- what later stores keep
+
+module _ (s : Source) (m : Instances) where
+  pub later_entered : (x : Instance (List Held)) (p : Standing Activation) → Later s m (entered m x p) (length m.instances)
+  later_entered x p = later_heads s m (entered m x p) (length m.instances) (λ k lt. both_heads (slice_get m.instances k) (slice_get (entered m x p).instances k) (entered_same m x p k lt))
+
+  pub later_given : (i : ℕ) → Later s m (given m i) i
+  later_given i = later_heads s m (given m i) i (λ k lt. both_heads (slice_get m.instances k) (slice_get (given m i).instances k) (given_same m i k (apart k lt)))
+    where
+      apart : (k : ℕ) → k < i → k ≢ i
+      apart k lt e = let no : ⊥ = omega (arith, lt, e) in no
+
+  pub later_kept : (chain : List Activation) (bound : ℕ) → Later s m (kept_on meaning.owner chain m) bound
+  later_kept chain bound = later_heads s m (kept_on meaning.owner chain m) bound (λ k lt. both_heads (slice_get m.instances k) (slice_get (kept_on meaning.owner chain m).instances k) (kept_same meaning.owner k chain m))
+
+  -- frames with the same cells
+  same_cell : (x y : Option (Instance Cells)) (c : ℕ) → Both Same x y → machine.value_in (cells_of_live y) c ≡ machine.value_in (cells_of_live x) c
+  same_cell None None c b = refl
+  same_cell None (Some y) c b = absurd b
+  same_cell (Some x) None c b = absurd b
+  same_cell (Some x) (Some y) c b = ap (λ z. joined (slice_get z c)) b.cells
+
+  pub keeps_same : (fs fs' : Frames) (bound : ℕ) → ((k : ℕ) → k < bound → Both Same (slice_get fs.instances k) (slice_get fs'.instances k)) → Keeps s m fs fs' bound
+  keeps_same fs fs' bound all = record { temps = λ j t c lt st le. same_cell (live fs j) (live fs' j) c (live_same (slice_get fs.instances j) (slice_get fs'.instances j) (all j lt)) }
+
+  pub keeps_entered : (fs : Frames) (y : Instance Cells) (q : Standing machine.Activation) → Keeps s m fs (entered fs y q) (length fs.instances)
+  keeps_entered fs y q = keeps_same fs (entered fs y q) (length fs.instances) (entered_same fs y q)
+
+  pub keeps_given : (fs : Frames) (i : ℕ) → Keeps s m fs (given fs i) i
+  keeps_given fs i = keeps_same fs (given fs i) i (λ k lt. given_same fs i k (apart k lt))
+    where
+      apart : (k : ℕ) → k < i → k ≢ i
+      apart k lt e = let no : ⊥ = omega (arith, lt, e) in no
+
+  pub keeps_kept : (fs : Frames) (below : List machine.Activation) (bound : ℕ) → Keeps s m fs (kept_on machine.owner below fs) bound
+  keeps_kept fs below bound = keeps_same fs (kept_on machine.owner below fs) bound (λ k lt. kept_same machine.owner k below fs)
+
+  -- ---- a new instance
+
+  new_lives : (x : Instance (List Held)) (p : Standing Activation) → x.given_back ≡ false → live (entered m x p) (length m.instances) ≡ Some x
+  new_lives x p e = lives_in (slice_get (entered m x p).instances (length m.instances)) x (append_at m.instances x) e
+
+  pub new_outermost : (t : ℕ) (x : Instance (List Held)) (p : Standing Activation) → x.text ≡ t → x.level ≡ level_of s t → x.encloser ≡ None → x.given_back ≡ false → encloser s.tables t ≡ None → Stands s (entered m x p) (length m.instances) t
+  new_outermost t x p text level alone given around = outermost (new_lives x p given) text level alone around
+
+  pub new_inside : (t e u : ℕ) (x : Instance (List Held)) (p : Standing Activation) → x.text ≡ t → x.level ≡ level_of s t → x.encloser ≡ Some e → x.given_back ≡ false → encloser s.tables t ≡ Some u → e < length m.instances → Stands s m e u → Stands s (entered m x p) (length m.instances) t
+  new_inside t e u x p text level out given around before st = inside (new_lives x p given) text level out around before ((later_entered x p).stands e u before st)
+
+-- ---- both stores read and written
+
+module _ (s : Source) (code : CodeOf) where
+  found_alike : (level j : ℕ) (look look' : ℕ → Option ℕ) → ((k : ℕ) → look' k ≡ look k) → (x : Option (Instance (List Held))) (y : Option (Instance Cells)) → Both (InstanceAt s code) x y → found_at level look' j y ≡ found_at level look j x
+  found_alike level j look look' e None None b = refl
+  found_alike level j look look' e None (Some y) b = absurd b
+  found_alike level j look look' e (Some x) None b = absurd b
+  found_alike level j look look' e (Some x) (Some y) b =
+      ap (λ l. if l == level then Some j else outward look' y.encloser) b.level ∙ ap (λ o. if x.level == level then Some j else outward look' o) b.encloser ∙ ap (λ o. if x.level == level then Some j else o) (out x.encloser)
+    where
+      out : (o : Option ℕ) → outward look' o ≡ outward look o
+      out None = refl
+      out (Some k) = e k
+
+  within_alike : {m : Instances} {fs : Frames} → StoreAt s code m fs → (n level j : ℕ) → level_within n fs level j ≡ level_within n m level j
+  within_alike {m} {fs} a zero level j = refl
+  within_alike {m} {fs} a (suc n) level j = found_alike level j (level_within n m level) (level_within n fs level) (within_alike a n level) (live m j) (live fs j) (live_pair s code m fs a j)
+
+  pub levels_same : {m : Instances} {fs : Frames} → StoreAt s code m fs → (level j : ℕ) → at_level fs level j ≡ at_level m level j
+  unfolding at_level
+  levels_same a level j = within_alike a (suc j) level j
+
+  pub cell_read : (m : Instances) (fs : Frames) (j u : ℕ) (key : Key) → StoreAt s code m fs → Stands s m j u → HasCell s u key → Both ValAt (meaning.cell m j key) (machine.cell fs j (slot_of s u key))
+  cell_read m fs j u key a st has = cell_here_read s code m fs a j u key st has
+
+  pub record Written (m : Instances) (fs : Frames) (m' : Instances) (fs' : Frames) : Type 0 where
+    pub store : StoreAt s code m' fs'
+    pub as_many : length m'.instances ≡ length m.instances
+    pub later : Later s m m' (length m.instances)
+    pub keeps : Keeps s m fs fs' (length m.instances)
+
+  pub cell_write : (m : Instances) (fs : Frames) (j u : ℕ) (key : Key) (v : Val) (x : Value) → StoreAt s code m fs → Stands s m j u → HasCell s u key → ValAt v x → Both (Written m fs) (meaning.cell_set m j key v) (machine.cell_set fs j (slot_of s u key) x)
+  cell_write m fs j u key v x a st has w =
+      let r = store_write s code m fs a j u key v x st has w in
+      both_as (Written m fs) (Some r.now) (meaning.cell_set m j key v) (Some r.frames) (machine.cell_set fs j (slot_of s u key) x) r.is r.is_frames
+      (record { store = r.store; as_many = r.count; later = r.later (length m.instances); keeps = r.keeps (length m.instances) })
+
+  pub record TempWritten (m : Instances) (fs : Frames) (inst temp : ℕ) (x : Value) : Type 0 where
+    pub frames : Frames
+    pub is : machine.cell_set fs inst temp x ≡ Some frames
+    pub store : StoreAt s code m frames
+    pub holds : machine.cell frames inst temp ≡ Some x
+    pub others : (c : ℕ) → c ≢ temp → machine.cell frames inst c ≡ machine.cell fs inst c
+    pub keeps : Keeps s m fs frames inst
+
+  pub temp_written : (m : Instances) (fs : Frames) (inst t : ℕ) (b : BlockOf) (temp : ℕ) (x : Value) → StoreAt s code m fs → Stands s m inst t → slice_get code.blocks (block_number s t) ≡ Some b → length (cells_in s t (text s t)) ≤ temp → temp < length b.types → TempWritten m fs inst temp x
+  temp_written m fs inst t b temp x a st found behind within =
+      let r = store_temp s code m fs a inst t temp x b st found behind within in
+      record {
+        frames = r.frames;
+        is = r.is;
+        store = r.store;
+        holds = r.holds;
+        others = λ c ne. r.others inst c (λ same. ne);
+        keeps = record { temps = λ k u c lt stands le. r.others k c (λ same. absurd (let no : ⊥ = omega (arith, same, lt) in no)) };
+      }

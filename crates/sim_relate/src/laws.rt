@@ -1,0 +1,20 @@
+//! That code shows what its program means. Each law is a function that does nothing; its clause is the law.
+ghost use Rattle.sim_scope.specs.Source.{Source};
+ghost use Rattle.sim_code.specs.Code.{CodeOf};
+ghost use Rattle.codegen.specs.Compiled.{Compiled};
+ghost use Rattle.sim_relate.specs.SameRuns.{SameRuns};
+ghost use Rattle.sim_relate.specs.Examples.{WorkedCodes};
+
+/// The code of a program shows what the program shows: each moment of the one run is shown by a moment of the other, with the same output,
+/// ticks and words, and with the same ending where it has ended; whatever the limits and the input are.
+#[tactic(auto, using(crate::proofs::Whole::same_runs))]
+pub fn compiled_code_runs_as_meant()
+    ensures { (s : Source) (code : CodeOf) → Compiled s code → SameRuns s code }
+{}
+
+/// There is code that stands for a program: three worked codes do, of a `for` list, of a procedure that calls itself, and of a sub-block
+/// with arrays. So no part of what is asked of code speaks against another.
+#[tactic(auto, using(crate::proofs::Examples::worked_codes))]
+pub fn worked_codes_stand_for_their_programs()
+    ensures { WorkedCodes }
+{}

@@ -1,0 +1,4 @@
+//! That compiled code does what its program means.
+#![tactic(auto)]
+
+pub mod laws;

@@ -1,0 +1,4 @@
+pub mod OneEnd
+pub mod Prefixes
+pub mod Ran
+pub mod Showing

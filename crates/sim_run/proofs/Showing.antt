@@ -1,0 +1,76 @@
+-- From a run of code that shows what its program means to the end of the program's own run, and back.
+use Rattle.std.proofs.Common.{◌≡◌, ℕ, ◌+◌, ◌-◌, ◌≤◌, List, [], ◌++◌, Option, Some, None, inl, inr, refl, sym, ap, subst, ◌∙◌, arith}
+use Rattle.std.proofs.lemmas.Bool.{cases_lt}
+use Rattle.sim_base.specs.declared.limits.Limits.{Limits}
+use Rattle.sim_code.specs.Code.{CodeOf}
+use Rattle.sim_code.specs.Growing.{OutputGrows, written}
+use Rattle.sim_code.specs.Outcome.{Ended, Ending, Going, Run, Shown, World, shown, shown_world}
+use Rattle.sim_code.specs.Machine.{Machine}
+use Rattle.sim_code.specs.Rows.{mrun, mstep, opening}
+use Rattle.sim_meaning.specs.Meaning.{run}
+use Rattle.sim_meaning.specs.Pending.{Configuration}
+use Rattle.sim_ports.specs.Bytes.{AddsPrefix}
+use Rattle.sim_scope.specs.Source.{Source}
+use Rattle.sim_run.specs.RunEnds.{RunEnds}
+use Rattle.sim_relate.specs.SameRuns.{SameRuns}
+use Rattle.sim_run.proofs.OneEnd.{ended_later}
+use Rattle.sim_run.proofs.Prefixes.{adds_more}
+
+-- a run that has ended so, having written this
+pub record EndsIn {S : Type 0} (r : Run S) (ending : Ending) (output : List ℕ) : Type 0 where
+  pub world : World
+  pub is : r ≡ Ended world ending
+  pub writes : output ≡ world.store.written
+
+-- what is shown of an ended run tells that, how and with what it ended
+ended_alike : (S : Type 0) (r : Run S) (o : World) (e : Ending) → shown_world o (Some e) ≡ shown r → EndsIn r e o.store.written
+ended_alike S (Going p s) o e same = absurd (goes_on e (ap (λ (x : Shown). x.ending) same))
+  where
+    goes_on : (e : Ending) → Some e ≡ None → ⊥
+    goes_on e h = cc
+ended_alike S (Ended p d) o e same =
+    let ending : e ≡ d = ends_so e d (ap (λ (x : Shown). x.ending) same) in
+    record { world = p; is = ap (λ x. Ended p x) (sym ending); writes = ap (λ (x : Shown). x.output) same }
+  where
+    ends_so : (e d : Ending) → Some e ≡ Some d → e ≡ d
+    ends_so e d h = cc
+
+ends_too : (S M : Type 0) (r : Run S) (q : Run M) (e : Ending) (output : List ℕ) → EndsIn q e output → shown q ≡ shown r → EndsIn r e output
+ends_too S M r q e output ends same =
+    let there : EndsIn r e ends.world.store.written = ended_alike S r ends.world e (sym (ap shown ends.is) ∙ same) in
+    record { world = there.world; is = there.is; writes = ends.writes ∙ there.writes }
+
+module _ (s : Source) (code : CodeOf) (same : SameRuns s code) (l : Limits) where
+  -- where the code has ended the program has
+  pub program_ends : (n : ℕ) (e : Ending) (output : List ℕ) → EndsIn (mrun code l [] n) e output → RunEnds s l e output
+  program_ends n e output ends =
+      let k = same.only l [] n in
+      let there : EndsIn (run s l [] k.0) e output = ends_too Configuration Machine (run s l [] k.0) (mrun code l [] n) e output ends k.1 in
+      record { steps = k.0; world = there.world; ends = there.is; writes = there.writes }
+
+  -- and where the program has the code has
+  pub code_ends : (e : Ending) (output : List ℕ) → RunEnds s l e output → (n : ℕ) × EndsIn (mrun code l [] n) e output
+  code_ends e output ends =
+      let m = same.shows l [] ends.steps in
+      let here : EndsIn (run s l [] ends.steps) e output = record { world = ends.world; is = ends.ends; writes = ends.writes } in
+      (m.0, ends_too Machine Configuration (mrun code l [] m.0) (run s l [] ends.steps) e output here (sym m.1))
+
+  -- what begins the output of a moment begins that of the end
+  pub begins_end : OutputGrows → (old new : Option (List ℕ)) (n : ℕ) → AddsPrefix old new (written (mrun code l [] n)) → (e : Ending) (output : List ℕ) → RunEnds s l e output → AddsPrefix old new output
+  begins_end grows old new n adds e output ends =
+      let m = code_ends e output ends in
+      let whole : output ≡ written (mrun code l [] m.0) = m.1.writes ∙ sym (ap written m.1.is) in
+      subst (λ xs. AddsPrefix old new xs) (sym whole)
+      (elim (cases_lt m.0 n) [
+        | inl later ↦ (
+            let k : n ≡ m.0 + (n - m.0) = omega (arith, later) in
+            let stays : mrun code l [] n ≡ mrun code l [] m.0 = ap (mrun code l []) k ∙ ended_later Machine (mstep code l) m.0 (n - m.0) (opening code l []) m.1.world e m.1.is ∙ sym m.1.is in
+            subst (λ (r : Run Machine). AddsPrefix old new (written r)) stays adds
+            )
+        | inr sooner ↦ (
+            let k : m.0 ≡ n + (m.0 - n) = omega (arith, sooner) in
+            let more = grows code l [] n (m.0 - n) in
+            let longer : written (mrun code l [] m.0) ≡ written (mrun code l [] n) ++ more.0 = ap (λ z. written (mrun code l [] z)) k ∙ more.1 in
+            subst (λ xs. AddsPrefix old new xs) (sym longer) (adds_more old new (written (mrun code l [] n)) more.0 adds)
+            )
+      ])

@@ -1,0 +1,6 @@
+//! A program compiled and run: what is written and how it ends is what the program means.
+#![tactic(auto)]
+
+mod running;
+
+pub use running::{RunFailure, compile_and_run};

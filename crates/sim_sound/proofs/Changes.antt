@@ -1,0 +1,255 @@
+-- What a step makes of arrays and instances keeps what is fine.
+use Rattle.std.proofs.Common.{◌≡◌, ◌≢◌, ◌<◌, ◌≤◌, ℕ, zero, suc, Bool, true, false, List, [], ◌∷◌, ◌++◌, length, map, Option, Some, None, ◌⊎◌, inl, inr, ⊎_elim, refl, sym, ap, ◌∙◌, subst}
+use Rattle.std.proofs.lemmas.Bool.{cases_eq}
+use Rattle.std.specs.Prelude.{if◌then◌else◌, slice_get, slice_set}
+use Rattle.sim_scope.specs.Source.{Source}
+use Rattle.sim_values.specs.declared.kind.Kind.{Kind}
+use Rattle.sim_values.specs.Plain.{Plain, kind_of}
+use Rattle.sim_code.specs.Outcome.{ArrayOf as OneArray}
+use Rattle.sim_code.specs.Arrays.{unless_given}
+use Rattle.sim_code.specs.Instances.{Instance}
+use Rattle.sim_meaning.specs.Pending.{Activation, ArrayValue, Declared, Held, Instances, Key, Of, Val, before, held, held_set, same_key}
+use Rattle.sim_meaning.specs.Pending as meaning
+use Rattle.sim_sound.specs.Typed.{ArrayOf, Holds, Simply, key_holds}
+use Rattle.sim_sound.proofs.Sound.{AllArrays, ArrayFine, CellFine, CellsFine, ElementFine, KeyAmong, Own, ValFine, first_key, key_of, later_key}
+use Rattle.sim_sound.proofs.Later.{Later}
+use Rattle.sim_sound.proofs.Lists.{append_at, append_before, equal_numbers, if_false, if_true, no_some, numbers_equal, other_numbers, same_some, set_len, set_other, set_same}
+
+-- ---- arrays alone
+
+pub val_map : (o o' : AllArrays) (j : ℕ) → ((k : Kind) (a : ℕ) → ArrayFine o j k a → ArrayFine o' j k a) → (h : Holds) (v : Val) → ValFine o j h v → ValFine o' j h v
+val_map o o' j f (Simply k) (Of p) a = a
+val_map o o' j f (ArrayOf k) (ArrayValue n) a = f k n a
+val_map o o' j f (Simply k) _ a = absurd a
+val_map o o' j f (ArrayOf k) _ a = absurd a
+
+cell_map : (o o' : AllArrays) (j : ℕ) → ((h : Holds) (v : Val) → ValFine o j h v → ValFine o' j h v) → (h : Option Holds) (v : Option Val) → CellFine o j h v → CellFine o' j h v
+cell_map o o' j f None v a = a
+cell_map o o' j f (Some (Simply k)) None a = a
+cell_map o o' j f (Some (ArrayOf k)) None a = a
+cell_map o o' j f (Some h) (Some v) a = f h v a
+
+pub cells_map : (s : Source) (o o' : AllArrays) (j t : ℕ) → ((h : Holds) (v : Val) → ValFine o j h v → ValFine o' j h v) → (hs : List Held) → CellsFine s o j t hs → CellsFine s o' j t hs
+cells_map s o o' j t f [] a = a
+cells_map s o o' j t f (h ∷ hs) a = (cell_map o o' j f (key_holds s t h.key) h.value a.0, cells_map s o o' j t f hs a.1)
+
+own_map : (s : Source) (o o' : AllArrays) (m : Instances) (j t : ℕ) (x : Instance (List Held)) → ((k : Kind) (a : ℕ) → ArrayFine o j k a → ArrayFine o' j k a) → Own s o m j t x → Own s o' m j t x
+own_map s o o' m j t x f a = record { lives = a.lives; of_text = a.of_text; words = a.words; has_text = a.has_text; level = a.level; keys = a.keys; cells = cells_map s o o' j t (val_map o o' j f) x.cells a.cells }
+
+arrays_later : (s : Source) (o o' : AllArrays) (m : Instances) (bound : ℕ) → ((j : ℕ) (k : Kind) (a : ℕ) → j < bound → ArrayFine o j k a → ArrayFine o' j k a) → ((j : ℕ) (k : Kind) (a n : ℕ) → j < bound → ElementFine o j k a n → ElementFine o' j k a n) → Later s o m o' m bound
+arrays_later s o o' m bound f g = record {
+  arrays = f;
+  elements = g;
+  own = λ j t x lt a. record { now = x; own = own_map s o o' m j t x (λ k n. f j k n lt) a; encloser = refl; made = λ todo p. p };
+}
+
+-- one array more
+more_lives : (o : AllArrays) (x : OneArray) (a : ℕ) (it : OneArray) → unless_given (slice_get o a) ≡ Some it → unless_given (slice_get (o ++ x ∷ []) a) ≡ Some it
+more_lives [] x a it e = absurd (cc)
+more_lives (y ∷ o) x zero it e = e
+more_lives (y ∷ o) x (suc a) it e = more_lives o x a it e
+
+array_more : (o : AllArrays) (x : OneArray) (j : ℕ) (k : Kind) (a : ℕ) → ArrayFine o j k a → ArrayFine (o ++ x ∷ []) j k a
+array_more o x j k a f = record { it = f.it; lives = more_lives o x a f.it f.lives; owned = f.owned; kinds = f.kinds; count = f.count }
+
+pub later_array : (s : Source) (o : AllArrays) (m : Instances) (x : OneArray) (bound : ℕ) → Later s o m (o ++ x ∷ []) m bound
+unfolding array_more
+later_array s o m x bound = arrays_later s o (o ++ x ∷ []) m bound (λ j k a lt f. array_more o x j k a f) (λ j k a n lt f. record { array = array_more o x j k a f.array; there = f.there })
+
+-- the array of a number, if it was not given back
+array_if : (z it : OneArray) (b : Bool) → z.given_back ≡ b → (if b then None else Some z) ≡ Some it → (z ≡ it) × (z.given_back ≡ false)
+array_if z it true e h = absurd (cc)
+array_if z it false e h = (cc, e)
+
+pub array_there : (o : Option OneArray) (it : OneArray) → unless_given o ≡ Some it → (o ≡ Some it) × (it.given_back ≡ false)
+array_there None it h = absurd (cc)
+array_there (Some z) it h = let x = array_if z it z.given_back refl h in (ap Some x.0, subst (λ y. y.given_back ≡ false) x.0 x.1)
+
+array_lives : (o : Option OneArray) (it : OneArray) → o ≡ Some it → it.given_back ≡ false → unless_given o ≡ Some it
+array_lives o it e f = ap unless_given e ∙ if_false it.given_back None (Some it) f
+
+-- another value of an element, of the same kind
+module _ (o : AllArrays) (j0 : ℕ) (k0 : Kind) (a0 i : ℕ) (v : Plain) (at : ElementFine o j0 k0 a0 i) (is : kind_of v ≡ k0) where
+  abbrev old : OneArray
+  old = (at.array).it
+
+  abbrev pub new : OneArray
+  new = record old { elements = slice_set old.elements i v }
+
+  abbrev pub changed : AllArrays
+  changed = slice_set o a0 new
+
+  pub old_value : (p : Plain) × (slice_get old.elements i ≡ Some p)
+  old_value = Rattle.sim_sound.proofs.Lists.there_get old.elements i at.there
+
+  new_kinds : (k : Kind) → ((n : ℕ) (p : Plain) → slice_get old.elements n ≡ Some p → kind_of p ≡ k) → (n : ℕ) (p : Plain) → slice_get new.elements n ≡ Some p → kind_of p ≡ k
+  new_kinds k f n p e =
+      ⊎_elim
+      (λ same.
+      let w = old_value in
+      let here : slice_get new.elements n ≡ Some v = ap (slice_get new.elements) same ∙ set_same old.elements i w.0 v w.1 in
+      ap kind_of (same_some (slice_get new.elements n) p v e here) ∙ is ∙ sym ((at.array).kinds i w.0 w.1) ∙ f i w.0 w.1)
+      (λ other. f n p (sym (set_other old.elements i n v other) ∙ e))
+      (cases_eq n i)
+
+  element_array : (j : ℕ) (k : Kind) (a n : ℕ) → (f : ArrayFine o j k a) → (y : ArrayFine changed j k a) × (n < length (f.it).elements → n < length (y.it).elements)
+  element_array j k a n f = ⊎_elim here other (cases_eq a a0)
+    where
+      here : a ≡ a0 → (y : ArrayFine changed j k a) × (n < length (f.it).elements → n < length (y.it).elements)
+      here same =
+          let w = array_there (slice_get o a0) old (at.array).lives in
+          let is_old : f.it ≡ old = same_some (unless_given (slice_get o a)) f.it old f.lives (ap (λ x. unless_given (slice_get o x)) same ∙ (at.array).lives) in
+          let len : length new.elements ≡ length old.elements = set_len old.elements i v in (
+            record {
+              it = new;
+              lives = array_lives (slice_get changed a) new (ap (slice_get changed) same ∙ set_same o a0 old new w.0) w.1;
+              owned = subst (λ x. x.owner ≤ j) is_old f.owned;
+              kinds = new_kinds k (subst (λ x. (q : ℕ) (p : Plain) → slice_get x.elements q ≡ Some p → kind_of p ≡ k) is_old f.kinds);
+              count = len ∙ (at.array).count;
+            },
+            λ lt. subst (λ x. n < x) (sym len) (subst (λ x. n < length x.elements) is_old lt),
+          )
+
+      other : a ≢ a0 → (y : ArrayFine changed j k a) × (n < length (f.it).elements → n < length (y.it).elements)
+      other differ = (record { it = f.it; lives = ap unless_given (set_other o a0 a new differ) ∙ f.lives; owned = f.owned; kinds = f.kinds; count = f.count }, λ lt. lt)
+
+  pub later_element : (s : Source) (m : Instances) (bound : ℕ) → Later s o m changed m bound
+  later_element s m bound = arrays_later s o changed m bound (λ j k a lt f. (element_array j k a 0 f).0) (λ j k a n lt f. let y = element_array j k a n f.array in record { array = y.0; there = y.1 f.there })
+
+-- ---- cells
+
+same_equal : (a b : Key) → same_key a b ≡ true → a ≡ b
+same_equal (Declared d) (Declared e) h = ap Declared (numbers_equal d e h)
+same_equal meaning.Result meaning.Result h = refl
+same_equal (meaning.Connection d) (meaning.Connection e) h = ap meaning.Connection (numbers_equal d e h)
+same_equal (Declared d) meaning.Result h = absurd (cc)
+same_equal (Declared d) (meaning.Connection e) h = absurd (cc)
+same_equal meaning.Result (Declared d) h = absurd (cc)
+same_equal meaning.Result (meaning.Connection e) h = absurd (cc)
+same_equal (meaning.Connection d) (Declared e) h = absurd (cc)
+same_equal (meaning.Connection d) meaning.Result h = absurd (cc)
+
+pub equal_same : (a : Key) → same_key a a ≡ true
+equal_same (Declared d) = equal_numbers d d refl
+equal_same meaning.Result = refl
+equal_same (meaning.Connection e) = equal_numbers e e refl
+
+pub cell_of : (o : AllArrays) (j : ℕ) (h : Holds) (v : Val) → ValFine o j h v → CellFine o j (Some h) (Some v)
+cell_of o j (Simply k) v a = a
+cell_of o j (ArrayOf k) v a = a
+
+pub cell_is : (o : AllArrays) (j : ℕ) (h : Holds) (v : Val) → CellFine o j (Some h) (Some v) → ValFine o j h v
+cell_is o j (Simply k) v a = a
+cell_is o j (ArrayOf k) v a = a
+
+-- a cell that is set
+module _ (key : Key) (v : Val) where
+  -- how the cells are set at the first one
+  data SetAt (h : Held) (hs hs' : List Held) : Type 0 where
+    set_here : same_key h.key key ≡ true → hs' ≡ record { key = h.key; value = Some v } ∷ hs → SetAt h hs hs'
+    set_later : (rest : List Held) → same_key h.key key ≡ false → held_set key v hs ≡ Some rest → hs' ≡ h ∷ rest → SetAt h hs hs'
+
+  set_behind : (h : Held) (hs hs' : List Held) (r : Option (List Held)) → same_key h.key key ≡ false → held_set key v hs ≡ r → before h r ≡ Some hs' → SetAt h hs hs'
+  set_behind h hs hs' None b e f = absurd (cc)
+  set_behind h hs hs' (Some rest) b e f = set_later rest b e (cc)
+
+  set_choice : (h : Held) (hs hs' : List Held) (b : Bool) → same_key h.key key ≡ b → (if b then Some (record { key = h.key; value = Some v } ∷ hs) else before h (held_set key v hs)) ≡ Some hs' → SetAt h hs hs'
+  set_choice h hs hs' true b e = set_here b (cc)
+  set_choice h hs hs' false b e = set_behind h hs hs' (held_set key v hs) b refl e
+
+  set_at : (h : Held) (hs hs' : List Held) → held_set key v (h ∷ hs) ≡ Some hs' → SetAt h hs hs'
+  set_at h hs hs' e = set_choice h hs hs' (same_key h.key key) refl e
+
+  pub keys_set : (hs hs' : List Held) → held_set key v hs ≡ Some hs' → map key_of hs' ≡ map key_of hs
+  keys_set [] hs' e = absurd (cc)
+  keys_set (h ∷ hs) hs' e = by_set (λ rest f. keys_set hs rest f) (set_at h hs hs' e)
+    where
+      by_set : ((rest : List Held) → held_set key v hs ≡ Some rest → map key_of rest ≡ map key_of hs) → SetAt h hs hs' → map key_of hs' ≡ key_of h ∷ map key_of hs
+      by_set ih (set_here b is) = ap (map key_of) is
+      by_set ih (set_later rest b f is) = ap (map key_of) is ∙ ap (λ x. key_of h ∷ x) (ih rest f)
+
+  pub cells_set : (s : Source) (o : AllArrays) (j t : ℕ) (x : Holds) → key_holds s t key ≡ Some x → ValFine o j x v → (hs hs' : List Held) → held_set key v hs ≡ Some hs' → CellsFine s o j t hs → CellsFine s o j t hs'
+  cells_set s o j t x is fine [] hs' e a = absurd (cc)
+  cells_set s o j t x is fine (h ∷ hs) hs' e a = by_set (λ rest f. cells_set s o j t x is fine hs rest f a.1) (set_at h hs hs' e)
+    where
+      by_set : ((rest : List Held) → held_set key v hs ≡ Some rest → CellsFine s o j t rest) → SetAt h hs hs' → CellsFine s o j t hs'
+      by_set ih (set_here b is') =
+          let there : key_holds s t h.key ≡ Some x = ap (key_holds s t) (same_equal h.key key b) ∙ is in
+          subst (CellsFine s o j t) (sym is') (subst (λ y. CellFine o j y (Some v)) (sym there) (cell_of o j x v fine), a.1)
+      by_set ih (set_later rest b f is') = subst (CellsFine s o j t) (sym is') (a.0, ih rest f)
+
+  held_if_here : (k : Key) (h : Held) (hs : List Held) (b : Bool) → (if b then Some v else held k hs) ≡ None → (if b then h.value else held k hs) ≡ None
+  held_if_here k h hs true e = absurd (cc)
+  held_if_here k h hs false e = e
+
+  held_if_later : (k : Key) (h : Held) (hs rest : List Held) (b : Bool) → (held k rest ≡ None → held k hs ≡ None) → (if b then h.value else held k rest) ≡ None → (if b then h.value else held k hs) ≡ None
+  held_if_later k h hs rest true f e = e
+  held_if_later k h hs rest false f e = f e
+
+  -- a cell that held something still does
+  pub held_stays : (k : Key) (hs hs' : List Held) → held_set key v hs ≡ Some hs' → held k hs' ≡ None → held k hs ≡ None
+  held_stays k [] hs' e a = absurd (cc)
+  held_stays k (h ∷ hs) hs' e a = by_set (λ rest f g. held_stays k hs rest f g) (set_at h hs hs' e)
+    where
+      by_set : ((rest : List Held) → held_set key v hs ≡ Some rest → held k rest ≡ None → held k hs ≡ None) → SetAt h hs hs' → held k (h ∷ hs) ≡ None
+      by_set ih (set_here b is) = held_if_here k h hs (same_key h.key k) (ap (held k) (sym is) ∙ a)
+      by_set ih (set_later rest b f is) = held_if_later k h hs rest (same_key h.key k) (ih rest f) (ap (held k) (sym is) ∙ a)
+
+  pub held_now : (hs hs' : List Held) → held_set key v hs ≡ Some hs' → held key hs' ≡ Some v
+  held_now [] hs' e = absurd (cc)
+  held_now (h ∷ hs) hs' e = by_set (λ rest f. held_now hs rest f) (set_at h hs hs' e)
+    where
+      by_set : ((rest : List Held) → held_set key v hs ≡ Some rest → held key rest ≡ Some v) → SetAt h hs hs' → held key hs' ≡ Some v
+      by_set ih (set_here b is) = ap (held key) is ∙ if_true (same_key h.key key) (Some v) (held key hs) b
+      by_set ih (set_later rest b f is) = ap (held key) is ∙ if_false (same_key h.key key) h.value (held key rest) b ∙ ih rest f
+
+  set_before : (h : Held) (r : Option (List Held)) (rest : List Held) → r ≡ Some rest → before h r ≡ Some (h ∷ rest)
+  set_before h r rest e = ap (before h) e
+
+  set_if : (h : Held) (hs : List Held) (b : Bool) (rest : List Held) → held_set key v hs ≡ Some rest → (hs' : List Held) × ((if b then Some (record { key = h.key; value = Some v } ∷ hs) else before h (held_set key v hs)) ≡ Some hs')
+  set_if h hs true rest e = (record { key = h.key; value = Some v } ∷ hs, refl)
+  set_if h hs false rest e = (h ∷ rest, set_before h (held_set key v hs) rest e)
+
+  -- a cell that is there can be set
+  pub set_there : (ks : List Key) (hs : List Held) → map key_of hs ≡ ks → KeyAmong key ks → (hs' : List Held) × (held_set key v hs ≡ Some hs')
+  set_there ks [] e (first_key) = absurd (cc)
+  set_there ks [] e (later_key a) = absurd (cc)
+  set_there ks (h ∷ hs) e (first_key {ks = more}) =
+      let is : h.key ≡ key = cc in
+      (record { key = h.key; value = Some v } ∷ hs, if_true (same_key h.key key) (Some (record { key = h.key; value = Some v } ∷ hs)) (before h (held_set key v hs)) (subst (λ x. same_key x key ≡ true) (sym is) (equal_same key)))
+  set_there ks (h ∷ hs) e (later_key {k = k} {ks = more} a) =
+      let r = set_there more hs (cc) a in set_if h hs (same_key h.key key) r.0 r.1
+
+-- the cell of a key holds what it should, or nothing yet
+pub held_fine : (s : Source) (o : AllArrays) (j t : ℕ) (key : Key) (h : Holds) (hs : List Held) (v : Val) → key_holds s t key ≡ Some h → CellsFine s o j t hs → held key hs ≡ Some v → ValFine o j h v
+held_fine s o j t key h [] v is a e = absurd (cc)
+held_fine s o j t key h (x ∷ hs) v is a e = choice (λ f. held_fine s o j t key h hs v is a.1 f) (same_key x.key key) refl e
+  where
+    choice : (held key hs ≡ Some v → ValFine o j h v) → (b : Bool) → same_key x.key key ≡ b → (if b then x.value else held key hs) ≡ Some v → ValFine o j h v
+    choice ih true b f = cell_is o j h v (subst (CellFine o j (Some h)) f (subst (λ y. CellFine o j y x.value) (ap (key_holds s t) (same_equal x.key key b) ∙ is) a.0))
+    choice ih false b f = ih f
+
+-- a plain cell that is there holds something
+pub held_plain : (s : Source) (o : AllArrays) (j t : ℕ) (key : Key) (k : Kind) (ks : List Key) (hs : List Held) → key_holds s t key ≡ Some (Simply k) → CellsFine s o j t hs → map key_of hs ≡ ks → KeyAmong key ks → held key hs ≡ None → ⊥
+held_plain s o j t key k ks [] is a same first_key e = cc
+held_plain s o j t key k ks [] is a same (later_key b) e = cc
+held_plain s o j t key k ks (x ∷ hs) is a same there e = choice (λ more f. held_plain s o j t key k (map key_of hs) hs is a.1 refl more f) (same_key x.key key) refl there e
+  where
+    nothing : (v : Option Val) → v ≡ None → CellFine o j (Some (Simply k)) v → ⊥
+    nothing None f c = c
+    nothing (Some v) f c = cc
+
+    among : x.key ≡ key ⊎ KeyAmong key (map key_of hs)
+    among = in_keys ks same there
+      where
+        in_keys : (ks : List Key) → key_of x ∷ map key_of hs ≡ ks → KeyAmong key ks → x.key ≡ key ⊎ KeyAmong key (map key_of hs)
+        in_keys _ f first_key = inl (cc)
+        in_keys _ f (later_key {k = y} {ks = more} b) = inr (subst (KeyAmong key) (sym (cc)) b)
+
+    choice : (KeyAmong key (map key_of hs) → held key hs ≡ None → ⊥) → (b : Bool) → same_key x.key key ≡ b → KeyAmong key ks → (if b then x.value else held key hs) ≡ None → ⊥
+    choice ih true b there f = nothing x.value f (subst (λ y. CellFine o j y x.value) (ap (key_holds s t) (same_equal x.key key b) ∙ is) a.0)
+    choice ih false b there f =
+        ⊎_elim
+        (λ same'. let yes : same_key x.key key ≡ true = subst (λ y. same_key y key ≡ true) (sym same') (equal_same key) in cc)
+        (λ more. ih more f)
+        among

@@ -1,0 +1,229 @@
+-- The cells with which an instance begins.
+use Rattle.std.proofs.Common.{◌≡◌, ℕ, suc, ◌+◌, ◌≤◌, Bool, true, false, List, [], ◌∷◌, ◌++◌, length, map, Option, Some, None, refl, sym, ap, ◌∙◌, subst, arith}
+use Rattle.std.specs.Prelude.{if◌then◌else◌}
+use Rattle.sim_base.specs.declared.numbering.DeclNo.{DeclNo}
+use Rattle.sim_scope.specs.declared.types.Entry.{Entry}
+use Rattle.sim_scope.specs.declared.types.Entry.TheVariants as entry
+use Rattle.sim_scope.specs.declared.types.Formal.{Formal}
+use Rattle.sim_scope.specs.declared.types.FormalKind.{FormalKind}
+use Rattle.sim_scope.specs.declared.types.FormalKind.TheVariants as shape
+use Rattle.sim_scope.specs.declared.types.Mode.{Mode}
+use Rattle.sim_scope.specs.declared.types.Mode.TheVariants as mode
+use Rattle.sim_scope.specs.declared.types.SimType.{SimType}
+use Rattle.sim_scope.specs.Scopes.{entry_of}
+use Rattle.sim_scope.specs.Source.{Source}
+use Rattle.sim_tree.specs.declared.stmt.TypeName.{TypeName}
+use Rattle.sim_tree.specs.Syntax.{Declarations, Heading, Statement, Statements}
+use Rattle.sim_values.specs.Plain.{initial}
+use Rattle.sim_code.specs.Events.{pop_many}
+use Rattle.sim_code.specs.Outcome.{Run, World}
+use Rattle.sim_meaning.specs.Entries.{arrays_by_value, cells_from, filled, filled_behind, first_cells, held_before, is_array_by_value, numbers_of, with_array_of, with_cell, with_result}
+use Rattle.sim_meaning.specs.Pending.{Declared, Held, Instances, Key, Of, Result, Val, held, same_key}
+use Rattle.sim_meaning.specs.Texts.{BlockText, ProcedureText, kind_named, kind_of_type, text}
+use Rattle.sim_sound.specs.Typed.{Among, FormalsAre, Holds, NoFormal, NoFormals, entry_holds, first, formal_holds, key_holds, later, result_holds}
+use Rattle.sim_sound.proofs.ArrayEvents.{initial_is}
+use Rattle.sim_sound.proofs.Cells.{val_up}
+use Rattle.sim_sound.proofs.Changes.{cell_of, equal_same}
+use Rattle.sim_sound.proofs.Sound.{AllArrays, CellFine, CellsFine, HandsFine, KeyAmong, Kinds, ValFine, Value, first_key, formal_kinds, key_of, later_key, onto}
+
+module _ (s : Source) (o : AllArrays) (j k : ℕ) where
+  cell_first : (d : DeclNo) (e : Option Entry) (hs : List Held) → entry_of s.tables d ≡ e → NoFormal e → CellsFine s o j k hs → CellsFine s o j k (with_cell d e hs)
+  cell_first d (Some (entry.Variable ty)) hs e n a = (subst (λ z. CellFine o j (entry_holds z) (Some (Of (initial (kind_of_type ty))))) (sym e) (initial_is (kind_of_type ty)), a)
+  cell_first d (Some (entry.Constant ty)) hs e n a = (subst (λ z. CellFine o j (entry_holds z) None) (sym e) tt, a)
+  cell_first d (Some (entry.Array ty m)) hs e n a = (subst (λ z. CellFine o j (entry_holds z) None) (sym e) tt, a)
+  cell_first d (Some (entry.Formal f)) hs e n a = absurd n
+  cell_first d _ hs e n a = a
+
+  cells_first : (ds : List DeclNo) → NoFormals s ds → CellsFine s o j k (cells_from s ds)
+  cells_first [] n = tt
+  cells_first (d ∷ ds) n = cell_first d (entry_of s.tables d) (cells_from s ds) refl n.0 (cells_first ds n.1)
+
+  pub block_cells : (begin : ℕ) (ds : Declarations) (ss : Statements) → NoFormals s (numbers_of s k) → CellsFine s o j k (first_cells s k (BlockText begin ds ss))
+  unfolding first_cells
+  block_cells begin ds ss n = cells_first (numbers_of s k) n
+
+  -- ---- values fill the cells of formal parameters
+
+  abbrev SomeFine : Option Holds → Val → Type 0
+  SomeFine None v = ⊥
+  SomeFine (Some h) v = ValFine o j h v
+
+  abbrev pub ValsFine : List (Option Holds) → List Val → Type 0
+  ValsFine [] [] = Unit {0}
+  ValsFine [] (v ∷ vs) = ⊥
+  ValsFine (h ∷ hs) [] = ⊥
+  ValsFine (h ∷ hs) (v ∷ vs) = SomeFine h v × ValsFine hs vs
+
+  abbrev pub AllHeld : List Held → Type 0
+  AllHeld [] = Unit {0}
+  AllHeld (h ∷ hs) = (v : Val) × (h.value ≡ Some v) × AllHeld hs
+
+  pub record Filled (values : List Val) (hs : List Held) : Type 0 where
+    pub cells : List Held
+    pub filled_is : filled values hs ≡ Some cells
+    pub same_keys : map key_of cells ≡ map key_of hs
+    pub fine : CellsFine s o j k cells
+    pub held_all : AllHeld cells
+
+  fill_one : (d : DeclNo) (e : Option Entry) (f : Formal) (h : Holds) (v : Val) (vs : List Val) (hs : List Held) → entry_of s.tables d ≡ e → e ≡ Some (entry.Formal f) → formal_holds f.mode f.kind f.ty ≡ Some h → ValFine o j h v → Filled vs hs → Filled (v ∷ vs) (with_cell d e hs)
+  fill_one d e f h v vs hs at is holds a r =
+      let key : key_holds s k (Declared d.0) ≡ Some h = ap entry_holds (at ∙ is) ∙ holds in
+      subst (λ z. Filled (v ∷ vs) (with_cell d z hs)) (sym is) (record {
+        cells = record { key = Declared d.0; value = Some v } ∷ r.cells;
+        filled_is = ap (held_before (record { key = Declared d.0; value = Some v })) r.filled_is;
+        same_keys = ap (λ z. Declared d.0 ∷ z) r.same_keys;
+        fine = (subst (λ z. CellFine o j z (Some v)) (sym key) (cell_of o j h v a), r.fine);
+        held_all = (v, refl, r.held_all);
+      })
+
+  fill_all : (ds : List DeclNo) (fs : List Formal) (vs : List Val) → FormalsAre s ds fs → ValsFine (formal_kinds fs) vs → Filled vs (cells_from s ds)
+  fill_all [] [] [] a b = record { cells = []; filled_is = refl; same_keys = refl; fine = tt; held_all = tt }
+  fill_all [] [] (v ∷ vs) a b = absurd b
+  fill_all [] (f ∷ fs) vs a b = absurd a
+  fill_all (d ∷ ds) [] vs a b = absurd a
+  fill_all (d ∷ ds) (f ∷ fs) [] a b = absurd b
+  fill_all (d ∷ ds) (f ∷ fs) (v ∷ vs) a b = fill_one d (entry_of s.tables d) f a.0 v vs (cells_from s ds) refl a.1 a.2 (subst (λ z. SomeFine z v) a.2 b.0) (fill_all ds fs vs a.3 b.1)
+
+  pub record FilledBehind (result : Option TypeName) (values : List Val) (hs : List Held) : Type 0 where
+    pub cells : List Held
+    pub filled_is : filled_behind result values hs ≡ Some cells
+    pub same_keys : map key_of cells ≡ map key_of hs
+    pub fine : CellsFine s o j k cells
+    pub held_all : AllHeld cells
+
+  behind_result : (result : Option TypeName) (h : Heading) (a : Statement) (vs : List Val) (hs : List Held) → text s k ≡ Some (ProcedureText result h a) → Filled vs hs → FilledBehind result vs (with_result result hs)
+  behind_result None h a vs hs is r = record { cells = r.cells; filled_is = r.filled_is; same_keys = r.same_keys; fine = r.fine; held_all = r.held_all }
+  behind_result (Some type) h a vs hs is r = record {
+    cells = record { key = Result; value = Some (Of (initial (kind_named type))) } ∷ r.cells;
+    filled_is = ap (held_before (record { key = Result; value = Some (Of (initial (kind_named type))) })) r.filled_is;
+    same_keys = ap (λ z. Result ∷ z) r.same_keys;
+    fine = (subst (λ z. CellFine o j z (Some (Of (initial (kind_named type))))) (sym (ap result_holds is)) (initial_is (kind_named type)), r.fine);
+    held_all = (Of (initial (kind_named type)), refl, r.held_all);
+  }
+
+  pub procedure_cells : (result : Option TypeName) (h : Heading) (a : Statement) (fs : List Formal) (vs : List Val) → text s k ≡ Some (ProcedureText result h a) → FormalsAre s (numbers_of s k) fs → ValsFine (formal_kinds fs) vs → FilledBehind result vs (first_cells s k (ProcedureText result h a))
+  unfolding first_cells
+  procedure_cells result h a fs vs is f v = behind_result result h a vs (cells_from s (numbers_of s k)) is (fill_all (numbers_of s k) fs vs f v)
+
+  key_later : (key x : Key) (ks : List Key) → KeyAmong key (x ∷ ks) → (x ≡ key → ⊥) → KeyAmong key ks
+  key_later key x ks first_key f = absurd (f refl)
+  key_later key x ks (later_key c) f = c
+
+  held_choice : (key : Key) (h : Held) (hs : List Held) (v : Val) → h.value ≡ Some v → (KeyAmong key (map key_of hs) → held key hs ≡ None → ⊥) → (b : Bool) → same_key h.key key ≡ b → KeyAmong key (h.key ∷ map key_of hs) → (if b then h.value else held key hs) ≡ None → ⊥
+  held_choice key h hs v is ih true c a e = cc
+  held_choice key h hs v is ih false c a e =
+      ih (key_later key h.key (map key_of hs) a (λ same. let yes : same_key h.key key ≡ true = subst (λ z. same_key z key ≡ true) (sym same) (equal_same key) in cc)) e
+
+  -- a cell that is there holds something then
+  pub held_there : (key : Key) (hs : List Held) → AllHeld hs → KeyAmong key (map key_of hs) → held key hs ≡ None → ⊥
+  held_there key [] a b e = elim b [ ]
+  held_there key (h ∷ hs) a b e = held_choice key h hs a.0 a.1 (held_there key hs a.2) (same_key h.key key) refl b e
+
+-- ---- which declarations have cells
+
+abbrev number : ℕ → DeclNo
+number n = record { 0 = n }
+
+same_decl : (a b : ℕ) → Declared a ≡ Declared b → a ≡ b
+same_decl a b q = cc
+
+first_of : (d x : DeclNo) (ds : List DeclNo) → d.0 ≡ x.0 → Among d (x ∷ ds)
+first_of d x ds g = subst (λ z. Among d (z ∷ ds)) (ap number g) first
+
+one_more : (d x : DeclNo) (ds : List DeclNo) (key : Key) (ks : List Key) → key ≡ Declared d.0 → (KeyAmong key ks → Among d ds) → (y : Key) → y ≡ Declared x.0 → KeyAmong key (y ∷ ks) → Among d (x ∷ ds)
+one_more d x ds key ks is f y e first_key = first_of d x ds (same_decl d.0 x.0 (sym is ∙ e))
+one_more d x ds key ks is f y e (later_key b) = later (f b)
+
+cell_key : (d x : DeclNo) (e : Option Entry) (hs : List Held) (ds : List DeclNo) → (KeyAmong (Declared d.0) (map key_of hs) → Among d ds) → KeyAmong (Declared d.0) (map key_of (with_cell x e hs)) → Among d (x ∷ ds)
+cell_key d x (Some (entry.Variable ty)) hs ds f a = one_more d x ds (Declared d.0) (map key_of hs) refl f (Declared x.0) refl a
+cell_key d x (Some (entry.Constant ty)) hs ds f a = one_more d x ds (Declared d.0) (map key_of hs) refl f (Declared x.0) refl a
+cell_key d x (Some (entry.Array ty n)) hs ds f a = one_more d x ds (Declared d.0) (map key_of hs) refl f (Declared x.0) refl a
+cell_key d x (Some (entry.Formal g)) hs ds f a = one_more d x ds (Declared d.0) (map key_of hs) refl f (Declared x.0) refl a
+cell_key d x _ hs ds f a = later (f a)
+
+from_key : (s : Source) (d : DeclNo) (ds : List DeclNo) → KeyAmong (Declared d.0) (map key_of (cells_from s ds)) → Among d ds
+from_key s d [] a = elim a [ ]
+from_key s d (x ∷ ds) a = cell_key d x (entry_of s.tables x) (cells_from s ds) ds (from_key s d ds) a
+
+pub block_key : (s : Source) (k begin : ℕ) (ds : Declarations) (ss : Statements) (d : DeclNo) → KeyAmong (Declared d.0) (map key_of (first_cells s k (BlockText begin ds ss))) → Among d (numbers_of s k)
+unfolding first_cells
+block_key s k begin ds ss d a = from_key s d (numbers_of s k) a
+
+-- ---- values that are taken
+
+-- values on top of others, the last one first
+abbrev pub back : List Val → List Val → List Val
+back [] rest = rest
+back (v ∷ vs) rest = back vs (v ∷ rest)
+
+pub record Taken (s : Source) (o : AllArrays) (m : Instances) (i : ℕ) (hs : List (Option Holds)) (left : List Kinds) (vals : List Val) : Type 0 where
+  pub values : List Val
+  pub rest : List Val
+  pub are : vals ≡ back values rest
+  pub fine : (k : ℕ) → ValsFine s o i k hs values
+  pub more : HandsFine s o m i left rest
+  pub count : length values ≡ length hs
+
+abbrev pub AllSome : List (Option Holds) → Type 0
+AllSome [] = Unit {0}
+AllSome (None ∷ hs) = ⊥
+AllSome (Some h ∷ hs) = AllSome hs
+
+pub taken : (s : Source) (o : AllArrays) (m : Instances) (i : ℕ) (hs : List (Option Holds)) (left : List Kinds) (vals : List Val) → AllSome hs → HandsFine s o m i (onto hs left) vals → Taken s o m i hs left vals
+taken s o m i [] left vals a h = record { values = []; rest = vals; are = refl; fine = λ k. tt; more = h; count = refl }
+taken s o m i (None ∷ hs) left vals a h = absurd a
+taken s o m i (Some x ∷ hs) left vals a h = one_more_taken (taken s o m i hs (Value x ∷ left) vals a h)
+  where
+    with_rest : (vs rest : List Val) → vals ≡ back vs rest → ((k : ℕ) → ValsFine s o i k hs vs) → length vs ≡ length hs → HandsFine s o m i (Value x ∷ left) rest → Taken s o m i (Some x ∷ hs) left vals
+    with_rest vs [] e f c h = absurd h
+    with_rest vs (v ∷ rest) e f c h = record { values = v ∷ vs; rest = rest; are = e; fine = λ k. (h.0, f k); more = h.1; count = ap suc c }
+
+    one_more_taken : Taken s o m i hs (Value x ∷ left) vals → Taken s o m i (Some x ∷ hs) left vals
+    one_more_taken t = with_rest t.values t.rest t.are t.fine t.count t.more
+
+pub formals_some : (s : Source) (ds : List DeclNo) (fs : List Formal) → FormalsAre s ds fs → AllSome (formal_kinds fs)
+formals_some s [] [] a = tt
+formals_some s [] (f ∷ fs) a = absurd a
+formals_some s (d ∷ ds) [] a = absurd a
+formals_some s (d ∷ ds) (f ∷ fs) a = subst (λ z. AllSome (z ∷ formal_kinds fs)) (sym a.2) (formals_some s ds fs a.3)
+
+-- no array goes over by value
+by_value : (f : Mode) (g : FormalKind) (ty : Option SimType) (h : Holds) → formal_holds f g ty ≡ Some h → is_array_by_value f g ≡ false
+by_value mode.ByValue shape.Array ty h e = absurd (cc)
+by_value mode.ByValue shape.Simple ty h e = refl
+by_value mode.ByValue shape.Procedure ty h e = refl
+by_value mode.ByReference g ty h e = refl
+by_value mode.ByName g ty h e = refl
+
+pub none_by_value : (s : Source) (ds : List DeclNo) (fs : List Formal) (vs : List Val) → FormalsAre s ds fs → arrays_by_value fs vs ≡ []
+none_by_value s [] [] vs a = refl
+none_by_value s [] (f ∷ fs) vs a = absurd a
+none_by_value s (d ∷ ds) [] vs a = absurd a
+none_by_value s (d ∷ ds) (f ∷ fs) [] a = refl
+none_by_value s (d ∷ ds) (f ∷ fs) (v ∷ vs) a =
+    ap (λ b. if b then with_array_of v (arrays_by_value fs vs) else arrays_by_value fs vs) (by_value f.mode f.kind f.ty a.0 a.2) ∙ none_by_value s ds fs vs a.3
+
+-- as many values are taken in the order in which they came
+many_from : {S : Type 0} (n : ℕ) (vs got rest : List Val) (o : World) (f : List Val → List Val → Run S) → pop_many (length vs + n) got (back vs rest) o f ≡ pop_many n (vs ++ got) rest o f
+unfolding pop_many
+many_from n [] got rest o f = let e : 0 + n ≡ n = omega arith in ap (λ z. pop_many z got rest o f) e
+many_from n (v ∷ vs) got rest o f =
+    let e : suc (length vs) + n ≡ length vs + suc n = omega arith in
+    ap (λ z. pop_many z got (back vs (v ∷ rest)) o f) e ∙ many_from (suc n) vs got (v ∷ rest) o f
+
+append_none : (vs : List Val) → vs ++ [] ≡ vs
+append_none [] = refl
+append_none (v ∷ vs) = ap (λ z. v ∷ z) (append_none vs)
+
+pub all_taken : {S : Type 0} (vs rest : List Val) (o : World) (f : List Val → List Val → Run S) → pop_many (length vs) [] (back vs rest) o f ≡ f vs rest
+unfolding pop_many
+all_taken vs rest o f =
+    let e : length vs ≡ length vs + 0 = omega arith in
+    ap (λ z. pop_many z [] (back vs rest) o f) e ∙ many_from 0 vs [] rest o f ∙ ap (λ z. f z rest) (append_none vs)
+
+pub vals_up : (s : Source) (o : AllArrays) (i j k : ℕ) → i ≤ j → (hs : List (Option Holds)) (vs : List Val) → ValsFine s o i k hs vs → ValsFine s o j k hs vs
+vals_up s o i j k le [] [] a = a
+vals_up s o i j k le [] (v ∷ vs) a = absurd a
+vals_up s o i j k le (h ∷ hs) [] a = absurd a
+vals_up s o i j k le (None ∷ hs) (v ∷ vs) a = absurd a.0
+vals_up s o i j k le (Some h ∷ hs) (v ∷ vs) a = (val_up o i j le h v a.0, vals_up s o i j k le hs vs a.1)

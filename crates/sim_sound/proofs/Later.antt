@@ -1,0 +1,155 @@
+-- What is fine stays so in later stores.
+use Rattle.std.proofs.Common.{◌≡◌, ◌<◌, ◌≤◌, ℕ, List, [], ◌∷◌, Option, Some, None, ◌∙◌, arith}
+use Rattle.sim_base.specs.declared.numbering.DeclNo.{DeclNo}
+use Rattle.sim_scope.specs.Source.{Source}
+use Rattle.sim_values.specs.declared.kind.Kind.{Kind}
+use Rattle.sim_code.specs.Instances.{CellPlace, ElementPlace, ImagePlace, Instance}
+use Rattle.sim_meaning.specs.Pending.{Activation, Address, ArrayValue, BackOp, BranchOp, CallOf, Cell, CopyOf, Do, Either, ElementOf, ElementsOp, EndBlock, EndProcedure, EndProgram, Eval, Further, Given, GiveOp, Held, IfOp, Instances, Item, Key, Link, NoTerm, Of, One, Op, RaiseOp, ShareOp, StandardOf, StepTestOp, StoreOp, Target, Term, Terms, ToAddress, ToCell, Two, Unbuilt, Val, ValueAt, WhileElementOp}
+use Rattle.sim_sound.specs.Typed.{ArrayOf, Holds, Simply}
+use Rattle.sim_sound.proofs.Sound.{AddressOf, AllArrays, ArrayFine, Begun, CellIs, CellTarget, ChainFine, ElementFine, Enclosed, HandFine, HandsFine, IntegersFine, Kinds, LinkTo, Made, OpFine, Own, StoreFine, TargetFine, TargetsFine, TermFine, TermsFine, ValFine, Value, VariableFine, WorkFine, alone, array_stored, in_whole, own_made, value_stored, within}
+
+-- an instance in a later store, with no fewer arrays
+pub record OwnLater (s : Source) (o : AllArrays) (m : Instances) (j t : ℕ) (x : Instance (List Held)) : Type 0 where
+  pub now : Instance (List Held)
+  pub own : Own s o m j t now
+  pub encloser : now.encloser ≡ x.encloser
+  pub made : (todo : List DeclNo) → Made s t todo x.cells → Made s t todo now.cells
+
+pub record Later (s : Source) (o : AllArrays) (m : Instances) (o' : AllArrays) (m' : Instances) (bound : ℕ) : Type 0 where
+  pub arrays : (j : ℕ) (k : Kind) (a : ℕ) → j < bound → ArrayFine o j k a → ArrayFine o' j k a
+  pub elements : (j : ℕ) (k : Kind) (a n : ℕ) → j < bound → ElementFine o j k a n → ElementFine o' j k a n
+  pub own : (j t : ℕ) (x : Instance (List Held)) → j < bound → Own s o m j t x → OwnLater s o' m' j t x
+
+module _ (s : Source) (o : AllArrays) (m : Instances) (o' : AllArrays) (m' : Instances) (bound : ℕ) (e : Later s o m o' m' bound) where
+  pub val_later : (j : ℕ) → j < bound → (h : Holds) (v : Val) → ValFine o j h v → ValFine o' j h v
+  val_later j lt (Simply k) (Of p) a = a
+  val_later j lt (ArrayOf k) (ArrayValue n) a = e.arrays j k n lt a
+  val_later j lt (Simply k) _ a = absurd a
+  val_later j lt (ArrayOf k) _ a = absurd a
+
+  pub enclosed_later : (j t : ℕ) (x x' : Instance (List Held)) → x'.encloser ≡ x.encloser → j < bound → Enclosed s o m j t x → Enclosed s o' m' j t x'
+  enclosed_later j t x x' is lt (alone out around) = alone (is ∙ out) around
+  enclosed_later j t x x' is lt (within {e = n} {u = u} {y = y} out around before own made inner) =
+      let less : n < bound = omega (arith, before, lt) in
+      let y' = e.own n u y less own in
+      within (is ∙ out) around before y'.own (y'.made [] made) (enclosed_later n u y y'.now y'.encloser less inner)
+
+  pub begun_later : (j t : ℕ) (todo : List DeclNo) → j < bound → Begun s o m j t todo → Begun s o' m' j t todo
+  begun_later j t todo lt b =
+      let y = e.own j t b.now lt b.own in
+      record { now = y.now; own = y.own; made = y.made todo b.made; out = enclosed_later j t b.now y.now y.encloser lt b.out }
+
+  pub hand_later : (j : ℕ) → j < bound → (k : Kinds) (v : Val) → HandFine s o m j k v → HandFine s o' m' j k v
+  hand_later j lt (Value h) v a = val_later j lt h v a
+  hand_later j lt (AddressOf k) (Address (ElementPlace n i None)) a = e.elements j k n i lt a
+  hand_later j lt (LinkTo u) (Link n) a = let less : n < bound = omega (arith, a.0, lt) in (a.0, begun_later n u [] less a.1)
+  hand_later j lt (AddressOf k) (Address (ElementPlace n i (Some c))) a = absurd a
+  hand_later j lt (AddressOf k) (Address (CellPlace n i c)) a = absurd a
+  hand_later j lt (AddressOf k) (Address (ImagePlace n)) a = absurd a
+  hand_later j lt (AddressOf k) _ a = absurd a
+  hand_later j lt (LinkTo u) _ a = absurd a
+
+  pub hands_later : (j : ℕ) → j < bound → (ks : List Kinds) (vs : List Val) → HandsFine s o m j ks vs → HandsFine s o' m' j ks vs
+  hands_later j lt [] [] a = a
+  hands_later j lt [] (v ∷ vs) a = absurd a
+  hands_later j lt (k ∷ ks) [] a = absurd a
+  hands_later j lt (k ∷ ks) (v ∷ vs) a = (hand_later j lt k v a.0, hands_later j lt ks vs a.1)
+
+  module _ (j t : ℕ) (lt : j < bound) where
+    cell_later : (todo : List DeclNo) (n : ℕ) (key : Key) (h : Holds) → CellIs s o m j t todo n key h → CellIs s o' m' j t todo n key h
+    cell_later todo n key h (in_whole {u = u} le b holds there) = let less : n < bound = omega (arith, le, lt) in in_whole le (begun_later n u [] less b) holds there
+    cell_later todo n key h (own_made is same holds there not) = own_made is same holds there not
+
+    mutual
+      pub term_later : (todo : List DeclNo) (x : Term) (g : Option Kinds) → TermFine s o m j t todo x g → TermFine s o' m' j t todo x g
+      term_later todo (Given p) g a = a
+      term_later todo (Cell n key) g a = (a.0, a.1, cell_later todo n key a.0 a.2)
+      term_later todo (One op line x) g a = (a.0, a.1, a.2, term_later todo x _ a.3)
+      term_later todo (Two op line x y) g a = (a.0, a.1, a.2, a.3, term_later todo x _ a.4, term_later todo y _ a.5)
+      term_later todo (Either c x y) g a = (a.0, a.1, term_later todo c _ a.2, term_later todo x g a.3, term_later todo y g a.4)
+      term_later todo (ElementOf line x ts) g a = (a.0, a.1, term_later todo x _ a.2, integers_later todo ts a.3)
+      term_later todo (ValueAt x) g a = (a.0, a.1, term_later todo x _ a.2)
+      term_later todo (CopyOf line x) g a = a
+      term_later todo (CallOf n k ts line) g a = let less : n < bound = omega (arith, a.before, lt) in record {
+        around = a.around;
+        before = a.before;
+        whole = begun_later n a.around [] less a.whole;
+        stands_in = a.stands_in;
+        result = a.result;
+        heading = a.heading;
+        body = a.body;
+        is = a.is;
+        gives = a.gives;
+        actuals = terms_later todo ts _ a.actuals;
+      }
+      term_later todo (StandardOf name ts line) g a = (a.0, a.1, terms_later todo ts _ a.2)
+      term_later todo Unbuilt g a = a
+
+      pub integers_later : (todo : List DeclNo) (ts : Terms) → IntegersFine s o m j t todo ts → IntegersFine s o' m' j t todo ts
+      integers_later todo NoTerm a = a
+      integers_later todo (Further x xs) a = (term_later todo x _ a.0, integers_later todo xs a.1)
+
+      pub terms_later : (todo : List DeclNo) (ts : Terms) (hs : List (Option Holds)) → TermsFine s o m j t todo ts hs → TermsFine s o' m' j t todo ts hs
+      terms_later todo NoTerm hs a = a
+      terms_later todo (Further x xs) hs a = (a.0, a.1, a.2, term_later todo x _ a.3, terms_later todo xs a.1 a.4)
+
+    pub cell_target_later : (n : ℕ) (key : Key) (k : Kind) → CellTarget s o m j n key k → CellTarget s o' m' j n key k
+    cell_target_later n key k a = let less : n < bound = omega (arith, a.before, lt) in record { around = a.around; before = a.before; whole = begun_later n a.around [] less a.whole; holds = a.holds; there = a.there }
+
+    target_later : (x : Target) (k : Kind) (before behind : List Kinds) → TargetFine s o m j x k before behind → TargetFine s o' m' j x k before behind
+    target_later (ToCell n key) k before behind a = (cell_target_later n key k a.0, a.1)
+    target_later ToAddress k before behind a = a
+
+    targets_later : (ts : List Target) (k : Kind) (before behind : List Kinds) → TargetsFine s o m j ts k before behind → TargetsFine s o' m' j ts k before behind
+    targets_later [] k before behind a = a
+    targets_later (x ∷ xs) k before behind a = (a.0, target_later x k before a.0 a.1, targets_later xs k a.0 behind a.2)
+
+    variable_later : (x : Target) (k : Kind) → VariableFine s o m j x k → VariableFine s o' m' j x k
+    variable_later (ToCell n key) k a = cell_target_later n key k a
+    variable_later ToAddress k a = a
+
+    store_later : (todo todo' : List DeclNo) (x : Target) (before behind : List Kinds) → StoreFine s o m j t todo todo' x before behind → StoreFine s o' m' j t todo todo' x before behind
+    store_later todo todo' x before behind (value_stored k next is a same) = value_stored k next is (target_later x k next behind a) same
+    store_later todo todo' x before behind (array_stored a) = array_stored a
+
+    pub op_later : (op : Op) (todo todo' : List DeclNo) (before behind : List Kinds) → OpFine s o m j t op todo todo' before behind → OpFine s o' m' j t op todo todo' before behind
+    op_later (Eval x) todo todo' before behind a = (a.0, term_later todo x a.0 a.1, a.2, a.3)
+    op_later (IfOp x y) todo todo' before behind a = (a.0, a.1, term_later todo x _ a.2, term_later todo y _ a.3, a.4, a.5, a.6)
+    op_later (StoreOp x) todo todo' before behind a = store_later todo todo' x before behind a
+    op_later (ShareOp ts) todo todo' before behind a = (a.0, a.1, a.2, targets_later ts a.0 a.1 behind a.3, a.4)
+    op_later (GiveOp v ts) todo todo' before behind a = (a.0, val_later j lt (Simply a.0) v a.1, targets_later ts a.0 before behind a.2, a.3)
+    op_later (BranchOp x next) todo todo' before behind a = (a.0, a.1, a.2, a.3, op_later next [] [] behind behind a.4)
+    op_later (BackOp op) todo todo' before behind a = op_later op todo todo' before behind a
+    op_later (ElementsOp x es y) todo todo' before behind a = (a.0, a.1, a.2, (let r = a.3 in (r.0, variable_later x r.0 r.1, r.2, r.3)))
+    op_later (WhileElementOp x f c y) todo todo' before behind a = (a.0, a.1, a.2, (let r = a.3 in (r.0, variable_later x r.0 r.1, r.2, r.3, r.4)))
+    op_later (StepTestOp x line f c y) todo todo' before behind a = (a.0, a.1, a.2, variable_later x _ a.3, a.4, a.5, a.6)
+    op_later (RaiseOp x line f c y) todo todo' before behind a = (a.0, a.1, a.2, (let r = a.3 in (variable_later x _ r.0, r.1, r.2, r.3)))
+    op_later _ todo todo' before behind a = a
+
+    pub work_later : (Below Below' : Option Kinds → Type 0) → ((v : Option Kinds) → Below v → Below' v) → (w : List Item) (todo : List DeclNo) (before : List Kinds) → WorkFine s o m Below j t w todo before → WorkFine s o' m' Below' j t w todo before
+    work_later Below Below' f [] todo before a = a
+    work_later Below Below' f (Do op ∷ w) todo before a = (a.0, a.1, op_later op todo a.0 before a.1 a.2, work_later Below Below' f w a.0 a.1 a.3)
+    work_later Below Below' f (EndBlock ∷ w) todo before a = f None a
+    work_later Below Below' f (EndProcedure leaves ∷ w) todo before a = (a.0, a.1, a.2, a.3, a.4, f _ a.5)
+    work_later Below Below' f (EndProgram ∷ w) todo before a = a
+
+pub later_under : (s : Source) (o : AllArrays) (m : Instances) (o' : AllArrays) (m' : Instances) (bound less : ℕ) → less ≤ bound → Later s o m o' m' bound → Later s o m o' m' less
+later_under s o m o' m' bound less le e = record {
+  arrays = λ j k a lt. e.arrays j k a (omega (arith, lt, le));
+  elements = λ j k a n lt. e.elements j k a n (omega (arith, lt, le));
+  own = λ j t x lt. e.own j t x (omega (arith, lt, le));
+}
+
+pub chain_later : (s : Source) (o : AllArrays) (m : Instances) (o' : AllArrays) (m' : Instances) (bound : ℕ) → Later s o m o' m' bound → (chain : List Activation) (v : Option Kinds) → ChainFine s o m bound chain v → ChainFine s o' m' bound chain v
+chain_later s o m o' m' bound e [] v c = c
+chain_later s o m o' m' bound e (a ∷ rest) v c =
+    let le : a.instance ≤ bound = omega (arith, c.before) in
+    record {
+      before = c.before;
+      of_text = c.of_text;
+      todo = c.todo;
+      begun = begun_later s o m o' m' bound e a.instance c.of_text c.todo c.before c.begun;
+      kinds = c.kinds;
+      hands = hands_later s o m o' m' bound e a.instance c.before c.kinds a.values c.hands;
+      goes = work_later s o m o' m' bound e a.instance c.of_text c.before (λ w. ChainFine s o m a.instance rest w) (λ w. ChainFine s o' m' a.instance rest w) (λ w b. chain_later s o m o' m' a.instance (later_under s o m o' m' bound a.instance le e) rest w b) a.work c.todo _ c.goes;
+    }

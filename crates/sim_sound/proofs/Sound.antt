@@ -1,0 +1,313 @@
+-- Which configurations have a rule for what is pending.
+use Rattle.std.proofs.Common.{◌≡◌, ◌<◌, ◌≤◌, ℕ, zero, suc, true, List, [], ◌∷◌, length, map, Option, Some, None}
+use Rattle.std.specs.Prelude.{slice_get, ◌*◌}
+use Rattle.sim_base.specs.declared.numbering.DeclNo.{DeclNo}
+use Rattle.sim_scope.specs.declared.types.Formal.{Formal}
+use Rattle.sim_scope.specs.Scopes.{encloser}
+use Rattle.sim_scope.specs.Source.{Source, level_of}
+use Rattle.sim_tree.specs.declared.stmt.TypeName.{TypeName}
+use Rattle.sim_tree.specs.Syntax.{Declarations, Heading, Statement, Statements}
+use Rattle.sim_values.specs.declared.kind.Kind.{Kind}
+use Rattle.sim_values.specs.declared.kind.Kind.TheVariants as kind
+use Rattle.sim_values.specs.declared.operators.Monadic.{Monadic}
+use Rattle.sim_values.specs.declared.operators.Monadic.TheVariants as monadic
+use Rattle.sim_values.specs.Plain.{Plain, kind_of}
+use Rattle.sim_values.specs.Standard.{operands_of, row_of}
+use Rattle.sim_values.specs.Words.{element_count}
+use Rattle.sim_code.specs.Outcome.{ArrayOf as OneArray}
+use Rattle.sim_code.specs.Arrays.{unless_given}
+use Rattle.sim_code.specs.Instances.{ElementPlace, Instance, live}
+use Rattle.sim_code.specs.Running.{name_runs}
+use Rattle.sim_meaning.specs.Entries.{first_cells, formals_of}
+use Rattle.sim_meaning.specs.Meaning.{has_result}
+use Rattle.sim_meaning.specs.Pending.{Activation, Address, AgainOp, ArrayOp, ArrayValue, BackOp, BranchOp, CallOf, CallOp, Cell, ChooseOp, Configuration, CopyOf, CopyOp, Declared, Do, DropOp, Either, ElementOf, ElementOp, ElementsOp, EndBlock, EndProcedure, EndProgram, EnterOp, Eval, Exec, Execs, FetchOp, Further, Given, GiveOp, Held, IfOp, Instances, Item, Key, Link, NoTerm, Of, One, OneOp, Op, PastOp, RaiseOp, ShareOp, StandardOf, StandardOp, StepOp, StepTestOp, StoreOp, Target, Term, Terms, TestOp, ToAddress, ToCell, Two, TwoOp, Unbuilt, Val, ValueAt, WhileElementOp, held}
+use Rattle.sim_meaning.specs.Texts.{BlockText, ProcedureText, Text, text}
+use Rattle.sim_sound.specs.Typed.{Among, ArrayOf, ElementsAre, ExprIs, Holds, Simply, StatementIs, StatementsAre, TwoKinds, formal_holds, key_holds, result_holds, some_holds, standard_kind}
+
+-- ---- values
+
+-- the arrays of a run
+abbrev pub AllArrays : Type 0
+AllArrays = List OneArray
+
+-- an array that stays for as long as an instance, with its elements
+pub record ArrayFine (o : AllArrays) (j : ℕ) (k : Kind) (a : ℕ) : Type 0 where
+  pub it : OneArray
+  pub lives : unless_given (slice_get o a) ≡ Some it
+  pub owned : it.owner ≤ j
+  pub kinds : (i : ℕ) (p : Plain) → slice_get it.elements i ≡ Some p → kind_of p ≡ k
+  pub count : length it.elements ≡ element_count it.bounds
+
+abbrev pub ValFine : AllArrays → ℕ → Holds → Val → Type 0
+ValFine o j (Simply k) (Of p) = kind_of p ≡ k
+ValFine o j (ArrayOf k) (ArrayValue a) = ArrayFine o j k a
+ValFine o j _ _ = ⊥
+
+-- ---- cells
+
+-- A cell has what it holds; one of an array may have nothing yet.
+abbrev pub CellFine : AllArrays → ℕ → Option Holds → Option Val → Type 0
+CellFine o j None v = Unit {0}
+CellFine o j (Some (Simply k)) None = ⊥
+CellFine o j (Some (ArrayOf k)) None = Unit {0}
+CellFine o j (Some h) (Some v) = ValFine o j h v
+
+abbrev pub CellsFine : Source → AllArrays → (instance text : ℕ) → List Held → Type 0
+CellsFine s o j t [] = Unit {0}
+CellsFine s o j t (h ∷ hs) = CellFine o j (key_holds s t h.key) h.value × CellsFine s o j t hs
+
+abbrev pub key_of : Held → Key
+key_of h = h.key
+
+abbrev pub keys_in : Source → ℕ → Option Text → List Key
+keys_in s t None = []
+keys_in s t (Some x) = map key_of (first_cells s t x)
+
+pub data KeyAmong (key : Key) : List Key → Type 0 where
+  first_key : {ks : List Key} → KeyAmong key (key ∷ ks)
+  later_key : {k : Key} {ks : List Key} → KeyAmong key ks → KeyAmong key (k ∷ ks)
+
+-- all that there is to an instance of a text but for its encloser
+pub record Own (s : Source) (o : AllArrays) (m : Instances) (j t : ℕ) (x : Instance (List Held)) : Type 0 where
+  pub lives : live m j ≡ Some x
+  pub of_text : x.text ≡ t
+  pub words : Text
+  pub has_text : text s t ≡ Some words
+  pub level : x.level ≡ level_of s t
+  pub keys : map key_of x.cells ≡ keys_in s t (text s t)
+  pub cells : CellsFine s o j t x.cells
+
+-- the arrays of an instance are made, but for these
+abbrev pub Made : Source → (text : ℕ) → List DeclNo → List Held → Type 0
+Made s t todo hs = (d : DeclNo) (k : Kind) → key_holds s t (Declared d.0) ≡ Some (ArrayOf k) → KeyAmong (Declared d.0) (keys_in s t (text s t)) → held (Declared d.0) hs ≡ None → Among d todo
+
+-- the instances around are whole
+pub data Enclosed (s : Source) (o : AllArrays) (m : Instances) : (j t : ℕ) → Instance (List Held) → Type 0 where
+  alone : {j t : ℕ} {x : Instance (List Held)} → x.encloser ≡ None → encloser s.tables t ≡ None → Enclosed s o m j t x
+  within : {j t e u : ℕ} {x y : Instance (List Held)} → x.encloser ≡ Some e → encloser s.tables t ≡ Some u → e < j → Own s o m e u y → Made s u [] y.cells → Enclosed s o m e u y → Enclosed s o m j t x
+
+-- an instance whose arrays are made but for these, among whole ones
+pub record Begun (s : Source) (o : AllArrays) (m : Instances) (j t : ℕ) (todo : List DeclNo) : Type 0 where
+  pub now : Instance (List Held)
+  pub own : Own s o m j t now
+  pub made : Made s t todo now.cells
+  pub out : Enclosed s o m j t now
+
+abbrev pub Whole : Source → AllArrays → Instances → (j t : ℕ) → Type 0
+Whole s o m j t = Begun s o m j t []
+
+-- ---- values in hand
+
+pub data Kinds : Type 0 where
+  Value : Holds → Kinds
+  AddressOf : Kind → Kinds
+  LinkTo : (text : ℕ) → Kinds
+
+pub record ElementFine (o : AllArrays) (j : ℕ) (k : Kind) (a n : ℕ) : Type 0 where
+  pub array : ArrayFine o j k a
+  pub there : n < length (array.it).elements
+
+abbrev pub HandFine : Source → AllArrays → Instances → ℕ → Kinds → Val → Type 0
+HandFine s o m j (Value h) v = ValFine o j h v
+HandFine s o m j (AddressOf k) (Address (ElementPlace a n None)) = ElementFine o j k a n
+HandFine s o m j (LinkTo u) (Link e) = (e ≤ j) × Whole s o m e u
+HandFine s o m j _ _ = ⊥
+
+abbrev pub HandsFine : Source → AllArrays → Instances → ℕ → List Kinds → List Val → Type 0
+HandsFine s o m j [] [] = Unit {0}
+HandsFine s o m j [] (v ∷ vs) = ⊥
+HandsFine s o m j (k ∷ ks) [] = ⊥
+HandsFine s o m j (k ∷ ks) (v ∷ vs) = HandFine s o m j k v × HandsFine s o m j ks vs
+
+-- ---- closed trees
+
+abbrev pub simple : Kind → Option Kinds
+simple k = Some (Value (Simply k))
+
+abbrev pub held_kinds : Option Holds → Option Kinds
+held_kinds None = None
+held_kinds (Some h) = Some (Value h)
+
+abbrev pub given : Option Kinds → List Kinds → List Kinds
+given None ks = ks
+given (Some k) ks = k ∷ ks
+
+abbrev pub OneKinds : Monadic → Kind → Type 0
+OneKinds monadic.Negate k = k ≡ kind.Integer
+OneKinds monadic.Not k = k ≡ kind.Boolean
+
+-- a cell of a whole instance, or one of its own that is made
+pub data CellIs (s : Source) (o : AllArrays) (m : Instances) (j t : ℕ) (todo : List DeclNo) (e : ℕ) (key : Key) (h : Holds) : Type 0 where
+  in_whole : {u : ℕ} → e ≤ j → Whole s o m e u → key_holds s u key ≡ Some h → KeyAmong key (keys_in s u (text s u)) → CellIs s o m j t todo e key h
+  own_made : {d : DeclNo} → e ≡ j → key ≡ Declared d.0 → key_holds s t key ≡ Some h → KeyAmong key (keys_in s t (text s t)) → (Among d todo → ⊥) → CellIs s o m j t todo e key h
+
+abbrev pub formal_kinds : List Formal → List (Option Holds)
+formal_kinds [] = []
+formal_kinds (f ∷ fs) = formal_holds f.mode f.kind f.ty ∷ formal_kinds fs
+
+pub record CallFine (s : Source) (o : AllArrays) (m : Instances) (j e k : ℕ) (g : Option Kinds) (Actuals : List (Option Holds) → Type 0) : Type 0 where
+  pub around : ℕ
+  pub before : e ≤ j
+  pub whole : Whole s o m e around
+  pub stands_in : encloser s.tables k ≡ Some around
+  pub result : Option TypeName
+  pub heading : Heading
+  pub body : Statement
+  pub is : text s k ≡ Some (ProcedureText result heading body)
+  pub gives : held_kinds (result_holds (text s k)) ≡ g
+  pub actuals : Actuals (formal_kinds (formals_of s k))
+
+abbrev pub kinds_of : List Kind → List (Option Holds)
+kinds_of [] = []
+kinds_of (k ∷ ks) = Some (Simply k) ∷ kinds_of ks
+
+abbrev mutual
+  -- in an instance j of the text t
+  pub TermFine : Source → AllArrays → Instances → (j t : ℕ) → List DeclNo → Term → Option Kinds → Type 0
+  TermFine s o m j t todo (Given p) g = simple (kind_of p) ≡ g
+  TermFine s o m j t todo (Cell e key) g = (h : Holds) × (Some (Value h) ≡ g) × CellIs s o m j t todo e key h
+  TermFine s o m j t todo (One op line a) g = (k : Kind) × OneKinds op k × (simple k ≡ g) × TermFine s o m j t todo a (simple k)
+  TermFine s o m j t todo (Two op line a b) g = (k : Kind) × (v : Kind) × TwoKinds op k v × (simple v ≡ g) × TermFine s o m j t todo a (simple k) × TermFine s o m j t todo b (simple k)
+  TermFine s o m j t todo (Either c a b) g = (h : Kinds) × (Some h ≡ g) × TermFine s o m j t todo c (simple kind.Boolean) × TermFine s o m j t todo a g × TermFine s o m j t todo b g
+  TermFine s o m j t todo (ElementOf line a ts) g = (k : Kind) × (Some (AddressOf k) ≡ g) × TermFine s o m j t todo a (Some (Value (ArrayOf k))) × IntegersFine s o m j t todo ts
+  TermFine s o m j t todo (ValueAt a) g = (k : Kind) × (simple k ≡ g) × TermFine s o m j t todo a (Some (AddressOf k))
+  TermFine s o m j t todo (CopyOf line a) g = ⊥
+  TermFine s o m j t todo (CallOf e k ts line) g = CallFine s o m j e k g (TermsFine s o m j t todo ts)
+  TermFine s o m j t todo (StandardOf name ts line) g = (name_runs name ≡ true) × (held_kinds (some_holds (standard_kind (row_of name).result)) ≡ g) × TermsFine s o m j t todo ts (kinds_of (operands_of (row_of name).function))
+  TermFine s o m j t todo Unbuilt g = ⊥
+
+  pub IntegersFine : Source → AllArrays → Instances → (j t : ℕ) → List DeclNo → Terms → Type 0
+  IntegersFine s o m j t todo NoTerm = Unit {0}
+  IntegersFine s o m j t todo (Further x xs) = TermFine s o m j t todo x (simple kind.Integer) × IntegersFine s o m j t todo xs
+
+  pub TermsFine : Source → AllArrays → Instances → (j t : ℕ) → List DeclNo → Terms → List (Option Holds) → Type 0
+  TermsFine s o m j t todo NoTerm hs = hs ≡ []
+  TermsFine s o m j t todo (Further x xs) hs = (h : Holds) × (more : List (Option Holds)) × (hs ≡ Some h ∷ more) × TermFine s o m j t todo x (Some (Value h)) × TermsFine s o m j t todo xs more
+
+-- ---- pending work
+
+-- values that were pushed one after the other
+abbrev pub onto : List (Option Holds) → List Kinds → List Kinds
+onto [] ks = ks
+onto (None ∷ hs) ks = onto hs ks
+onto (Some h ∷ hs) ks = onto hs (Value h ∷ ks)
+
+abbrev pub integers : ℕ → List Kinds → List Kinds
+integers zero ks = ks
+integers (suc n) ks = Value (Simply kind.Integer) ∷ integers n ks
+
+-- what a value is assigned to
+pub record CellTarget (s : Source) (o : AllArrays) (m : Instances) (j e : ℕ) (key : Key) (k : Kind) : Type 0 where
+  pub around : ℕ
+  pub before : e ≤ j
+  pub whole : Whole s o m e around
+  pub holds : key_holds s around key ≡ Some (Simply k)
+  pub there : KeyAmong key (keys_in s around (text s around))
+
+abbrev pub TargetFine : Source → AllArrays → Instances → ℕ → Target → Kind → (before behind : List Kinds) → Type 0
+TargetFine s o m j (ToCell e key) k before behind = CellTarget s o m j e key k × (before ≡ behind)
+TargetFine s o m j ToAddress k before behind = before ≡ AddressOf k ∷ behind
+
+abbrev pub TargetsFine : Source → AllArrays → Instances → ℕ → List Target → Kind → (before behind : List Kinds) → Type 0
+TargetsFine s o m j [] k before behind = behind ≡ before
+TargetsFine s o m j (x ∷ xs) k before behind = (next : List Kinds) × TargetFine s o m j x k before next × TargetsFine s o m j xs k next behind
+
+-- a target that is a cell, the variable of a `for` list
+abbrev pub VariableFine : Source → AllArrays → Instances → ℕ → Target → Kind → Type 0
+VariableFine s o m j (ToCell e key) k = CellTarget s o m j e key k
+VariableFine s o m j ToAddress k = ⊥
+
+pub record CallOpFine (s : Source) (k n : ℕ) (before behind : List Kinds) : Type 0 where
+  pub around : ℕ
+  pub stands_in : encloser s.tables k ≡ Some around
+  pub result : Option TypeName
+  pub heading : Heading
+  pub body : Statement
+  pub is : text s k ≡ Some (ProcedureText result heading body)
+  pub left : List Kinds
+  pub «in» : before ≡ onto (formal_kinds (formals_of s k)) (LinkTo around ∷ left)
+  pub count : n ≡ length (formals_of s k)
+  pub out : behind ≡ given (held_kinds (result_holds (text s k))) left
+
+-- an array goes into the cell that waits for it
+pub record ArrayStored (s : Source) (j t : ℕ) (todo todo' : List DeclNo) (x : Target) (before behind : List Kinds) : Type 0 where
+  pub declaration : DeclNo
+  pub kind : Kind
+  pub is : x ≡ ToCell j (Declared declaration.0)
+  pub holds : key_holds s t (Declared declaration.0) ≡ Some (ArrayOf kind)
+  pub there : KeyAmong (Declared declaration.0) (keys_in s t (text s t))
+  pub waits : todo ≡ declaration ∷ todo'
+  pub «in» : before ≡ Value (ArrayOf kind) ∷ behind
+
+pub data StoreFine (s : Source) (o : AllArrays) (m : Instances) (j t : ℕ) (todo todo' : List DeclNo) (x : Target) (before behind : List Kinds) : Type 0 where
+  value_stored : (k : Kind) (next : List Kinds) → before ≡ Value (Simply k) ∷ next → TargetFine s o m j x k next behind → todo' ≡ todo → StoreFine s o m j t todo todo' x before behind
+  array_stored : ArrayStored s j t todo todo' x before behind → StoreFine s o m j t todo todo' x before behind
+
+-- a statement, or part of one: all arrays are made
+abbrev pub Ready : (todo todo' : List DeclNo) → (before behind : List Kinds) → (Is : Type 0) → Type 0
+Ready todo todo' before behind Is = (todo ≡ []) × (todo' ≡ []) × (behind ≡ before) × Is
+
+-- An operator in an instance j of the text t: with values of these kinds in hand and these arrays still to be made, and behind it.
+abbrev pub OpFine : Source → AllArrays → Instances → (j t : ℕ) → Op → (todo todo' : List DeclNo) → (before behind : List Kinds) → Type 0
+OpFine s o m j t (Eval x) todo todo' before behind = (g : Option Kinds) × TermFine s o m j t todo x g × (behind ≡ given g before) × (todo' ≡ todo)
+OpFine s o m j t (OneOp op line) todo todo' before behind = (k : Kind) × (left : List Kinds) × OneKinds op k × (before ≡ Value (Simply k) ∷ left) × (behind ≡ before) × (todo' ≡ todo)
+OpFine s o m j t (TwoOp op line) todo todo' before behind = (k : Kind) × (v : Kind) × (left : List Kinds) × TwoKinds op k v × (before ≡ Value (Simply k) ∷ Value (Simply k) ∷ left) × (behind ≡ Value (Simply v) ∷ left) × (todo' ≡ todo)
+OpFine s o m j t (IfOp a b) todo todo' before behind = (h : Kinds) × (left : List Kinds) × TermFine s o m j t todo a (Some h) × TermFine s o m j t todo b (Some h) × (before ≡ Value (Simply kind.Boolean) ∷ left) × (behind ≡ h ∷ left) × (todo' ≡ todo)
+OpFine s o m j t (ElementOp n line) todo todo' before behind = (k : Kind) × (left : List Kinds) × (before ≡ integers n (Value (ArrayOf k) ∷ left)) × (behind ≡ AddressOf k ∷ left) × (todo' ≡ todo)
+OpFine s o m j t FetchOp todo todo' before behind = (k : Kind) × (left : List Kinds) × (before ≡ AddressOf k ∷ left) × (behind ≡ Value (Simply k) ∷ left) × (todo' ≡ todo)
+OpFine s o m j t (CopyOp line) todo todo' before behind = (k : Kind) × (left : List Kinds) × (before ≡ Value (ArrayOf k) ∷ left) × (behind ≡ before) × (todo' ≡ todo)
+OpFine s o m j t (CallOp k n line) todo todo' before behind = CallOpFine s k n before behind × (todo' ≡ todo)
+OpFine s o m j t (StandardOp name line) todo todo' before behind =
+    (left : List Kinds) × (name_runs name ≡ true) × (before ≡ onto (kinds_of (operands_of (row_of name).function)) left) × (behind ≡ given (held_kinds (some_holds (standard_kind (row_of name).result))) left) × (todo' ≡ todo)
+OpFine s o m j t DropOp todo todo' before behind = (k : Kinds) × (before ≡ k ∷ behind) × (todo' ≡ todo)
+OpFine s o m j t AgainOp todo todo' before behind = (k : Kinds) × (left : List Kinds) × (before ≡ k ∷ left) × (behind ≡ k ∷ before) × (todo' ≡ todo)
+OpFine s o m j t (StoreOp x) todo todo' before behind = StoreFine s o m j t todo todo' x before behind
+OpFine s o m j t (ShareOp ts) todo todo' before behind = (k : Kind) × (next : List Kinds) × (before ≡ Value (Simply k) ∷ next) × TargetsFine s o m j ts k next behind × (todo' ≡ todo)
+OpFine s o m j t (GiveOp v ts) todo todo' before behind = (k : Kind) × ValFine o j (Simply k) v × TargetsFine s o m j ts k before behind × (todo' ≡ todo)
+OpFine s o m j t (ArrayOp k n line) todo todo' before behind = (left : List Kinds) × (before ≡ integers (2 * n) left) × (behind ≡ Value (ArrayOf k) ∷ left) × (todo' ≡ todo)
+OpFine s o m j t (Exec a) todo todo' before behind = Ready todo todo' before behind (StatementIs s t a)
+OpFine s o m j t (Execs ss) todo todo' before behind = Ready todo todo' before behind (StatementsAre s t ss)
+OpFine s o m j t (EnterOp k line) todo todo' before behind =
+    Ready todo todo' before behind ((encloser s.tables k ≡ Some t) × (begin : ℕ) × (ds : Declarations) × (ss : Statements) × (text s k ≡ Some (BlockText begin ds ss)))
+OpFine s o m j t (ChooseOp a b) todo todo' before behind = (todo ≡ []) × (todo' ≡ []) × (before ≡ Value (Simply kind.Boolean) ∷ behind) × StatementIs s t a × StatementsAre s t b
+OpFine s o m j t (TestOp c a) todo todo' before behind = Ready todo todo' before behind (ExprIs s (Some t) c (Simply kind.Boolean) × StatementIs s t a)
+OpFine s o m j t (BranchOp a next) todo todo' before behind = (todo ≡ []) × (todo' ≡ []) × (before ≡ Value (Simply kind.Boolean) ∷ behind) × StatementIs s t a × OpFine s o m j t next [] [] behind behind
+OpFine s o m j t (BackOp op) todo todo' before behind = OpFine s o m j t op todo todo' before behind
+OpFine s o m j t PastOp todo todo' before behind = (behind ≡ before) × (todo' ≡ todo)
+OpFine s o m j t (ElementsOp x es a) todo todo' before behind = Ready todo todo' before behind ((k : Kind) × VariableFine s o m j x k × ElementsAre s t k es × StatementIs s t a)
+OpFine s o m j t (WhileElementOp x e c a) todo todo' before behind = Ready todo todo' before behind ((k : Kind) × VariableFine s o m j x k × ExprIs s (Some t) e (Simply k) × ExprIs s (Some t) c (Simply kind.Boolean) × StatementIs s t a)
+OpFine s o m j t (StepTestOp x line step limit a) todo todo' before behind =
+    (todo ≡ []) × (todo' ≡ []) × (before ≡ Value (Simply kind.Integer) ∷ behind) × VariableFine s o m j x kind.Integer × ExprIs s (Some t) step (Simply kind.Integer) × ExprIs s (Some t) limit (Simply kind.Integer) × StatementIs s t a
+OpFine s o m j t (StepOp line) todo todo' before behind = (left : List Kinds) × (before ≡ integers 3 left) × (behind ≡ Value (Simply kind.Boolean) ∷ left) × (todo' ≡ todo)
+OpFine s o m j t (RaiseOp x line step limit a) todo todo' before behind =
+    Ready todo todo' before behind (VariableFine s o m j x kind.Integer × ExprIs s (Some t) step (Simply kind.Integer) × ExprIs s (Some t) limit (Simply kind.Integer) × StatementIs s t a)
+
+-- The pending work of an instance. `Below` tells what is below on the chain where it waits for such a value, or for none.
+abbrev pub WorkFine : Source → AllArrays → Instances → (Below : Option Kinds → Type 0) → (j t : ℕ) → List Item → (todo : List DeclNo) → (before : List Kinds) → Type 0
+WorkFine s o m Below j t [] todo before = ⊥
+WorkFine s o m Below j t (Do op ∷ w) todo before = (todo' : List DeclNo) × (behind : List Kinds) × OpFine s o m j t op todo todo' before behind × WorkFine s o m Below j t w todo' behind
+WorkFine s o m Below j t (EndBlock ∷ w) todo before = Below None
+WorkFine s o m Below j t (EndProcedure leaves ∷ w) todo before =
+    (result : Option TypeName) × (heading : Heading) × (body : Statement) × (text s t ≡ Some (ProcedureText result heading body)) × (has_result result ≡ leaves) × Below (held_kinds (result_holds (text s t)))
+WorkFine s o m Below j t (EndProgram ∷ w) todo before = Unit {0}
+
+-- ---- chains
+
+pub record ActFine (s : Source) (o : AllArrays) (m : Instances) (bound : ℕ) (a : Activation) (waits : Option Kinds) (Below : Option Kinds → Type 0) : Type 0 where
+  pub before : a.instance < bound
+  pub of_text : ℕ
+  pub todo : List DeclNo
+  pub begun : Begun s o m a.instance of_text todo
+  pub kinds : List Kinds
+  pub hands : HandsFine s o m a.instance kinds a.values
+  pub goes : WorkFine s o m Below a.instance of_text a.work todo (given waits kinds)
+
+-- the numbers of the instances on a chain fall; something is there
+abbrev pub ChainFine : Source → AllArrays → Instances → (bound : ℕ) → List Activation → (waits : Option Kinds) → Type 0
+ChainFine s o m bound [] waits = ⊥
+ChainFine s o m bound (a ∷ rest) waits = ActFine s o m bound a waits (λ v. ChainFine s o m a.instance rest v)
+
+-- before the first step there is nothing
+pub data Fine (s : Source) (o : AllArrays) (c : Configuration) : Type 0 where
+  opens : c.chain ≡ [] → (c.memory).instances ≡ [] → Fine s o c
+  runs : ChainFine s o c.memory (length (c.memory).instances) c.chain None → Fine s o c

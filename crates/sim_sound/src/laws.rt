@@ -1,0 +1,21 @@
+//! That a typed program always has a rule. Each law is a function that does nothing; its clause is the law.
+ghost use Rattle.std.specs.Prelude.{◌≡◌, ℕ, List};
+ghost use Rattle.sim_base.specs.declared.limits.Limits.{Limits};
+ghost use Rattle.sim_scope.specs.Source.{Source};
+ghost use Rattle.sim_code.specs.Outcome.{Ended, NoRule, World};
+ghost use Rattle.sim_meaning.specs.Meaning.{run};
+ghost use Rattle.sim_sound.specs.Examples.{WorkedPrograms};
+ghost use Rattle.sim_sound.specs.Typed.{Typed};
+
+/// A typed program never comes to where there is no rule, whatever the limits and the input are.
+#[tactic(auto, using(crate::proofs::Main::never_no_rule))]
+pub fn typed_programs_have_a_rule()
+    ensures { (s : Source) → Typed s → (l : Limits) (input : List ℕ) (n : ℕ) (o : World) → run s l input n ≡ Ended o NoRule → ⊥ }
+{}
+
+/// There are typed programs: a `for` list, a procedure that calls itself, and a sub-block with arrays. So no part of what is asked of a
+/// program speaks against another.
+#[tactic(auto, using(crate::proofs::Examples::worked_programs))]
+pub fn worked_programs_are_typed()
+    ensures { WorkedPrograms }
+{}

@@ -1,0 +1,6 @@
+pub mod Numbering
+pub mod Passing
+pub mod Placing
+pub mod Gathering
+pub mod Knowing
+pub mod ByTokens
