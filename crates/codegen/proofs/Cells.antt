@@ -1,5 +1,5 @@
 -- What left sides are.
-use Rattle.std.proofs.Common.{◌≡◌, ◌≢◌, ◌<◌, ◌+◌, ℕ, suc, Bool, true, false, List, [], ◌∷◌, length, Option, Some, None, if◌then◌else◌, refl, sym, ap, ◌∙◌, subst, arith}
+use Rattle.std.proofs.Common.{◌≡◌, ◌≢◌, ◌<◌, ◌+◌, ℕ, suc, Bool, true, false, List, [], ◌∷◌, length, Bor, Option, Some, None, if◌then◌else◌, refl, sym, ap, ◌∙◌, subst, arith}
 use Rattle.sim_base.specs.declared.numbering.DeclNo.{DeclNo}
 use Rattle.sim_base.specs.declared.numbering.TokenNo.{TokenNo}
 use Rattle.sim_scope.specs.declared.bound.Bound.{Bound}
@@ -16,22 +16,20 @@ use Rattle.sim_scope.specs.declared.types.Mode.TheVariants as mode
 use Rattle.sim_scope.specs.declared.types.SimType.{SimType}
 use Rattle.sim_scope.specs.declared.types.WrittenMode.{WrittenMode}
 use Rattle.sim_scope.specs.Scopes.{entry_of}
-use Rattle.sim_scope.specs.Source.{Source, block_of, denoted, level_of, line_at, source_of, type_at}
-use Rattle.sim_tree.specs.declared.expr.Identifier.{Identifier}
-use Rattle.sim_tree.specs.Syntax.{Expressions, Named, NoMore, Then}
-use Rattle.sim_meaning.specs.Closing.{is_text, is_text_type}
+use Rattle.sim_scope.specs.Source.{Source, block_of, denoted, level_of, line_at, source_of}
+use Rattle.sim_tree.specs.declared.expr.Expr.{Expr}
+use Rattle.sim_tree.specs.Syntax.{NoMore}
 use Rattle.sim_meaning.specs.Entries.{cells_from, with_cell}
 use Rattle.sim_meaning.specs.Pending.{Declared, Held, Key, Result, same_key}
 use Rattle.sim_meaning.specs.Texts.{BlockText, ClassText, ConnectionText, PrefixedText, ProcedureText, Text, text}
 use Rattle.codegen_expr.specs.declared.spot.Spot.{Spot}
-use Rattle.codegen_expr.specs.Built.{is_around, is_there, place_from, slot_in}
-use Rattle.codegen_expr.specs.CodeExpr.{operands}
+use Rattle.codegen_expr.specs.Built.{KeyBuilt, is_around, is_there, place_from, slot_in}
 use Rattle.codegen_expr.specs.Known.{has_result}
 use Rattle.codegen_expr.specs.Sites.{HasCell, cells_in, place_of, slot_of}
 use Rattle.codegen.specs.declared.left.Left.{Left}
 use Rattle.codegen.specs.declared.left.Left.TheVariants as left
-use Rattle.codegen.specs.CodeLeft.{NotBuilt, stored_declared, stored_formal, stored_named, stored_of}
-use Rattle.codegen.specs.EmitLeft.{FindsDeclared, FindsElement, FindsFormal, FindsLeft, FindsResult, FindsVariable, IsLeft}
+use Rattle.codegen.specs.CodeLeft.{AtAddress, InCell, NotBuilt, Stored, stored_declared, stored_element, stored_formal, stored_named, stored_result, stored_variable}
+use Rattle.codegen.specs.EmitLeft.{FindsDeclared, FindsElement, FindsFormal, FindsLeft, FindsOwn, FindsResult, FindsVariable, IsVariable, operands_in}
 
 -- ---- cells by key
 
@@ -92,175 +90,191 @@ result_none s k (Some (ClassText prefix x a)) h = refl
 result_none s k (Some (PrefixedText class args ds ss)) h = refl
 result_none s k (Some ConnectionText) h = refl
 
+-- ---- operands
+
+no_operands : (es : List Expr) → length es ≡ 0 → operands_in es ≡ NoMore
+no_operands [] e = refl
+no_operands (x ∷ xs) e = absurd (cc)
+
+variable_alone : (s : Source) (d : DeclNo) (es : List Expr) → length es ≢ 0 → NotBuilt ≡ stored_variable s d (operands_in es)
+variable_alone s d [] ne = absurd (ne refl)
+variable_alone s d (x ∷ xs) ne = refl
+
+result_alone : (k : ℕ) (es : List Expr) → length es ≢ 0 → NotBuilt ≡ stored_result k (operands_in es)
+result_alone k [] ne = absurd (ne refl)
+result_alone k (x ∷ xs) ne = refl
+
+element_of : (d : DeclNo) (es : List Expr) (line : ℕ) → length es ≢ 0 → stored_element d (operands_in es) line ≡ AtAddress d (operands_in es) line
+element_of d [] line ne = absurd (ne refl)
+element_of d (x ∷ xs) line ne = refl
+
 module _ (b : Bound) (w : Spot) where
+  -- what is not built is found not to be
+  not_built : (t : Stored) → NotBuilt ≡ t → IsVariable (source_of b) w left.NotBuilt t
+  not_built t e = subst (λ z. IsVariable (source_of b) w left.NotBuilt z) e (λ h. h)
+
   -- ---- variables
 
-  pub variable_subscripts : (d : DeclNo) (n : ℕ) → n ≢ 0 → FindsVariable b w d n left.NotBuilt
+  pub variable_subscripts : (d : DeclNo) (es : List Expr) → length es ≢ 0 → FindsVariable b w d es left.NotBuilt
   unfolding FindsVariable
-  variable_subscripts d n ne NoMore line e = absurd (ne (sym e))
-  variable_subscripts d n ne (Then x xs) line e = λ h. h
+  variable_subscripts d es ne = not_built _ (variable_alone (source_of b) d es ne)
 
-  pub variable_no_slot : (d : DeclNo) (n : ℕ) (slot : Option ℕ) → slot ≡ slot_in (source_of b) (block_of (source_of b) d) (Declared d.0) → slot ≡ None → FindsVariable b w d n left.NotBuilt
+  cell_of : (d : DeclNo) (es : List Expr) → length es ≡ 0 → (r : Left) → IsVariable (source_of b) w r (InCell (block_of (source_of b) d) (Declared d.0)) → FindsVariable b w d es r
   unfolding FindsVariable
-  variable_no_slot d n slot es none NoMore line e = λ h. let k = h.has in let t : is_there (slot_in (source_of b) (block_of (source_of b) d) (Declared d.0)) ≡ is_there None = ap is_there (sym es ∙ none) in absurd (let f : true ≡ false = sym k ∙ t in cc)
-  variable_no_slot d n slot es none (Then x xs) line e = λ h. h
+  cell_of d es none r f = subst (λ z. IsVariable (source_of b) w r (stored_variable (source_of b) d z)) (sym (no_operands es none)) f
 
-  pub variable_outside : (d : DeclNo) (n block : ℕ) → block ≡ block_of (source_of b) d → is_around b.scopes (length b.scopes.blocks) w.text block ≡ false → FindsVariable b w d n left.NotBuilt
-  unfolding FindsVariable source_of
-  variable_outside d n block eb out NoMore line e = λ h. let t : is_around b.scopes (length b.scopes.blocks) w.text block ≡ true = ap (λ z. is_around b.scopes (length b.scopes.blocks) w.text z) eb ∙ h.inside.found in cc
-  variable_outside d n block eb out (Then x xs) line e = λ h. h
+  pub variable_no_slot : (d : DeclNo) (es : List Expr) (slot : Option ℕ) → length es ≡ 0 → slot ≡ slot_in (source_of b) (block_of (source_of b) d) (Declared d.0) → slot ≡ None → FindsVariable b w d es left.NotBuilt
+  variable_no_slot d es slot alone es' none = cell_of d es alone left.NotBuilt (λ h. let k = h.has in let t : is_there (slot_in (source_of b) (block_of (source_of b) d) (Declared d.0)) ≡ is_there None = ap is_there (sym es' ∙ none) in absurd (let f : true ≡ false = sym k ∙ t in cc))
 
-  pub variable_cell : (d : DeclNo) (n block k level : ℕ) (slot : Option ℕ) → n ≡ 0 → slot ≡ slot_in (source_of b) (block_of (source_of b) d) (Declared d.0) → slot ≡ Some k → block ≡ block_of (source_of b) d → is_around b.scopes (length b.scopes.blocks) w.text block ≡ true → level ≡ level_of (source_of b) block → FindsVariable b w d n (left.Cell level k)
-  unfolding FindsVariable source_of
-  variable_cell d n block k level slot none es some eb around el (Then x xs) line e = absurd (let f : suc (operands xs) ≡ 0 = e ∙ none in cc)
-  variable_cell d n block k level slot none es some eb around el NoMore line e =
+  pub variable_outside : (d : DeclNo) (es : List Expr) (block : ℕ) → length es ≡ 0 → block ≡ block_of (source_of b) d → is_around b.scopes (length b.scopes.blocks) w.text block ≡ false → FindsVariable b w d es left.NotBuilt
+  unfolding source_of
+  variable_outside d es block none eb out = cell_of d es none left.NotBuilt (λ h. let t : is_around b.scopes (length b.scopes.blocks) w.text block ≡ true = ap (λ z. is_around b.scopes (length b.scopes.blocks) w.text z) eb ∙ h.inside.found in cc)
+
+  pub variable_cell : (d : DeclNo) (es : List Expr) (block k level : ℕ) (slot : Option ℕ) → length es ≡ 0 → slot ≡ slot_in (source_of b) (block_of (source_of b) d) (Declared d.0) → slot ≡ Some k → block ≡ block_of (source_of b) d → is_around b.scopes (length b.scopes.blocks) w.text block ≡ true → level ≡ level_of (source_of b) block → FindsVariable b w d es (left.Cell level k)
+  unfolding source_of
+  variable_cell d es block k level slot none es' some eb around el =
       let s = source_of b in
-      let here : slot_in s (block_of s d) (Declared d.0) ≡ Some k = sym es ∙ some in
+      let here : slot_in s (block_of s d) (Declared d.0) ≡ Some k = sym es' ∙ some in
       let inside : is_around b.scopes (length b.scopes.blocks) w.text (block_of s d) ≡ true = ap (λ z. is_around b.scopes (length b.scopes.blocks) w.text z) (sym eb) ∙ around in
-      (block_of s d, Declared d.0, refl, record { has = ap is_there here; inside = record { found = inside } }, el ∙ ap (level_of s) eb, slot_found s (block_of s d) (Declared d.0) k here)
+      cell_of d es none (left.Cell level k) (block_of s d, Declared d.0, refl, record { has = ap is_there here; inside = record { found = inside } }, el ∙ ap (level_of s) eb, slot_found s (block_of s d) (Declared d.0) k here)
 
   -- ---- elements and results
 
-  pub element_none : (d : DeclNo) (n : ℕ) → n ≡ 0 → FindsElement b w d n left.NotBuilt
+  pub element_none : (token : TokenNo) (d : DeclNo) (es : List Expr) → length es ≡ 0 → FindsElement b w token d es left.NotBuilt
   unfolding FindsElement
-  element_none d n none NoMore line e = λ h. h
-  element_none d n none (Then x xs) line e = absurd (let f : suc (operands xs) ≡ 0 = e ∙ none in cc)
+  element_none token d es none = not_built _ (sym (ap (λ z. stored_element d z (line_at (source_of b) token.0)) (no_operands es none)))
 
-  pub element_found : (d : DeclNo) (n : ℕ) → n ≢ 0 → FindsElement b w d n (left.Element d)
+  pub element_found : (token : TokenNo) (d : DeclNo) (l : Bor (List Expr)) → length l.now ≢ 0 → FindsElement b w token d l.now (left.Element token d l)
   unfolding FindsElement
-  element_found d n ne NoMore line e = absurd (ne (sym e))
-  element_found d n ne (Then x xs) line e = refl
+  element_found token d l ne = element_of d l.now (line_at (source_of b) token.0) ne
 
-  pub result_subscripts : (k n : ℕ) → n ≢ 0 → FindsResult b w k n left.NotBuilt
+  pub result_subscripts : (k : ℕ) (es : List Expr) → length es ≢ 0 → FindsResult b w k es left.NotBuilt
   unfolding FindsResult
-  result_subscripts k n ne NoMore line e = absurd (ne (sym e))
-  result_subscripts k n ne (Then x xs) line e = λ h. h
+  result_subscripts k es ne = not_built _ (result_alone k es ne)
 
-  pub result_missing : (k n : ℕ) (t : Bool) → t ≡ has_result (text (source_of b) k) → t ≡ false → FindsResult b w k n left.NotBuilt
-  unfolding FindsResult slot_in
-  result_missing k n t et is NoMore line e = λ h. let x = h.has in let u : is_there (place_from 0 Result (cells_in (source_of b) k (text (source_of b) k))) ≡ false = ap is_there (result_none (source_of b) k (text (source_of b) k) (sym et ∙ is)) in cc
-  result_missing k n t et is (Then x xs) line e = λ h. h
+  result_of : (k : ℕ) (es : List Expr) → length es ≡ 0 → (r : Left) → IsVariable (source_of b) w r (InCell k Result) → FindsResult b w k es r
+  unfolding FindsResult
+  result_of k es none r f = subst (λ z. IsVariable (source_of b) w r (stored_result k z)) (sym (no_operands es none)) f
 
-  pub result_outside : (k n : ℕ) → is_around b.scopes (length b.scopes.blocks) w.text k ≡ false → FindsResult b w k n left.NotBuilt
-  unfolding FindsResult source_of
-  result_outside k n out NoMore line e = λ h. let t = h.inside.found in cc
-  result_outside k n out (Then x xs) line e = λ h. h
+  no_cell : (k : ℕ) (t : Bool) → t ≡ has_result (text (source_of b) k) → t ≡ false → is_there (slot_in (source_of b) k Result) ≡ false
+  unfolding slot_in
+  no_cell k t et is = ap is_there (result_none (source_of b) k (text (source_of b) k) (sym et ∙ is))
 
-  pub result_found : (k n level : ℕ) (t : Bool) → n ≡ 0 → t ≡ has_result (text (source_of b) k) → t ≡ true → is_around b.scopes (length b.scopes.blocks) w.text k ≡ true → level ≡ level_of (source_of b) k → FindsResult b w k n (left.Cell level 0)
-  unfolding FindsResult slot_in slot_of source_of
-  result_found k n level t none et is around el (Then x xs) line e = absurd (let f : suc (operands xs) ≡ 0 = e ∙ none in cc)
-  result_found k n level t none et is around el NoMore line e =
+  pub result_missing : (k : ℕ) (es : List Expr) (t : Bool) → length es ≡ 0 → t ≡ has_result (text (source_of b) k) → t ≡ false → FindsResult b w k es left.NotBuilt
+  result_missing k es t none et is = result_of k es none left.NotBuilt (λ h. let x = h.has in let u = no_cell k t et is in cc)
+
+  pub result_outside : (k : ℕ) (es : List Expr) → length es ≡ 0 → is_around b.scopes (length b.scopes.blocks) w.text k ≡ false → FindsResult b w k es left.NotBuilt
+  unfolding source_of
+  result_outside k es none out = result_of k es none left.NotBuilt (λ h. let t = h.inside.found in cc)
+
+  -- the cell of a result that is there
+  pub own_cell : (k level : ℕ) (t : Bool) → t ≡ has_result (text (source_of b) k) → t ≡ true → is_around b.scopes (length b.scopes.blocks) w.text k ≡ true → level ≡ level_of (source_of b) k → KeyBuilt (source_of b) w.text k Result × (level ≡ level_of (source_of b) k) × (0 ≡ slot_of (source_of b) k Result)
+  unfolding slot_in slot_of source_of
+  own_cell k level t et is around el =
       let s = source_of b in
       let r = result_cell s k (text s k) (sym et ∙ is) in
-      (k, Result, refl, record { has = ap is_there r.0; inside = record { found = around } }, el, sym r.1)
+      (record { has = ap is_there r.0; inside = record { found = around } }, el, sym r.1)
+
+  pub result_found : (k level : ℕ) (es : List Expr) (t : Bool) → length es ≡ 0 → t ≡ has_result (text (source_of b) k) → t ≡ true → is_around b.scopes (length b.scopes.blocks) w.text k ≡ true → level ≡ level_of (source_of b) k → FindsResult b w k es (left.Cell level 0)
+  result_found k level es t none et is around el = let r = own_cell k level t et is around el in result_of k es none (left.Cell level 0) (k, Result, refl, r.0, r.1, r.2)
+
+  -- the text in it
+  pub own_missing : (k : ℕ) (t : Bool) → t ≡ has_result (text (source_of b) k) → t ≡ false → FindsOwn b w k left.NotBuilt
+  unfolding FindsOwn
+  own_missing k t et is e line h = let x = h.has in let u = no_cell k t et is in cc
+
+  pub own_outside : (k : ℕ) → is_around b.scopes (length b.scopes.blocks) w.text k ≡ false → FindsOwn b w k left.NotBuilt
+  unfolding FindsOwn source_of
+  own_outside k out e line h = let t = h.inside.found in cc
+
+  pub own_found : (k level : ℕ) (t : Bool) → t ≡ has_result (text (source_of b) k) → t ≡ true → is_around b.scopes (length b.scopes.blocks) w.text k ≡ true → level ≡ level_of (source_of b) k → FindsOwn b w k (left.Result level 0)
+  unfolding FindsOwn
+  own_found k level t et is around el e line = let r = own_cell k level t et is around el in (k, refl, r.0, r.1, r.2)
 
   -- ---- formal parameters
 
-  pub formal_by_name : (d : DeclNo) (m : Mode) (kind : FormalKind) (n : ℕ) → m ≡ mode.ByName → FindsFormal b w d m kind n left.NotBuilt
+  as_formal : (token : TokenNo) (d : DeclNo) (m m' : Mode) (kind kind' : FormalKind) (es : List Expr) (r : Left) → m ≡ m' → kind ≡ kind' → IsVariable (source_of b) w r (stored_formal (source_of b) d (operands_in es) (line_at (source_of b) token.0) m' kind') → FindsFormal b w token d m kind es r
   unfolding FindsFormal
-  formal_by_name d m kind n is es line e = subst (λ z. IsLeft (source_of b) w es line left.NotBuilt (stored_formal (source_of b) d es line z kind)) (sym is) (λ h. h)
+  as_formal token d m m' kind kind' es r em ek f =
+      let s = source_of b in
+      subst (λ z. IsVariable s w r (stored_formal s d (operands_in es) (line_at s token.0) z kind)) (sym em) (subst (λ z. IsVariable s w r (stored_formal s d (operands_in es) (line_at s token.0) m' z)) (sym ek) f)
 
-  as_formal : (d : DeclNo) (m m' : Mode) (kind kind' : FormalKind) (es : Expressions) (line : ℕ) (r : Left) → m ≡ m' → kind ≡ kind' → IsLeft (source_of b) w es line r (stored_formal (source_of b) d es line m' kind') → IsLeft (source_of b) w es line r (stored_formal (source_of b) d es line m kind)
-  as_formal d m m' kind kind' es line r em ek f = subst (λ z. IsLeft (source_of b) w es line r (stored_formal (source_of b) d es line z kind)) (sym em) (subst (λ z. IsLeft (source_of b) w es line r (stored_formal (source_of b) d es line m' z)) (sym ek) f)
+  pub formal_by_name : (token : TokenNo) (d : DeclNo) (m : Mode) (kind : FormalKind) (es : List Expr) → m ≡ mode.ByName → FindsFormal b w token d m kind es left.NotBuilt
+  formal_by_name token d m kind es is = as_formal token d m mode.ByName kind kind es left.NotBuilt is refl (λ h. h)
 
-  pub value_simple : (d : DeclNo) (m : Mode) (kind : FormalKind) (n : ℕ) (r : Left) → m ≡ mode.ByValue → kind ≡ shape.Simple → FindsVariable b w d n r → FindsFormal b w d m kind n r
-  unfolding FindsFormal FindsVariable
-  value_simple d m kind n r em ek f es line e = as_formal d m mode.ByValue kind shape.Simple es line r em ek (f es line e)
+  pub value_simple : (token : TokenNo) (d : DeclNo) (m : Mode) (kind : FormalKind) (es : List Expr) (r : Left) → m ≡ mode.ByValue → kind ≡ shape.Simple → FindsVariable b w d es r → FindsFormal b w token d m kind es r
+  unfolding FindsVariable
+  value_simple token d m kind es r em ek f = as_formal token d m mode.ByValue kind shape.Simple es r em ek f
 
-  pub value_array : (d : DeclNo) (m : Mode) (kind : FormalKind) (n : ℕ) (r : Left) → m ≡ mode.ByValue → kind ≡ shape.Array → FindsElement b w d n r → FindsFormal b w d m kind n r
-  unfolding FindsFormal FindsElement
-  value_array d m kind n r em ek f es line e = as_formal d m mode.ByValue kind shape.Array es line r em ek (f es line e)
+  pub value_array : (token : TokenNo) (d : DeclNo) (m : Mode) (kind : FormalKind) (es : List Expr) (r : Left) → m ≡ mode.ByValue → kind ≡ shape.Array → FindsElement b w token d es r → FindsFormal b w token d m kind es r
+  unfolding FindsElement
+  value_array token d m kind es r em ek f = as_formal token d m mode.ByValue kind shape.Array es r em ek f
 
-  pub value_procedure : (d : DeclNo) (m : Mode) (kind : FormalKind) (n : ℕ) → m ≡ mode.ByValue → kind ≡ shape.Procedure → FindsFormal b w d m kind n left.NotBuilt
-  unfolding FindsFormal
-  value_procedure d m kind n em ek es line e = as_formal d m mode.ByValue kind shape.Procedure es line left.NotBuilt em ek (λ h. h)
+  pub value_procedure : (token : TokenNo) (d : DeclNo) (m : Mode) (kind : FormalKind) (es : List Expr) → m ≡ mode.ByValue → kind ≡ shape.Procedure → FindsFormal b w token d m kind es left.NotBuilt
+  value_procedure token d m kind es em ek = as_formal token d m mode.ByValue kind shape.Procedure es left.NotBuilt em ek (λ h. h)
 
-  pub reference_simple : (d : DeclNo) (m : Mode) (kind : FormalKind) (n : ℕ) (r : Left) → m ≡ mode.ByReference → kind ≡ shape.Simple → FindsVariable b w d n r → FindsFormal b w d m kind n r
-  unfolding FindsFormal FindsVariable
-  reference_simple d m kind n r em ek f es line e = as_formal d m mode.ByReference kind shape.Simple es line r em ek (f es line e)
+  pub reference_simple : (token : TokenNo) (d : DeclNo) (m : Mode) (kind : FormalKind) (es : List Expr) (r : Left) → m ≡ mode.ByReference → kind ≡ shape.Simple → FindsVariable b w d es r → FindsFormal b w token d m kind es r
+  unfolding FindsVariable
+  reference_simple token d m kind es r em ek f = as_formal token d m mode.ByReference kind shape.Simple es r em ek f
 
-  pub reference_array : (d : DeclNo) (m : Mode) (kind : FormalKind) (n : ℕ) (r : Left) → m ≡ mode.ByReference → kind ≡ shape.Array → FindsElement b w d n r → FindsFormal b w d m kind n r
-  unfolding FindsFormal FindsElement
-  reference_array d m kind n r em ek f es line e = as_formal d m mode.ByReference kind shape.Array es line r em ek (f es line e)
+  pub reference_array : (token : TokenNo) (d : DeclNo) (m : Mode) (kind : FormalKind) (es : List Expr) (r : Left) → m ≡ mode.ByReference → kind ≡ shape.Array → FindsElement b w token d es r → FindsFormal b w token d m kind es r
+  unfolding FindsElement
+  reference_array token d m kind es r em ek f = as_formal token d m mode.ByReference kind shape.Array es r em ek f
 
-  pub reference_procedure : (d : DeclNo) (m : Mode) (kind : FormalKind) (n : ℕ) → m ≡ mode.ByReference → kind ≡ shape.Procedure → FindsFormal b w d m kind n left.NotBuilt
-  unfolding FindsFormal
-  reference_procedure d m kind n em ek es line e = as_formal d m mode.ByReference kind shape.Procedure es line left.NotBuilt em ek (λ h. h)
+  pub reference_procedure : (token : TokenNo) (d : DeclNo) (m : Mode) (kind : FormalKind) (es : List Expr) → m ≡ mode.ByReference → kind ≡ shape.Procedure → FindsFormal b w token d m kind es left.NotBuilt
+  reference_procedure token d m kind es em ek = as_formal token d m mode.ByReference kind shape.Procedure es left.NotBuilt em ek (λ h. h)
 
   -- ---- declarations
 
-  as_declared : (d : DeclNo) (o o' : Option Entry) (es : Expressions) (line : ℕ) (r : Left) → o ≡ entry_of (source_of b).tables d → o ≡ o' → IsLeft (source_of b) w es line r (stored_declared (source_of b) d es line o') → IsLeft (source_of b) w es line r (stored_declared (source_of b) d es line (entry_of (source_of b).tables d))
-  as_declared d o o' es line r eo is f = subst (λ z. IsLeft (source_of b) w es line r (stored_declared (source_of b) d es line z)) (sym is ∙ eo) f
-
-  pub declared_variable : (d : DeclNo) (o : Option Entry) (t : SimType) (n : ℕ) (r : Left) → o ≡ entry_of b.scopes d → o ≡ Some (entry.Variable t) → FindsVariable b w d n r → FindsDeclared b w d n r
-  unfolding FindsDeclared FindsVariable source_of
-  declared_variable d o t n r eo is f es line e = as_declared d o _ es line r eo is (f es line e)
-
-  pub declared_array : (d : DeclNo) (o : Option Entry) (t : SimType) (m n : ℕ) (r : Left) → o ≡ entry_of b.scopes d → o ≡ Some (entry.Array t m) → FindsElement b w d n r → FindsDeclared b w d n r
-  unfolding FindsDeclared FindsElement source_of
-  declared_array d o t m n r eo is f es line e = as_declared d o _ es line r eo is (f es line e)
-
-  pub declared_formal : (d : DeclNo) (o : Option Entry) (x : Formal) (n : ℕ) (r : Left) → o ≡ entry_of b.scopes d → o ≡ Some (entry.Formal x) → FindsFormal b w d x.mode x.kind n r → FindsDeclared b w d n r
-  unfolding FindsDeclared FindsFormal source_of
-  declared_formal d o x n r eo is f es line e = as_declared d o _ es line r eo is (f es line e)
-
-  pub declared_result : (d : DeclNo) (o : Option Entry) (t : Option SimType) (k n : ℕ) (r : Left) → o ≡ entry_of b.scopes d → o ≡ Some (entry.Procedure t k) → FindsResult b w k n r → FindsDeclared b w d n r
-  unfolding FindsDeclared FindsResult source_of
-  declared_result d o t k n r eo is f es line e = as_declared d o _ es line r eo is (f es line e)
-
-  pub declared_constant : (d : DeclNo) (o : Option Entry) (t : SimType) (n : ℕ) → o ≡ entry_of b.scopes d → o ≡ Some (entry.Constant t) → FindsDeclared b w d n left.NotBuilt
+  as_declared : (token : TokenNo) (d : DeclNo) (o o' : Option Entry) (es : List Expr) (r : Left) → o ≡ entry_of b.scopes d → o ≡ o' → IsVariable (source_of b) w r (stored_declared (source_of b) d (operands_in es) (line_at (source_of b) token.0) o') → FindsDeclared b w token d es r
   unfolding FindsDeclared source_of
-  declared_constant d o t n eo is es line e = as_declared d o _ es line left.NotBuilt eo is (λ h. h)
+  as_declared token d o o' es r eo is f = subst (λ z. IsVariable (source_of b) w r (stored_declared (source_of b) d (operands_in es) (line_at (source_of b) token.0) z)) (sym is ∙ eo) f
 
-  pub declared_class : (d : DeclNo) (o : Option Entry) (k n : ℕ) → o ≡ entry_of b.scopes d → o ≡ Some (entry.Class k) → FindsDeclared b w d n left.NotBuilt
-  unfolding FindsDeclared source_of
-  declared_class d o k n eo is es line e = as_declared d o _ es line left.NotBuilt eo is (λ h. h)
+  pub declared_variable : (token : TokenNo) (d : DeclNo) (o : Option Entry) (t : SimType) (es : List Expr) (r : Left) → o ≡ entry_of b.scopes d → o ≡ Some (entry.Variable t) → FindsVariable b w d es r → FindsDeclared b w token d es r
+  unfolding FindsVariable
+  declared_variable token d o t es r eo is f = as_declared token d o _ es r eo is f
 
-  pub declared_virtual : (d : DeclNo) (o : Option Entry) (t : Option SimType) (own : Option DeclNo) (n : ℕ) → o ≡ entry_of b.scopes d → o ≡ Some (entry.Virtual t own) → FindsDeclared b w d n left.NotBuilt
-  unfolding FindsDeclared source_of
-  declared_virtual d o t own n eo is es line e = as_declared d o _ es line left.NotBuilt eo is (λ h. h)
+  pub declared_array : (token : TokenNo) (d : DeclNo) (o : Option Entry) (t : SimType) (m : ℕ) (es : List Expr) (r : Left) → o ≡ entry_of b.scopes d → o ≡ Some (entry.Array t m) → FindsElement b w token d es r → FindsDeclared b w token d es r
+  unfolding FindsElement
+  declared_array token d o t m es r eo is f = as_declared token d o _ es r eo is f
 
-  pub declared_unspecified : (d : DeclNo) (o : Option Entry) (m : Option WrittenMode) (n : ℕ) → o ≡ entry_of b.scopes d → o ≡ Some (entry.Unspecified m) → FindsDeclared b w d n left.NotBuilt
-  unfolding FindsDeclared source_of
-  declared_unspecified d o m n eo is es line e = as_declared d o _ es line left.NotBuilt eo is (λ h. h)
+  pub declared_formal : (token : TokenNo) (d : DeclNo) (o : Option Entry) (x : Formal) (es : List Expr) (r : Left) → o ≡ entry_of b.scopes d → o ≡ Some (entry.Formal x) → FindsFormal b w token d x.mode x.kind es r → FindsDeclared b w token d es r
+  unfolding FindsFormal
+  declared_formal token d o x es r eo is f = as_declared token d o _ es r eo is f
 
-  pub declared_nowhere : (d : DeclNo) (o : Option Entry) (n : ℕ) → o ≡ entry_of b.scopes d → o ≡ None → FindsDeclared b w d n left.NotBuilt
-  unfolding FindsDeclared source_of
-  declared_nowhere d o n eo is es line e = as_declared d o _ es line left.NotBuilt eo is (λ h. h)
+  pub declared_result : (token : TokenNo) (d : DeclNo) (o : Option Entry) (t : Option SimType) (k : ℕ) (es : List Expr) (r : Left) → o ≡ entry_of b.scopes d → o ≡ Some (entry.Procedure t k) → FindsResult b w k es r → FindsDeclared b w token d es r
+  unfolding FindsResult
+  declared_result token d o t k es r eo is f = as_declared token d o _ es r eo is f
+
+  pub declared_constant : (token : TokenNo) (d : DeclNo) (o : Option Entry) (t : SimType) (es : List Expr) → o ≡ entry_of b.scopes d → o ≡ Some (entry.Constant t) → FindsDeclared b w token d es left.NotBuilt
+  declared_constant token d o t es eo is = as_declared token d o _ es left.NotBuilt eo is (λ h. h)
+
+  pub declared_class : (token : TokenNo) (d : DeclNo) (o : Option Entry) (k : ℕ) (es : List Expr) → o ≡ entry_of b.scopes d → o ≡ Some (entry.Class k) → FindsDeclared b w token d es left.NotBuilt
+  declared_class token d o k es eo is = as_declared token d o _ es left.NotBuilt eo is (λ h. h)
+
+  pub declared_virtual : (token : TokenNo) (d : DeclNo) (o : Option Entry) (t : Option SimType) (own : Option DeclNo) (es : List Expr) → o ≡ entry_of b.scopes d → o ≡ Some (entry.Virtual t own) → FindsDeclared b w token d es left.NotBuilt
+  declared_virtual token d o t own es eo is = as_declared token d o _ es left.NotBuilt eo is (λ h. h)
+
+  pub declared_unspecified : (token : TokenNo) (d : DeclNo) (o : Option Entry) (m : Option WrittenMode) (es : List Expr) → o ≡ entry_of b.scopes d → o ≡ Some (entry.Unspecified m) → FindsDeclared b w token d es left.NotBuilt
+  declared_unspecified token d o m es eo is = as_declared token d o _ es left.NotBuilt eo is (λ h. h)
+
+  pub declared_nowhere : (token : TokenNo) (d : DeclNo) (o : Option Entry) (es : List Expr) → o ≡ entry_of b.scopes d → o ≡ None → FindsDeclared b w token d es left.NotBuilt
+  declared_nowhere token d o es eo is = as_declared token d o _ es left.NotBuilt eo is (λ h. h)
 
   -- ---- identifiers
 
-  not_text : (t : TokenNo) (texts : Bool) (name : Identifier) → texts ≡ is_text_type (type_at (source_of b) t.0) → name.token ≡ t → is_text_type (type_at (source_of b) name.token.0) ≡ texts
-  not_text t texts name et en = ap (λ (z : TokenNo). is_text_type (type_at (source_of b) z.0)) en ∙ sym et
+  as_named : (token : TokenNo) (o o' : Option Denotation) (es : List Expr) (r : Left) → o ≡ denoted (source_of b) token.0 → o ≡ o' → IsVariable (source_of b) w r (stored_named (source_of b) o' (operands_in es) (line_at (source_of b) token.0)) → FindsLeft b w token es r
+  unfolding FindsLeft
+  as_named token o o' es r eo is f = subst (λ z. IsVariable (source_of b) w r (stored_named (source_of b) z (operands_in es) (line_at (source_of b) token.0))) (sym is ∙ eo) f
 
-  pub left_text : (t : TokenNo) (n : ℕ) (texts : Bool) → texts ≡ is_text_type (type_at (source_of b) t.0) → texts ≡ true → FindsLeft b w t n left.NotBuilt
-  unfolding FindsLeft is_text
-  left_text t n texts et is name es en e = subst (λ z. IsLeft (source_of b) w es (line_at (source_of b) t.0) left.NotBuilt (stored_of z (source_of b) (Named name es))) (sym (not_text t texts name et en ∙ is)) (λ h. h)
+  pub left_declared : (token : TokenNo) (o : Option Denotation) (d : DeclNo) (es : List Expr) (r : Left) → o ≡ denoted (source_of b) token.0 → o ≡ Some (denotation.Declared d) → FindsDeclared b w token d es r → FindsLeft b w token es r
+  unfolding FindsDeclared
+  left_declared token o d es r eo some f = as_named token o _ es r eo some f
 
-  pub left_declared : (t : TokenNo) (n : ℕ) (texts : Bool) (o : Option Denotation) (d : DeclNo) (r : Left) → texts ≡ is_text_type (type_at (source_of b) t.0) → texts ≡ false → o ≡ denoted (source_of b) t.0 → o ≡ Some (denotation.Declared d) → FindsDeclared b w d n r → FindsLeft b w t n r
-  unfolding FindsLeft FindsDeclared is_text
-  left_declared t n texts o d r et is eo some f name es en e =
-      let s = source_of b in
-      let oe : denoted s name.token.0 ≡ Some (denotation.Declared d) = ap (λ (z : TokenNo). denoted s z.0) en ∙ sym eo ∙ some in
-      let le : line_at s name.token.0 ≡ line_at s t.0 = ap (λ (z : TokenNo). line_at s z.0) en in
-      subst (λ z. IsLeft s w es (line_at s t.0) r (stored_of z s (Named name es))) (sym (not_text t texts name et en ∙ is))
-      (subst (λ z. IsLeft s w es (line_at s t.0) r (stored_named s z es (line_at s name.token.0))) (sym oe)
-      (subst (λ z. IsLeft s w es z r (stored_declared s d es (line_at s name.token.0) (entry_of s.tables d))) le (f es (line_at s name.token.0) e)))
+  pub left_standard : (token : TokenNo) (o : Option Denotation) (k : Standard) (es : List Expr) → o ≡ denoted (source_of b) token.0 → o ≡ Some (denotation.Standard k) → FindsLeft b w token es left.NotBuilt
+  left_standard token o k es eo some = as_named token o _ es left.NotBuilt eo some (λ h. h)
 
-  pub left_standard : (t : TokenNo) (n : ℕ) (texts : Bool) (o : Option Denotation) (k : Standard) → texts ≡ is_text_type (type_at (source_of b) t.0) → texts ≡ false → o ≡ denoted (source_of b) t.0 → o ≡ Some (denotation.Standard k) → FindsLeft b w t n left.NotBuilt
-  unfolding FindsLeft is_text
-  left_standard t n texts o k et is eo some name es en e =
-      let s = source_of b in
-      let oe : denoted s name.token.0 ≡ Some (denotation.Standard k) = ap (λ (z : TokenNo). denoted s z.0) en ∙ sym eo ∙ some in
-      subst (λ z. IsLeft s w es (line_at s t.0) left.NotBuilt (stored_of z s (Named name es))) (sym (not_text t texts name et en ∙ is))
-      (subst (λ z. IsLeft s w es (line_at s t.0) left.NotBuilt (stored_named s z es (line_at s name.token.0))) (sym oe) (λ h. h))
+  pub left_nothing : (token : TokenNo) (o : Option Denotation) (es : List Expr) → o ≡ denoted (source_of b) token.0 → o ≡ None → FindsLeft b w token es left.NotBuilt
+  left_nothing token o es eo none = as_named token o _ es left.NotBuilt eo none (λ h. h)
 
-  pub left_nothing : (t : TokenNo) (n : ℕ) (texts : Bool) (o : Option Denotation) → texts ≡ is_text_type (type_at (source_of b) t.0) → texts ≡ false → o ≡ denoted (source_of b) t.0 → o ≡ None → FindsLeft b w t n left.NotBuilt
-  unfolding FindsLeft is_text
-  left_nothing t n texts o et is eo none name es en e =
-      let s = source_of b in
-      let oe : denoted s name.token.0 ≡ None = ap (λ (z : TokenNo). denoted s z.0) en ∙ sym eo ∙ none in
-      subst (λ z. IsLeft s w es (line_at s t.0) left.NotBuilt (stored_of z s (Named name es))) (sym (not_text t texts name et en ∙ is))
-      (subst (λ z. IsLeft s w es (line_at s t.0) left.NotBuilt (stored_named s z es (line_at s name.token.0))) (sym oe) (λ h. h))
-
-pub ruleset lefts = (variable_subscripts, variable_no_slot, variable_outside, variable_cell, element_none, element_found, result_subscripts, result_missing, result_outside, result_found, formal_by_name, value_simple, value_array, value_procedure, reference_simple, reference_array, reference_procedure, declared_variable, declared_array, declared_formal, declared_result, declared_constant, declared_class, declared_virtual, declared_unspecified, declared_nowhere, left_text, left_declared, left_standard, left_nothing)
+pub ruleset lefts = (variable_subscripts, variable_no_slot, variable_outside, variable_cell, element_none, element_found, result_subscripts, result_missing, result_outside, result_found, formal_by_name, value_simple, value_array, value_procedure, reference_simple, reference_array, reference_procedure, declared_variable, declared_array, declared_formal, declared_result, declared_constant, declared_class, declared_virtual, declared_unspecified, declared_nowhere, left_declared, left_standard, left_nothing)

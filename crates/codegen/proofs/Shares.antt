@@ -1,34 +1,20 @@
 -- A statement that several elements share.
-use Rattle.std.proofs.Common.{◌≡◌, ◌≢◌, ◌<◌, ◌≤◌, ◌+◌, ◌*◌, ◌-◌, ℕ, zero, suc, pos, Bool, true, false, List, [], ◌∷◌, length, map, drop, Option, Some, None, refl, sym, ap, ◌∙◌, subst, arith}
+use Rattle.std.proofs.Common.{◌≡◌, ◌<◌, ◌≤◌, ◌+◌, ◌*◌, ◌-◌, ℕ, suc, pos, List, [], ◌∷◌, length, drop, Some, refl, sym, ap, ◌∙◌, subst, arith}
 use Rattle.std.specs.Prelude.{⊤, slice_get}
 use Rattle.sim_scope.specs.declared.bound.Bound.{Bound}
-use Rattle.sim_scope.specs.Source.{Source, level_of, source_of}
-use Rattle.sim_tree.specs.declared.stmt.ForElement.{ForElement}
-use Rattle.sim_tree.specs.declared.stmt.Stmt.{Stmt}
-use Rattle.sim_tree.specs.SyntaxOfProgram.{element_syntax, statement_syntax}
+use Rattle.sim_scope.specs.Source.{level_of, source_of}
+use Rattle.sim_tree.specs.Syntax.{Element}
 use Rattle.sim_code.specs.declared.instr.Instr.{Instr}
 use Rattle.sim_code.specs.declared.instr.Instr.TheVariants as i
 use Rattle.sim_code.specs.Code.{CodeOf}
 use Rattle.codegen_expr.specs.declared.spot.Spot.{Spot}
-use Rattle.codegen_expr.specs.Drafts.{DraftOf, Emits, filled_in, with_hole, with_instr, with_push}
-use Rattle.codegen_expr.specs.Sites.{Ahead, At, Is, Pushes, Site, lined}
+use Rattle.codegen_expr.specs.Drafts.{DraftOf, Emits, with_hole, with_instr, with_push}
+use Rattle.codegen_expr.specs.Sites.{Ahead, At, Pushes, Site, lined}
 use Rattle.codegen_expr.proofs.Pieces.{emits_as, emits_at, emits_push, emits_then, get_front}
 use Rattle.codegen.specs.CodeFor.{ReturnAt, ReturnsAt}
-use Rattle.codegen.specs.EmitShared.{JumpsTo, OpenAt, OwesReturns, PutsReturn, SentAt, WritesReturns, WritesSent, hole_before, holes_from}
-use Rattle.codegen.proofs.Holes.{emits_here, emits_hole, hole_there, longer, longer_hole, longer_push, longer_put, open_low}
-
-pub two_left : (xs : List ForElement) (k : ℕ) → k < length xs - 1 → (x : ForElement) × (y : ForElement) × (r : List ForElement) × (drop (suc k) xs ≡ y ∷ r) × (drop k xs ≡ x ∷ y ∷ r)
-two_left [] k le = absurd (omega (arith, le))
-two_left (x ∷ []) k le = absurd (omega (arith, le))
-two_left (x ∷ y ∷ xs) zero le = (x, y, xs, refl, refl)
-two_left (x ∷ y ∷ xs) (suc k) le = two_left (y ∷ xs) k (omega (arith, le))
-
-pub one_left : (xs : List ForElement) (k : ℕ) → length xs ≡ suc k → (x : ForElement) × (drop k xs ≡ x ∷ [])
-one_left [] k e = absurd (omega (arith, e))
-one_left (x ∷ []) zero e = (x, refl)
-one_left (x ∷ []) (suc k) e = absurd (omega (arith, e))
-one_left (x ∷ y ∷ xs) zero e = absurd (omega (arith, e))
-one_left (x ∷ y ∷ xs) (suc k) e = one_left (y ∷ xs) k (omega (arith, e))
+use Rattle.codegen.specs.EmitShared.{JumpsTo, OpenAt, OwesReturns, PutsReturn, WritesReturns, WritesSent, holes_from}
+use Rattle.codegen.proofs.Views.{one_left, two_left}
+use Rattle.codegen.proofs.Holes.{emits_here, emits_hole, hole_there, longer_hole, longer_push, longer_put, open_low}
 
 module _ (b : Bound) (w : Spot) where
   pub write_sent : (c0 c1 c2 c3 : DraftOf) (start number level : ℕ) (x y z : Instr) → x ≡ i.Int (pos number) → c1 ≡ with_push c0 0 x 0 → level ≡ level_of (source_of b) w.text → y ≡ i.Store (pos level) (pos w.used) → c2 ≡ with_instr c1 y 0 → z ≡ i.Jump (pos start) → c3 ≡ with_instr c2 z 0 → WritesSent b w c0 c3 start number
@@ -97,11 +83,11 @@ module _ (b : Bound) (w : Spot) where
             (emits_hole w c4 c5 e5)))))),
       )
 
-  pub returns_all : (a : DraftOf) (xs : List ForElement) → OwesReturns b w a xs a 0 xs
+  pub returns_all : (a : DraftOf) (xs : List Element) → OwesReturns b w a xs a 0 xs
   unfolding OwesReturns
   returns_all a xs end f = f
 
-  pub returns_next : (a c d : DraftOf) (xs r r' : List ForElement) (x y : ForElement) (k : ℕ) → OwesReturns b w a xs c k r → r ≡ x ∷ y ∷ r' → PutsReturn b w c d k → OwesReturns b w a xs d (k + 1) (y ∷ r')
+  pub returns_next : (a c d : DraftOf) (xs r r' : List Element) (x y : Element) (k : ℕ) → OwesReturns b w a xs c k r → r ≡ x ∷ y ∷ r' → PutsReturn b w c d k → OwesReturns b w a xs d (k + 1) (y ∷ r')
   unfolding OwesReturns WritesReturns PutsReturn
   returns_next a c d xs r r' x y k f is one end rest =
       let next : k + 1 ≡ suc k = omega arith in
@@ -121,7 +107,7 @@ module _ (b : Bound) (w : Spot) where
       turn final site h hs k p q eh both (r ∷ []) j = absurd (both.2 [] j.2)
       turn final site h hs k p q eh both (r ∷ r2 ∷ rs) j = (both.0, both.1 r (subst (λ m. slice_get final.instrs m ≡ Some (lined (i.Jump (pos r)) 0)) eh j.0) (subst (λ m. Ahead final m r) eh j.1), both.2 (r2 ∷ rs) j.2)
 
-  pub returns_last : (a c d : DraftOf) (xs r : List ForElement) (x : ForElement) (k : ℕ) → OwesReturns b w a xs c k r → r ≡ x ∷ [] → d ≡ with_hole c → WritesReturns b w a d xs (length a.instrs) 0
+  pub returns_last : (a c d : DraftOf) (xs r : List Element) (x : Element) (k : ℕ) → OwesReturns b w a xs c k r → r ≡ x ∷ [] → d ≡ with_hole c → WritesReturns b w a d xs (length a.instrs) 0
   unfolding OwesReturns WritesReturns
   returns_last a c d xs r x k f is e =
       f d (subst (λ l. WritesReturns b w c d l (length a.instrs) k) (sym is) (λ at. (
@@ -135,12 +121,12 @@ module _ (b : Bound) (w : Spot) where
       last final site h k p q eh eq (r ∷ r2 ∷ rs) j = absurd j.2
 
   -- by number
-  pub returns_on : (a c d : DraftOf) (xs : List ForElement) (k : ℕ) → OwesReturns b w a xs c k (drop k xs) → k < length xs - 1 → PutsReturn b w c d k → OwesReturns b w a xs d (k + 1) (drop (k + 1) xs)
+  pub returns_on : (a c d : DraftOf) (xs : List Element) (k : ℕ) → OwesReturns b w a xs c k (drop k xs) → k < length xs - 1 → PutsReturn b w c d k → OwesReturns b w a xs d (k + 1) (drop (k + 1) xs)
   returns_on a c d xs k f le one =
       let two = two_left xs k le in
       subst (λ l. OwesReturns b w a xs d (k + 1) l) (sym (ap (λ n. drop n xs) (let next : k + 1 ≡ suc k = omega arith in next) ∙ two.3)) (returns_next a c d xs (drop k xs) two.2 two.0 two.1 k f two.4 one)
 
-  pub returns_end : (a c d : DraftOf) (xs : List ForElement) (k : ℕ) → OwesReturns b w a xs c k (drop k xs) → 0 < length xs → length xs - 1 ≤ k → k ≤ length xs - 1 → d ≡ with_hole c → WritesReturns b w a d xs (length a.instrs) 0
+  pub returns_end : (a c d : DraftOf) (xs : List Element) (k : ℕ) → OwesReturns b w a xs c k (drop k xs) → 0 < length xs → length xs - 1 ≤ k → k ≤ length xs - 1 → d ≡ with_hole c → WritesReturns b w a d xs (length a.instrs) 0
   returns_end a c d xs k f some le most e =
       let one = one_left xs k (omega (arith, some, le, most)) in
       returns_last a c d xs (drop k xs) one.0 k f one.1 e

@@ -1,27 +1,21 @@
 -- Several left sides.
-use Rattle.std.proofs.Common.{◌≡◌, ◌≢◌, ◌<◌, ◌≤◌, ◌+◌, ◌-◌, ℕ, zero, pos, suc, Bool, true, false, List, [], ◌∷◌, ◌++◌, length, map, reverse, drop, Option, Some, None, Bor, refl, sym, ap, ◌∙◌, subst, arith}
+use Rattle.std.proofs.Common.{◌≡◌, ◌≢◌, ◌<◌, ◌≤◌, ◌+◌, ◌-◌, ℕ, zero, pos, suc, true, List, [], ◌∷◌, ◌++◌, length, map, reverse, drop, Some, Bor, refl, sym, ap, ◌∙◌, subst, arith}
 use Rattle.std.specs.Prelude.{⊤, slice_get, slice_index_or}
-use Rattle.std.specs.Option.{option_copied}
-use Rattle.std.specs.declared.alloc.Global.{Global}
-use Rattle.std.specs.declared.vec.Vec.{Vec}
 use Rattle.std.proofs.lemmas.List.{reverse-append}
 use Rattle.sim_base.specs.declared.numbering.DeclNo.{DeclNo}
+use Rattle.sim_base.specs.declared.numbering.TokenNo.{TokenNo}
 use Rattle.sim_scope.specs.declared.bound.Bound.{Bound}
+use Rattle.sim_scope.specs.Assignments.{last_value, left_sides}
 use Rattle.sim_scope.specs.Source.{Source, level_of, line_at, source_of}
 use Rattle.sim_tree.specs.declared.expr.Expr.{Expr}
-use Rattle.sim_tree.specs.declared.expr.Expr.TheVariants as e
-use Rattle.sim_tree.specs.declared.expr.Identifier.{Identifier}
 use Rattle.sim_tree.specs.declared.stmt.Assigned.{Assigned}
-use Rattle.sim_tree.specs.declared.stmt.Assignment.{Assignment}
-use Rattle.sim_tree.specs.declared.stmt.Assignment.TheVariants as assignment
-use Rattle.sim_tree.specs.Syntax.{Expressions, expressions}
+use Rattle.sim_tree.specs.Syntax.{Expression, Expressions}
 use Rattle.sim_tree.specs.SyntaxOf.{syntax_of}
 use Rattle.sim_tree.specs.SyntaxOfProgram.{right_side_syntax}
 use Rattle.sim_code.specs.declared.instr.Instr.{Instr}
 use Rattle.sim_code.specs.declared.instr.Instr.TheVariants as i
 use Rattle.sim_code.specs.Code.{CodeOf}
-use Rattle.sim_meaning.specs.Closing.{is_text}
-use Rattle.sim_meaning.specs.Statements.{are_values, left_sides, right_side}
+use Rattle.sim_meaning.specs.Pending.{Result}
 use Rattle.codegen_expr.specs.declared.spot.Spot.{Spot}
 use Rattle.codegen_expr.specs.Built.{IsBuilt, KeyBuilt, StandsIn}
 use Rattle.codegen_expr.specs.CodeExpr.{ExprAt}
@@ -33,12 +27,12 @@ use Rattle.codegen_expr.proofs.Pieces.{emits_as, emits_at, emits_none, emits_not
 use Rattle.codegen.specs.declared.left.Left.{Left}
 use Rattle.codegen.specs.declared.left.Left.TheVariants as left
 use Rattle.codegen.specs.BuiltProgram.{AssignBuilt, LeftBuilt, LeftsBuilt}
-use Rattle.codegen.specs.CodeLeft.{AssignAt, AtAddress, GivesAt, GoesAt, InCell, LeftsAt, NotBuilt, StoreAt, Stored, below, each_stored, stored}
+use Rattle.codegen.specs.declared.several.Side.{Side}
+use Rattle.codegen.specs.CodeLeft.{AssignAt, AtAddress, GivesAt, GoesAt, InCell, LeftsAt, NotBuilt, StoreAt, Stored, ToResult, ToText, below, each_stored, stored}
 use Rattle.codegen.specs.Emit.{WritesAssignment}
-use Rattle.codegen.specs.EmitLeft.{FindsIdentifier, FindsLeft, IdentifierIn}
-use Rattle.codegen.specs.EmitSeveral.{EndsOn, GiveAt, HasGiven, OwesAddresses, WritesAddress, WritesAddressNamed, WritesAddresses, WritesGive, WritesGiveNamed, WritesGives, after, sides, stored_all}
+use Rattle.codegen.specs.EmitLeft.{FindsSide, IsLeft, operands_in}
+use Rattle.codegen.specs.EmitSeveral.{EndsOn, GiveAt, HasGiven, OwesAddresses, SideOf, WritesAddress, WritesAddresses, WritesGive, WritesGives, after, side_in, sides, stored_all, stored_side}
 use Rattle.codegen.proofs.Cells.{cell_there}
-use Rattle.codegen.proofs.Statements.{left_is, named_in, no_store}
 
 -- ---- the left sides
 
@@ -46,23 +40,30 @@ pub sides_length : (x : Expr) (rs : List Assigned) → length (sides x rs) ≡ l
 sides_length x [] = refl
 sides_length x (r ∷ rs) = ap suc (sides_length r.value rs)
 
+abbrev side_with : Assigned → Expr → SideOf
+side_with r x = record { sign = r.sign; token = r.token.0; left = x }
+
 sides_stored : (s : Source) (x : Expr) (rs : List Assigned) → each_stored s (left_sides (syntax_of x) (map right_side_syntax rs)) ≡ stored_all s (sides x rs)
 sides_stored s x [] = refl
-sides_stored s x (r ∷ rs) = ap (λ z. stored s (syntax_of x) ∷ z) (sides_stored s r.value rs)
+sides_stored s x (r ∷ rs) = ap (λ z. stored s r.sign (line_at s r.token.0) (syntax_of x) ∷ z) (sides_stored s r.value rs)
 
-pub side_first : (x : Expr) (rs : List Assigned) (k : ℕ) → k < length rs → k ≡ 0 → slice_get (sides x rs) k ≡ Some x
-side_first x [] k le z = absurd (omega (arith, le))
-side_first x (r ∷ rs) k le z = ap (slice_get (sides x (r ∷ rs))) z
+first_side : (x : Expr) (rs : List Assigned) (y : Assigned) → 0 < length rs → y ≡ slice_index_or rs 0 y → slice_get (sides x rs) 0 ≡ Some (side_with y x)
+first_side x [] y le is = absurd (omega (arith, le))
+first_side x (r ∷ rs) y le is = ap (λ z. Some (side_with z x)) (sym is)
 
-later_side : (x : Expr) (rs : List Assigned) (k : ℕ) (y : Assigned) → suc k < length rs → y ≡ slice_index_or rs k y → slice_get (sides x rs) (suc k) ≡ Some y.value
-later_side x [] k y le is = absurd (omega (arith, le))
-later_side x (r ∷ []) k y le is = absurd (omega (arith, le))
-later_side x (r ∷ q ∷ rs) zero y le is = ap (λ z. Some z.value) (sym is)
-later_side x (r ∷ q ∷ rs) (suc k) y le is = later_side r.value (q ∷ rs) k y (omega (arith, le)) is
+pub side_first : (x : Expr) (rs : List Assigned) (k : ℕ) (y : Assigned) → k < length rs → k ≡ 0 → y ≡ slice_index_or rs k y → slice_get (sides x rs) k ≡ Some (record { sign = y.sign; token = y.token.0; left = x })
+side_first x rs zero y le z is = first_side x rs y le is
+side_first x rs (suc k) y le z is = absurd (cc)
 
-pub side_later : (x : Expr) (rs : List Assigned) (k m : ℕ) (y : Assigned) → k < length rs → k ≢ 0 → m ≡ k - 1 → y ≡ slice_index_or rs m y → slice_get (sides x rs) k ≡ Some y.value
-side_later x rs zero m y le ne em is = absurd (ne refl)
-side_later x rs (suc k) m y le ne em is = later_side x rs k y le (subst (λ z. y ≡ slice_index_or rs z y) (let e : m ≡ k = omega (arith, em) in e) is)
+later_side : (x : Expr) (rs : List Assigned) (k : ℕ) (y z : Assigned) → suc k < length rs → y ≡ slice_index_or rs (suc k) y → z ≡ slice_index_or rs k z → slice_get (sides x rs) (suc k) ≡ Some (side_with y z.value)
+later_side x [] k y z le is iz = absurd (omega (arith, le))
+later_side x (r ∷ []) k y z le is iz = absurd (omega (arith, le))
+later_side x (r ∷ q ∷ rs) zero y z le is iz = ap (λ u. Some (side_with u r.value)) (sym is) ∙ ap (λ u. Some (side_with y u.value)) (sym iz)
+later_side x (r ∷ q ∷ rs) (suc k) y z le is iz = later_side r.value (q ∷ rs) k y z (omega (arith, le)) is iz
+
+pub side_later : (x : Expr) (rs : List Assigned) (k m : ℕ) (y z : Assigned) → k < length rs → k ≢ 0 → y ≡ slice_index_or rs k y → m ≡ k - 1 → z ≡ slice_index_or rs m z → slice_get (sides x rs) k ≡ Some (record { sign = y.sign; token = y.token.0; left = z.value })
+side_later x rs zero m y z le ne is em iz = absurd (ne refl)
+side_later x rs (suc k) m y z le ne is em iz = later_side x rs k y z le is (subst (λ u. z ≡ slice_index_or rs u z) (let e : m ≡ k = omega (arith, em) in e) iz)
 
 same_some : {A : Type 0} (x y : A) → Some x ≡ Some y → x ≡ y
 same_some x y e = cc
@@ -74,7 +75,7 @@ from_get (y ∷ ys) zero x e = ap (λ z. z ∷ ys) (same_some y x e)
 from_get (y ∷ ys) (suc k) x e = from_get ys k x e
 
 -- the sides that were given the value, before one more and after it
-pub side_before : (x : Expr) (rs : List Assigned) (done : ℕ) (y : Expr) → done < length rs → slice_get (sides x rs) (length rs - 1 - done) ≡ Some y → drop (length rs - (done + 1)) (sides x rs) ≡ y ∷ drop (length rs - done) (sides x rs)
+pub side_before : (x : Expr) (rs : List Assigned) (done : ℕ) (y : SideOf) → done < length rs → slice_get (sides x rs) (length rs - 1 - done) ≡ Some y → drop (length rs - (done + 1)) (sides x rs) ≡ y ∷ drop (length rs - done) (sides x rs)
 side_before x rs done y le e =
     let back : length rs - (done + 1) ≡ length rs - 1 - done = omega arith in
     let on : suc (length rs - 1 - done) ≡ length rs - done = omega (arith, le) in
@@ -83,29 +84,15 @@ side_before x rs done y le e =
 pub no_side : (x : Expr) (rs : List Assigned) → length (sides x rs) ≤ length rs - 0
 no_side x rs = let e = sides_length x rs in omega (arith, e)
 
--- ---- values
+-- ---- the value
 
-pub values_next : (xs r r' : List Assigned) (x : Assigned) → are_values (map right_side_syntax xs) ≡ are_values (map right_side_syntax r) → r ≡ x ∷ r' → x.sign ≡ assignment.Value → are_values (map right_side_syntax xs) ≡ are_values (map right_side_syntax r')
-values_next xs r r' x f is e = f ∙ ap (λ z. are_values (map right_side_syntax z)) is ∙ cases x.sign e
-  where
-    cases : (g : Assignment) → g ≡ assignment.Value → are_values ((record { sign = g; token = x.token.0; value = syntax_of x.value }) ∷ map right_side_syntax r') ≡ are_values (map right_side_syntax r')
-    cases assignment.Value h = refl
-    cases assignment.Reference h = absurd (cc)
-
-pub values_not : (xs r r' : List Assigned) (x : Assigned) → are_values (map right_side_syntax xs) ≡ are_values (map right_side_syntax r) → r ≡ x ∷ r' → x.sign ≡ assignment.Reference → are_values (map right_side_syntax xs) ≡ false
-values_not xs r r' x f is e = f ∙ ap (λ z. are_values (map right_side_syntax z)) is ∙ cases x.sign e
-  where
-    cases : (g : Assignment) → g ≡ assignment.Reference → are_values ((record { sign = g; token = x.token.0; value = syntax_of x.value }) ∷ map right_side_syntax r') ≡ false
-    cases assignment.Value h = absurd (cc)
-    cases assignment.Reference h = refl
-
-last_right : (x : Expr) (rs : List Assigned) (y : Assigned) → 0 < length rs → y ≡ slice_index_or rs (length rs - 1) y → right_side (syntax_of x) (map right_side_syntax rs) ≡ syntax_of y.value
+last_right : (x : Expr) (rs : List Assigned) (y : Assigned) → 0 < length rs → y ≡ slice_index_or rs (length rs - 1) y → last_value (syntax_of x) (map right_side_syntax rs) ≡ syntax_of y.value
 last_right x [] y le is = absurd (omega (arith, le))
 last_right x (r ∷ []) y le is = ap (λ z. syntax_of z.value) (sym is)
 last_right x (r ∷ q ∷ rs) y le is = last_right r.value (q ∷ rs) y (omega arith) (subst (λ z. y ≡ slice_index_or (r ∷ q ∷ rs) z y) (let e : length (r ∷ q ∷ rs) - 1 ≡ suc (length (q ∷ rs) - 1) = omega arith in e) is)
 
 -- the sides that are still to come, before one more and after it
-pub side_next : (x : Expr) (rs : List Assigned) (k : ℕ) (y : Expr) → slice_get (sides x rs) k ≡ Some y → drop k (sides x rs) ≡ y ∷ drop (k + 1) (sides x rs)
+pub side_next : (x : Expr) (rs : List Assigned) (k : ℕ) (y : SideOf) → slice_get (sides x rs) k ≡ Some y → drop k (sides x rs) ≡ y ∷ drop (k + 1) (sides x rs)
 side_next x rs k y e = let on : suc k ≡ k + 1 = omega arith in from_get (sides x rs) k y e ∙ ap (λ z. y ∷ drop z (sides x rs)) on
 
 pub all_sides : (x : Expr) (rs : List Assigned) (k : ℕ) → length rs ≤ k → length (sides x rs) ≤ k
@@ -120,6 +107,8 @@ none_left n k le = omega (arith, le)
 lefts_next : (s : Source) (code : CodeOf) (site : Site) (t : Stored) (ts : List Stored) (n k : ℕ) (End : ℕ → ℕ → ℕ → Type 0) (p x q : ℕ) → LeftsAt s code site n (t ∷ []) (EndsOn k) p x → LeftsAt s code site k ts End x q → LeftsAt s code site n (t ∷ ts) End p q
 lefts_next s code site (InCell home key) ts n k End p x q f g = (f.0, f.1, subst (λ z. LeftsAt s code site z ts End p q) f.2.0 (subst (λ z. LeftsAt s code site k ts End z q) f.2.1 g))
 lefts_next s code site (AtAddress d es line) ts n k End p x q f g = (f.0, f.1, subst (λ z. LeftsAt s code site z ts End f.0 q) f.2.0 (subst (λ z. LeftsAt s code site k ts End z q) f.2.1 g))
+lefts_next s code site (ToText e line) ts n k End p x q f g = (f.0, f.1, subst (λ z. LeftsAt s code site z ts End f.0 q) f.2.0 (subst (λ z. LeftsAt s code site k ts End z q) f.2.1 g))
+lefts_next s code site (ToResult home line) ts n k End p x q f g = (f.0, f.1, subst (λ z. LeftsAt s code site z ts End f.0 q) f.2.0 (subst (λ z. LeftsAt s code site k ts End z q) f.2.1 g))
 lefts_next s code site NotBuilt ts n k End p x q f g = absurd f
 
 -- the left sides, and what follows
@@ -127,6 +116,8 @@ lefts_then : (s : Source) (code : CodeOf) (site : Site) (ts : List Stored) (n m 
 lefts_then s code site [] n m End p x q f g = subst (λ z. End z p q) f.0 (subst (λ z. End m z q) f.1 g)
 lefts_then s code site (InCell home key ∷ ts) n m End p x q f g = (f.0, f.1, lefts_then s code site ts n m End p x q f.2 g)
 lefts_then s code site (AtAddress d es line ∷ ts) n m End p x q f g = (f.0, f.1, lefts_then s code site ts (suc n) m End f.0 x q f.2 g)
+lefts_then s code site (ToText e line ∷ ts) n m End p x q f g = (f.0, f.1, lefts_then s code site ts (suc n) m End f.0 x q f.2 g)
+lefts_then s code site (ToResult home line ∷ ts) n m End p x q f g = (f.0, f.1, lefts_then s code site ts (suc n) m End f.0 x q f.2 g)
 lefts_then s code site (NotBuilt ∷ ts) n m End p x q f g = absurd f
 
 after_more : (us : List Stored) (t : Stored) (n : ℕ) → after (us ++ (t ∷ [])) n ≡ below t (after us n)
@@ -142,8 +133,16 @@ taken_off : (d : DeclNo) (es : Expressions) (line n m : ℕ) → m ≡ n - 1 →
 taken_off d es line zero m e = let f : m ≡ 0 = omega (arith, e) in f
 taken_off d es line (suc n) m e = let f : m ≡ n = omega (arith, e) in f
 
+text_off : (e : Expression) (line n m : ℕ) → m ≡ n - 1 → m ≡ below (ToText e line) n
+text_off e line zero m h = let f : m ≡ 0 = omega (arith, h) in f
+text_off e line (suc n) m h = let f : m ≡ n = omega (arith, h) in f
+
+result_off : (home line n m : ℕ) → m ≡ n - 1 → m ≡ below (ToResult home line) n
+result_off home line zero m h = let f : m ≡ 0 = omega (arith, h) in f
+result_off home line (suc n) m h = let f : m ≡ n = omega (arith, h) in f
+
 module _ (b : Bound) (w : Spot) where
-  here : (s : Source) (home text : ℕ) → text ≡ w.text → StandsIn s w.text home → Inside s.tables text home
+  pub here : (s : Source) (home text : ℕ) → text ≡ w.text → StandsIn s w.text home → Inside s.tables text home
   here s home text stands h = subst (λ z. Inside s.tables z home) (sym stands) (inside s.tables home (length s.tables.blocks) w.text h.found)
 
   -- what comes never, where what stands before is whole
@@ -154,74 +153,79 @@ module _ (b : Bound) (w : Spot) where
 
   -- ---- addresses
 
-  pub address_as : (a c : DraftOf) (k m : ℕ) (x : Expr) (r : Option (Bor Expr)) (y : Bor Expr) (name : Identifier) (l : Vec Expr Global) (es : List Expr) → FindsIdentifier (option_copied r) x → r ≡ Some y → y.now ≡ e.Named name l → es ≡ l.items → WritesAddressNamed b w k a c m name es → WritesAddress b w k a c m x
-  unfolding WritesAddress WritesAddressNamed
-  address_as a c k m x r y name l es f some is ee g =
-      let s = source_of b in
-      subst (λ z. Emits w a c (LeftBuilt s w.text (stored s z)) (λ final site p q. LeftsAt s final site k (stored s z ∷ []) (EndsOn m) p q)) (sym (named_in b w x r y name l es f some is ee)) g
+  pub at_side : (x : Side) (r r' : Left) → FindsSide b w x.sign x.left.now r → r ≡ r' → IsLeft (source_of b) w (syntax_of x.left.now) (line_at (source_of b) x.token.0) r' (stored_side (source_of b) (side_in x))
+  unfolding FindsSide
+  at_side x r r' f er = let s = source_of b in subst (λ z. IsLeft s w (syntax_of x.left.now) (line_at s x.token.0) z (stored_side s (side_in x))) er (f (line_at s x.token.0))
 
-  pub address_no_left : (a c : DraftOf) (k m : ℕ) (x : Expr) (r : Option (Bor Expr)) → FindsIdentifier (option_copied r) x → r ≡ None → c ≡ given_up a → WritesAddress b w k a c m x
-  unfolding WritesAddress FindsIdentifier
-  address_no_left a c k m x r f none ec = emits_nothing w a c _ _ (λ h. no_store b w (source_of b) w.text (is_text (source_of b) (syntax_of x)) (syntax_of x) (λ name es i. subst (λ z. IdentifierIn (option_copied z) x) none f name es i) h) ec
-
-  pub address_cell : (a : DraftOf) (k : ℕ) (name : Identifier) (es : List Expr) (n level slot : ℕ) (r : Left) → FindsLeft b w name.token n r → n ≡ length es → r ≡ left.Cell level slot → WritesAddressNamed b w k a a k name es
-  unfolding WritesAddressNamed
-  address_cell a k name es n level slot r f en er =
+  pub address_cell : (a : DraftOf) (k : ℕ) (x : Side) (level slot : ℕ) (r : Left) → FindsSide b w x.sign x.left.now r → r ≡ left.Cell level slot → WritesAddress b w k a a k (side_in x)
+  unfolding WritesAddress
+  address_cell a k x level slot r f er =
       let s = source_of b in
-      let l = left_is b w name es n r (left.Cell level slot) f en er in
+      let l = at_side x r (left.Cell level slot) f er in
       let home = l.0 in
       let key = l.1 in
       let built : KeyBuilt s w.text home key = l.3 in
       subst (λ z. Emits w a a (LeftBuilt s w.text z) (λ final site p q. LeftsAt s final site k (z ∷ []) (EndsOn k) p q)) (sym l.2)
       (emits_as w _ _ _ _ a a (λ h. tt) (λ h. built) (λ final site p q stands _ g. (here s home site.text stands built.inside, cell_there s home key built.has, (refl, g))) (emits_none w a))
 
-  pub address_element : (a c : DraftOf) (k m : ℕ) (name : Identifier) (es : List Expr) (n : ℕ) (d : DeclNo) (r : Left) → FindsLeft b w name.token n r → n ≡ length es → r ≡ left.Element d → WritesElement b w k a c name.token d es → m ≡ suc k → WritesAddressNamed b w k a c m name es
-  unfolding WritesAddressNamed WritesElement
-  address_element a c k m name es n d r f en er g em =
+  pub address_element : (a c : DraftOf) (k m : ℕ) (x : Side) (token : TokenNo) (d : DeclNo) (es : Bor (List Expr)) (r : Left) → FindsSide b w x.sign x.left.now r → r ≡ left.Element token d es → WritesElement b w k a c token d es.now → m ≡ suc k → WritesAddress b w k a c m (side_in x)
+  unfolding WritesAddress WritesElement
+  address_element a c k m x token d es r f er g em =
       let s = source_of b in
-      let l = left_is b w name es n r (left.Element d) f en er in
+      let l = at_side x r (left.Element token d es) f er in
       subst (λ z. Emits w a c (LeftBuilt s w.text z) (λ final site p q. LeftsAt s final site k (z ∷ []) (EndsOn m) p q)) (sym l)
       (emits_as w _ _ _ _ a c (λ h. h) (λ h. h) (λ final site p q _ _ h. (q, h, (em, refl))) g)
 
-  pub address_unbuilt : (a c : DraftOf) (k m : ℕ) (name : Identifier) (es : List Expr) (n : ℕ) (r : Left) → FindsLeft b w name.token n r → n ≡ length es → r ≡ left.NotBuilt → c ≡ given_up a → WritesAddressNamed b w k a c m name es
-  unfolding WritesAddressNamed
-  address_unbuilt a c k m name es n r f en er ec = emits_nothing w a c _ _ (λ h. left_is b w name es n r left.NotBuilt f en er h) ec
+  pub address_text : (a c : DraftOf) (k m : ℕ) (x : Side) (r : Left) → FindsSide b w x.sign x.left.now r → r ≡ left.Text → Writes b w k a c x.left.now → m ≡ suc k → WritesAddress b w k a c m (side_in x)
+  unfolding WritesAddress Writes Puts
+  address_text a c k m x r f er g em =
+      let s = source_of b in
+      let l = at_side x r left.Text f er in
+      subst (λ z. Emits w a c (LeftBuilt s w.text z) (λ final site p q. LeftsAt s final site k (z ∷ []) (EndsOn m) p q)) (sym l)
+      (emits_as w _ _ _ _ a c (λ h. h) (λ h. h) (λ final site p q _ _ h. (q, h, (em, refl))) g)
 
-  pub addresses_all : (a : DraftOf) (xs : List Expr) → OwesAddresses b w a xs 0 a xs
+  pub address_result : (a c : DraftOf) (k m : ℕ) (x : Side) (level slot : ℕ) (r : Left) (y : Instr) → FindsSide b w x.sign x.left.now r → r ≡ left.Result level slot → y ≡ i.Load (pos level) (pos slot) → c ≡ with_push a k y 0 → m ≡ suc k → WritesAddress b w k a c m (side_in x)
+  unfolding WritesAddress
+  address_result a c k m x level slot r y f er ey ec em =
+      let s = source_of b in
+      let l = at_side x r (left.Result level slot) f er in
+      let home = l.0 in
+      let built : KeyBuilt s w.text home Result = l.2 in
+      let at : y ≡ i.Load (pos (level_of s home)) (pos (slot_of s home Result)) = ey ∙ ap (λ z. i.Load (pos z) (pos slot)) l.3 ∙ ap (λ z. i.Load (pos (level_of s home)) (pos z)) l.4 in
+      subst (λ z. Emits w a c (LeftBuilt s w.text z) (λ final site p q. LeftsAt s final site k (z ∷ []) (EndsOn m) p q)) (sym l.1)
+      (emits_as w ⊤ _ (λ final site p q. Pushes final site k (i.Load (pos (level_of s home)) (pos (slot_of s home Result))) p q) _ a c (λ h. tt) (λ h. built)
+      (λ final site p q stands _ g. (q, record { load = g; inside = here s home site.text stands built.inside; within = cell_there s home Result built.has }, (em, refl)))
+      (emits_push w a c k (i.Load (pos (level_of s home)) (pos (slot_of s home Result))) 0 (ec ∙ ap (λ z. with_push a k z 0) at) (λ z. cc) refl))
+
+  pub address_unbuilt : (a c : DraftOf) (k m : ℕ) (x : Side) (r : Left) → FindsSide b w x.sign x.left.now r → r ≡ left.NotBuilt → c ≡ given_up a → WritesAddress b w k a c m (side_in x)
+  unfolding WritesAddress
+  address_unbuilt a c k m x r f er ec = emits_nothing w a c _ _ (λ h. at_side x r left.NotBuilt f er h) ec
+
+  pub addresses_all : (a : DraftOf) (xs : List SideOf) → OwesAddresses b w a xs 0 a xs
   unfolding OwesAddresses
   addresses_all a xs end m f = f
 
-  pub addresses_next : (a c d : DraftOf) (xs r r' : List Expr) (x : Expr) (n k : ℕ) → OwesAddresses b w a xs n c r → r ≡ x ∷ r' → WritesAddress b w n c d k x → OwesAddresses b w a xs k d r'
+  pub addresses_next : (a c d : DraftOf) (xs r r' : List SideOf) (x : SideOf) (n k : ℕ) → OwesAddresses b w a xs n c r → r ≡ x ∷ r' → WritesAddress b w n c d k x → OwesAddresses b w a xs k d r'
   unfolding OwesAddresses WritesAddresses WritesAddress
   addresses_next a c d xs r r' x n k f is g end m h =
       let s = source_of b in
-      let t = stored s (syntax_of x) in
+      let t = stored_side s x in
       let ts = stored_all s r' in
       f end m (subst (WritesAddresses b w n c end m) (sym is)
       (emits_as w (LeftBuilt s w.text t × LeftsBuilt s w.text ts) _ _ _ c end (λ z. z) (λ z. z) (λ final site p q _ _ z. lefts_next s final site t ts n k (EndsOn m) p z.0 q z.1 z.2)
       (emits_then w (LeftBuilt s w.text t) (LeftsBuilt s w.text ts) (λ final site p q. LeftsAt s final site n (t ∷ []) (EndsOn k) p q) (λ final site p q. LeftsAt s final site k ts (EndsOn m) p q) c d end g h)))
 
-  pub addresses_none : (a c : DraftOf) (xs r : List Expr) (n : ℕ) → OwesAddresses b w a xs n c r → r ≡ [] → WritesAddresses b w 0 a c n xs
+  pub addresses_none : (a c : DraftOf) (xs r : List SideOf) (n : ℕ) → OwesAddresses b w a xs n c r → r ≡ [] → WritesAddresses b w 0 a c n xs
   unfolding OwesAddresses WritesAddresses
   addresses_none a c xs r n f is = f c n (subst (WritesAddresses b w n c c n) (sym is) (emits_as w ⊤ ⊤ (λ final site p q. q ≡ p) (λ final site p q. EndsOn n n p q) c c (λ h. h) (λ h. h) (λ final site p q _ _ g. (refl, g)) (emits_none w c)))
 
   -- ---- where the value goes
 
-  pub give_as : (a c : DraftOf) (k m : ℕ) (x : Expr) (r : Option (Bor Expr)) (y : Bor Expr) (name : Identifier) (l : Vec Expr Global) (es : List Expr) → FindsIdentifier (option_copied r) x → r ≡ Some y → y.now ≡ e.Named name l → es ≡ l.items → WritesGiveNamed b w k a c m name es → WritesGive b w k a c m x
-  unfolding WritesGive WritesGiveNamed
-  give_as a c k m x r y name l es f some is ee g =
+  pub give_cell : (a c d : DraftOf) (k : ℕ) (v : Side) (level slot m : ℕ) (r : Left) (x y : Instr) → FindsSide b w v.sign v.left.now r → r ≡ left.Cell level slot → m ≡ level_of (source_of b) w.text → x ≡ i.Load (pos m) (pos w.used) → c ≡ with_push a k x 0 → y ≡ i.Store (pos level) (pos slot) → d ≡ with_instr c y 0 → WritesGive b w k a d k (side_in v)
+  unfolding WritesGive
+  give_cell a c d k v level slot m r x y f er em ex ec ey ed =
       let s = source_of b in
-      subst (λ z. (a.whole ≡ true → LeftBuilt s w.text (stored s z)) → Emits w a c ⊤ (λ final site p q. GiveAt s final site w.used k m (stored s z) p q)) (sym (named_in b w x r y name l es f some is ee)) g
-
-  pub give_no_left : (a c : DraftOf) (k m : ℕ) (x : Expr) (r : Option (Bor Expr)) → FindsIdentifier (option_copied r) x → r ≡ None → c ≡ given_up a → WritesGive b w k a c m x
-  unfolding WritesGive FindsIdentifier
-  give_no_left a c k m x r f none ec = λ built. given_nothing a c _ (λ v. no_store b w (source_of b) w.text (is_text (source_of b) (syntax_of x)) (syntax_of x) (λ name es i. subst (λ z. IdentifierIn (option_copied z) x) none f name es i) (built v)) ec
-
-  pub give_cell : (a c d : DraftOf) (k : ℕ) (name : Identifier) (es : List Expr) (n level slot m : ℕ) (r : Left) (x y : Instr) → FindsLeft b w name.token n r → n ≡ length es → r ≡ left.Cell level slot → m ≡ level_of (source_of b) w.text → x ≡ i.Load (pos m) (pos w.used) → c ≡ with_push a k x 0 → y ≡ i.Store (pos level) (pos slot) → d ≡ with_instr c y 0 → WritesGiveNamed b w k a d k name es
-  unfolding WritesGiveNamed
-  give_cell a c d k name es n level slot m r x y f en er em ex ec ey ed =
-      let s = source_of b in
-      let l = left_is b w name es n r (left.Cell level slot) f en er in
+      let l = at_side v r (left.Cell level slot) f er in
       let home = l.0 in
       let key = l.1 in
       let at : y ≡ i.Store (pos (level_of s home)) (pos (slot_of s home key)) = ey ∙ ap (λ z. i.Store (pos z) (pos slot)) l.4 ∙ ap (λ z. i.Store (pos (level_of s home)) (pos z)) l.5 in
@@ -232,36 +236,58 @@ module _ (b : Bound) (w : Spot) where
       (emits_push w a c k (i.Load (pos (level_of s w.text)) (pos w.used)) 0 (ec ∙ ap (λ z. with_push a k z 0) load) (λ z. cc) refl)
       (emits_at w c d (i.Store (pos (level_of s home)) (pos (slot_of s home key))) 0 (ed ∙ ap (λ z. with_instr c z 0) at) (λ z. cc) refl)))
 
-  pub give_element : (a c d : DraftOf) (k j : ℕ) (name : Identifier) (es : List Expr) (n m : ℕ) (u : DeclNo) (r : Left) (x : Instr) → FindsLeft b w name.token n r → n ≡ length es → r ≡ left.Element u → m ≡ level_of (source_of b) w.text → x ≡ i.Load (pos m) (pos w.used) → c ≡ with_push a k x 0 → d ≡ with_instr c i.Put 0 → j ≡ k - 1 → WritesGiveNamed b w k a d j name es
-  unfolding WritesGiveNamed
-  give_element a c d k j name es n m u r x f en er em ex ec ed ej =
+  pub give_element : (a c d : DraftOf) (k j : ℕ) (v : Side) (m : ℕ) (token : TokenNo) (u : DeclNo) (es : Bor (List Expr)) (r : Left) (x : Instr) → FindsSide b w v.sign v.left.now r → r ≡ left.Element token u es → m ≡ level_of (source_of b) w.text → x ≡ i.Load (pos m) (pos w.used) → c ≡ with_push a k x 0 → d ≡ with_instr c i.Put 0 → j ≡ k - 1 → WritesGive b w k a d j (side_in v)
+  unfolding WritesGive
+  give_element a c d k j v m token u es r x f er em ex ec ed ej =
       let s = source_of b in
-      let xs = expressions (map syntax_of es) in
-      let line = line_at s name.token.0 in
-      let l = left_is b w name es n r (left.Element u) f en er in
+      let l = at_side v r (left.Element token u es) f er in
       let load : x ≡ i.Load (pos (level_of s w.text)) (pos w.used) = ex ∙ ap (λ z. i.Load (pos z) (pos w.used)) em in
       subst (λ z. (a.whole ≡ true → LeftBuilt s w.text z) → Emits w a d ⊤ (λ final site p q. GiveAt s final site w.used k j z p q)) (sym l)
-      (λ _. emits_as w _ _ _ _ a d (λ h. (tt, tt)) (λ h. tt) (λ final site p q stands _ g. (taken_off u xs line k j ej, (g.0, subst (λ z. Pushes final site k (i.Load (pos (level_of s z)) (pos w.used)) p g.0) (sym stands) g.1, record { line = 0; is = g.2 })))
+      (λ _. emits_as w _ _ _ _ a d (λ h. (tt, tt)) (λ h. tt) (λ final site p q stands _ g. (taken_off u (operands_in es.now) (line_at s token.0) k j ej, (g.0, subst (λ z. Pushes final site k (i.Load (pos (level_of s z)) (pos w.used)) p g.0) (sym stands) g.1, record { line = 0; is = g.2 })))
       (emits_then w ⊤ ⊤ (λ final site p q. Pushes final site k (i.Load (pos (level_of s w.text)) (pos w.used)) p q) (λ final site p q. At final i.Put 0 p q) a c d
       (emits_push w a c k (i.Load (pos (level_of s w.text)) (pos w.used)) 0 (ec ∙ ap (λ z. with_push a k z 0) load) (λ z. cc) refl)
       (emits_at w c d i.Put 0 ed (λ z. cc) refl)))
 
-  pub give_unbuilt : (a c : DraftOf) (k m : ℕ) (name : Identifier) (es : List Expr) (n : ℕ) (r : Left) → FindsLeft b w name.token n r → n ≡ length es → r ≡ left.NotBuilt → c ≡ given_up a → WritesGiveNamed b w k a c m name es
-  unfolding WritesGiveNamed
-  give_unbuilt a c k m name es n r f en er ec = λ built. given_nothing a c _ (λ v. left_is b w name es n r left.NotBuilt f en er (built v)) ec
+  pub give_text : (a c d : DraftOf) (k j : ℕ) (v : Side) (m line : ℕ) (r : Left) (x : Instr) → FindsSide b w v.sign v.left.now r → r ≡ left.Text → m ≡ level_of (source_of b) w.text → x ≡ i.Load (pos m) (pos w.used) → c ≡ with_push a k x 0 → line ≡ line_at (source_of b) v.token.0 → d ≡ with_instr c i.AssignT line → j ≡ k - 1 → WritesGive b w k a d j (side_in v)
+  unfolding WritesGive
+  give_text a c d k j v m line r x f er em ex ec el ed ej =
+      let s = source_of b in
+      let l = at_side v r left.Text f er in
+      let load : x ≡ i.Load (pos (level_of s w.text)) (pos w.used) = ex ∙ ap (λ z. i.Load (pos z) (pos w.used)) em in
+      subst (λ z. (a.whole ≡ true → LeftBuilt s w.text z) → Emits w a d ⊤ (λ final site p q. GiveAt s final site w.used k j z p q)) (sym l)
+      (λ _. emits_as w _ _ _ _ a d (λ h. (tt, tt)) (λ h. tt) (λ final site p q stands _ g. (text_off (syntax_of v.left.now) (line_at s v.token.0) k j ej, (g.0, subst (λ z. Pushes final site k (i.Load (pos (level_of s z)) (pos w.used)) p g.0) (sym stands) g.1, g.2)))
+      (emits_then w ⊤ ⊤ (λ final site p q. Pushes final site k (i.Load (pos (level_of s w.text)) (pos w.used)) p q) (λ final site p q. At final i.AssignT (line_at s v.token.0) p q) a c d
+      (emits_push w a c k (i.Load (pos (level_of s w.text)) (pos w.used)) 0 (ec ∙ ap (λ z. with_push a k z 0) load) (λ z. cc) refl)
+      (emits_at w c d i.AssignT (line_at s v.token.0) (ed ∙ ap (with_instr c i.AssignT) el) (λ z. cc) refl)))
 
-  pub gives_none : (a : DraftOf) (n : ℕ) (xs : List Expr) → xs ≡ [] → HasGiven b w n a a n xs
+  pub give_result : (a c d : DraftOf) (k j : ℕ) (v : Side) (m line level slot : ℕ) (r : Left) (x : Instr) → FindsSide b w v.sign v.left.now r → r ≡ left.Result level slot → m ≡ level_of (source_of b) w.text → x ≡ i.Load (pos m) (pos w.used) → c ≡ with_push a k x 0 → line ≡ line_at (source_of b) v.token.0 → d ≡ with_instr c i.AssignT line → j ≡ k - 1 → WritesGive b w k a d j (side_in v)
+  unfolding WritesGive
+  give_result a c d k j v m line level slot r x f er em ex ec el ed ej =
+      let s = source_of b in
+      let l = at_side v r (left.Result level slot) f er in
+      let load : x ≡ i.Load (pos (level_of s w.text)) (pos w.used) = ex ∙ ap (λ z. i.Load (pos z) (pos w.used)) em in
+      subst (λ z. (a.whole ≡ true → LeftBuilt s w.text z) → Emits w a d ⊤ (λ final site p q. GiveAt s final site w.used k j z p q)) (sym l.1)
+      (λ _. emits_as w _ _ _ _ a d (λ h. (tt, tt)) (λ h. tt) (λ final site p q stands _ g. (result_off l.0 (line_at s v.token.0) k j ej, (g.0, subst (λ z. Pushes final site k (i.Load (pos (level_of s z)) (pos w.used)) p g.0) (sym stands) g.1, g.2)))
+      (emits_then w ⊤ ⊤ (λ final site p q. Pushes final site k (i.Load (pos (level_of s w.text)) (pos w.used)) p q) (λ final site p q. At final i.AssignT (line_at s v.token.0) p q) a c d
+      (emits_push w a c k (i.Load (pos (level_of s w.text)) (pos w.used)) 0 (ec ∙ ap (λ z. with_push a k z 0) load) (λ z. cc) refl)
+      (emits_at w c d i.AssignT (line_at s v.token.0) (ed ∙ ap (with_instr c i.AssignT) el) (λ z. cc) refl)))
+
+  pub give_unbuilt : (a c : DraftOf) (k m : ℕ) (v : Side) (r : Left) → FindsSide b w v.sign v.left.now r → r ≡ left.NotBuilt → c ≡ given_up a → WritesGive b w k a c m (side_in v)
+  unfolding WritesGive
+  give_unbuilt a c k m v r f er ec = λ built. given_nothing a c _ (λ u. at_side v r left.NotBuilt f er (built u)) ec
+
+  pub gives_none : (a : DraftOf) (n : ℕ) (xs : List SideOf) → xs ≡ [] → HasGiven b w n a a n xs
   unfolding HasGiven
   gives_none a n xs is =
       let s = source_of b in
       subst (λ z. (a.whole ≡ true → LeftsBuilt s w.text (stored_all s z)) → Emits w a a ⊤ (λ final site p q. (n ≡ after (reverse (stored_all s z)) n) × GivesAt s final site w.used n (reverse (stored_all s z)) p q)) (sym is)
       (λ _. emits_as w _ _ _ _ a a (λ h. h) (λ h. h) (λ final site p q _ _ r. (refl, r)) (emits_none w a))
 
-  pub gives_next : (a c d : DraftOf) (n m k : ℕ) (xs ys : List Expr) (x : Expr) → ys ≡ x ∷ xs → HasGiven b w n a c m xs → WritesGive b w m c d k x → HasGiven b w n a d k ys
+  pub gives_next : (a c d : DraftOf) (n m k : ℕ) (xs ys : List SideOf) (x : SideOf) → ys ≡ x ∷ xs → HasGiven b w n a c m xs → WritesGive b w m c d k x → HasGiven b w n a d k ys
   unfolding HasGiven WritesGive
   gives_next a c d n m k xs ys x is f g =
       let s = source_of b in
-      let t = stored s (syntax_of x) in
+      let t = stored_side s x in
       let ts = stored_all s xs in
       let back : reverse (t ∷ ts) ≡ reverse ts ++ (t ∷ []) = reverse-append (t ∷ []) ts in
       subst (λ z. (a.whole ≡ true → LeftsBuilt s w.text (stored_all s z)) → Emits w a d ⊤ (λ final site p q. (k ≡ after (reverse (stored_all s z)) n) × GivesAt s final site w.used n (reverse (stored_all s z)) p q)) (sym is)
@@ -273,7 +299,7 @@ module _ (b : Bound) (w : Spot) where
       (r.2.0 ∙ ap (λ z. below t z) r.1.0 ∙ sym (after_more (reverse ts) t n), gives_more s final site w.used (reverse ts) t n m p r.0 q r.1.0 r.1.1 r.2.1))
       (emits_then w ⊤ ⊤ (λ final site p q. (m ≡ after (reverse ts) n) × GivesAt s final site w.used n (reverse ts) p q) (λ final site p q. GiveAt s final site w.used m k t p q) a c d f' g'))
 
-  pub gives_done : (a c : DraftOf) (n m k : ℕ) (xs : List Expr) → HasGiven b w n a c m (drop k xs) → k ≡ 0 → WritesGives b w n a c xs
+  pub gives_done : (a c : DraftOf) (n m k : ℕ) (xs : List SideOf) → HasGiven b w n a c m (drop k xs) → k ≡ 0 → WritesGives b w n a c xs
   unfolding HasGiven WritesGives
   gives_done a c n m k xs f none = λ built.
       let s = source_of b in
@@ -282,33 +308,28 @@ module _ (b : Bound) (w : Spot) where
 
   -- ---- all
 
-  pub write_references : (a c : DraftOf) (x : Expr) (l : List Assigned) (v : Bool) → v ≡ are_values (map right_side_syntax l) → v ≡ false → c ≡ given_up a → WritesAssignment b w a c x l
-  unfolding WritesAssignment
-  write_references a c x l v ev no_values ec = emits_nothing w a c _ _ (λ h. subst (λ z. AssignBuilt (source_of b) w.text z (each_stored (source_of b) (left_sides (syntax_of x) (map right_side_syntax l))) (right_side (syntax_of x) (map right_side_syntax l))) (sym ev ∙ no_values) h) ec
-
-  pub write_several : (a c1 c2 c3 c4 c5 : DraftOf) (x : Expr) (l : List Assigned) (y : Assigned) (v : Bool) (k m j : ℕ) (n : Instr) → 1 < length l → v ≡ are_values (map right_side_syntax l) → v ≡ true → k ≡ length l - 1 → y ≡ slice_index_or l k y → c1 ≡ with_temp a w.used → WritesAddresses b w 0 c1 c2 j (sides x l) → Writes b w j c2 c3 y.value → m ≡ level_of (source_of b) w.text → n ≡ i.Store (pos m) (pos w.used) → c4 ≡ with_instr c3 n 0
+  pub write_several : (a c1 c2 c3 c4 c5 : DraftOf) (x : Expr) (l : List Assigned) (y : Assigned) (k m j : ℕ) (n : Instr) → 1 < length l → k ≡ length l - 1 → y ≡ slice_index_or l k y → c1 ≡ with_temp a w.used → WritesAddresses b w 0 c1 c2 j (sides x l) → Writes b w j c2 c3 y.value → m ≡ level_of (source_of b) w.text → n ≡ i.Store (pos m) (pos w.used) → c4 ≡ with_instr c3 n 0
       → WritesGives b w j c4 c5 (sides x l) → WritesAssignment b w a c5 x l
   unfolding WritesAssignment WritesAddresses Writes Puts WritesGives
-  write_several a c1 c2 c3 c4 c5 x [] y v k m j n some ev values ek is e1 d f em en e4 g = absurd (omega (arith, some))
-  write_several a c1 c2 c3 c4 c5 x (q1 ∷ []) y v k m j n some ev values ek is e1 d f em en e4 g = absurd (omega (arith, some))
-  write_several a c1 c2 c3 c4 c5 x (q1 ∷ q2 ∷ qs) y v k m j n some ev values ek is e1 d f em en e4 g =
+  write_several a c1 c2 c3 c4 c5 x [] y k m j n some ek is e1 d f em en e4 g = absurd (omega (arith, some))
+  write_several a c1 c2 c3 c4 c5 x (q1 ∷ []) y k m j n some ek is e1 d f em en e4 g = absurd (omega (arith, some))
+  write_several a c1 c2 c3 c4 c5 x (q1 ∷ q2 ∷ qs) y k m j n some ek is e1 d f em en e4 g =
       let s = source_of b in
       let l = q1 ∷ q2 ∷ qs in
       let ts = stored_all s (sides x l) in
       let value = syntax_of y.value in
       let store = i.Store (pos (level_of s w.text)) (pos w.used) in
-      let right : right_side (syntax_of x) (map right_side_syntax l) ≡ value = last_right x l y (omega arith) (subst (λ z. y ≡ slice_index_or l z y) ek is) in
+      let right : last_value (syntax_of x) (map right_side_syntax l) ≡ value = last_right x l y (omega arith) (subst (λ z. y ≡ slice_index_or l z y) ek is) in
       let keep : Emits w c3 c4 ⊤ (λ final site p q. At final store 0 p q) = emits_at w c3 c4 store 0 (e4 ∙ ap (λ z. with_instr c3 z 0) (en ∙ ap (λ z. i.Store (pos z) (pos w.used)) em)) (λ z. cc) refl in
       let give : Emits w c4 c5 ⊤ (λ final site p q. GivesAt s final site w.used j (reverse ts) p q) = g (λ u. d.only (f.before (keep.before u))) in
-      subst (λ z. Emits w a c5 (AssignBuilt s w.text z (each_stored s (left_sides (syntax_of x) (map right_side_syntax l))) (right_side (syntax_of x) (map right_side_syntax l))) (λ final site p q. AssignAt s final site 0 z (each_stored s (left_sides (syntax_of x) (map right_side_syntax l))) (right_side (syntax_of x) (map right_side_syntax l)) p q)) (sym values ∙ ev)
-      (subst (λ z. Emits w a c5 (AssignBuilt s w.text true z (right_side (syntax_of x) (map right_side_syntax l))) (λ final site p q. AssignAt s final site 0 true z (right_side (syntax_of x) (map right_side_syntax l)) p q)) (sym (sides_stored s x l))
-      (subst (λ z. Emits w a c5 (AssignBuilt s w.text true ts z) (λ final site p q. AssignAt s final site 0 true ts z p q)) (sym right)
+      subst (λ z. Emits w a c5 (AssignBuilt s w.text z (last_value (syntax_of x) (map right_side_syntax l))) (λ final site p q. AssignAt s final site 0 z (last_value (syntax_of x) (map right_side_syntax l)) p q)) (sym (sides_stored s x l))
+      (subst (λ z. Emits w a c5 (AssignBuilt s w.text ts z) (λ final site p q. AssignAt s final site 0 ts z p q)) (sym right)
       (emits_as w _ _ _ _ a c5 (λ h. (h.0, (h.1, (tt, tt)))) (λ h. (h.0, h.1.0))
       (λ final site p q stands _ r. lefts_then s final site ts 0 j (GoesAt s final site value ts) p r.2.0 q r.2.1
       (record { x = r.2.2.0; y = r.2.2.2.0; temp = w.used; behind = r.0; within = r.1; value = r.2.2.1; kept = record { line = 0; is = subst (λ z. At final (i.Store (pos (level_of s z)) (pos w.used)) 0 r.2.2.0 r.2.2.2.0) (sym stands) r.2.2.2.1 }; gives = r.2.2.2.2 }))
       (emits_temp w _ _ a c1 c5 w.used refl e1
       (emits_then w (LeftsBuilt s w.text ts) _ (λ final site p q. LeftsAt s final site 0 ts (EndsOn j) p q) (λ final site p q. (u : ℕ) × ExprAt s final site j value p u × ((o : ℕ) × At final store 0 u o × GivesAt s final site w.used j (reverse ts) o q)) c1 c2 c5 d
       (emits_then w (IsBuilt s w.text value) _ (λ final site p q. ExprAt s final site j value p q) (λ final site p q. (u : ℕ) × At final store 0 p u × GivesAt s final site w.used j (reverse ts) u q) c2 c3 c5 f
-      (emits_then w ⊤ ⊤ (λ final site p q. At final store 0 p q) (λ final site p q. GivesAt s final site w.used j (reverse ts) p q) c3 c4 c5 keep give)))))))
+      (emits_then w ⊤ ⊤ (λ final site p q. At final store 0 p q) (λ final site p q. GivesAt s final site w.used j (reverse ts) p q) c3 c4 c5 keep give))))))
 
-pub ruleset severals = (side_first, side_later, address_as, address_no_left, address_cell, address_element, address_unbuilt, give_as, give_no_left, give_cell, give_element, give_unbuilt, write_references, write_several)
+pub ruleset severals = (side_first, side_later, address_cell, address_element, address_text, address_result, address_unbuilt, give_cell, give_element, give_text, give_result, give_unbuilt, write_several)

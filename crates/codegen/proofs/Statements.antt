@@ -1,63 +1,69 @@
 -- Statements, one part behind another.
-use Rattle.std.proofs.Common.{◌≡◌, ◌≢◌, ◌≤◌, ◌-◌, ℕ, zero, ℤ, pos, suc, Bool, List, [], ◌∷◌, length, map, Option, Some, None, Bor, true, false, refl, sym, ap, ◌∙◌, subst, arith}
-use Rattle.std.specs.Prelude.{⊤, slice_index_or}
-use Rattle.std.specs.Option.{option_copied}
+use Rattle.std.proofs.Common.{◌≡◌, ◌≢◌, ◌≤◌, ℕ, zero, ℤ, pos, suc, Bool, List, [], ◌∷◌, length, map, Option, Some, None, Bor, true, false, refl, sym, ap, ◌∙◌, subst, arith}
+use Rattle.std.specs.Prelude.{⊤, is_some, option_map, slice_get, slice_index_or}
 use Rattle.std.specs.declared.alloc.Global.{Global}
 use Rattle.std.specs.declared.boxed.Box.{Box}
 use Rattle.std.specs.declared.vec.Vec.{Vec}
 use Rattle.sim_base.specs.declared.numbering.DeclNo.{DeclNo}
+use Rattle.sim_base.specs.declared.numbering.Line.{Line}
 use Rattle.sim_base.specs.declared.numbering.TokenNo.{TokenNo}
 use Rattle.sim_scope.specs.declared.bound.Bound.{Bound}
 use Rattle.sim_scope.specs.declared.scopes.Denotation.{Denotation}
+use Rattle.sim_scope.specs.Assignments.{last_value, left_sides}
 use Rattle.sim_scope.specs.Scopes.{block_at, encloser}
-use Rattle.sim_scope.specs.Source.{Source, block_around, denoted, level_of, line_at, source_of}
+use Rattle.sim_scope.specs.Source.{Source, block_around, denoted, level_of, line_at, source_of, type_at}
 use Rattle.sim_tree.specs.declared.expr.Expr.{Expr}
-use Rattle.sim_tree.specs.declared.expr.Expr.TheVariants as e
 use Rattle.sim_tree.specs.declared.expr.Identifier.{Identifier}
+use Rattle.sim_tree.specs.declared.expr.Selector.{Selector}
 use Rattle.sim_tree.specs.declared.program.BlockPrefix.{BlockPrefix}
 use Rattle.sim_tree.specs.declared.stmt.Activation.{Activation}
 use Rattle.sim_tree.specs.declared.stmt.Assigned.{Assigned}
-use Rattle.sim_tree.specs.declared.stmt.Assignment.{Assignment}
 use Rattle.sim_tree.specs.declared.stmt.Assignment.TheVariants as assignment
 use Rattle.sim_tree.specs.declared.stmt.Block.{Block}
 use Rattle.sim_tree.specs.declared.stmt.Decl.{Decl}
 use Rattle.sim_tree.specs.declared.stmt.ForElement.{ForElement}
-use Rattle.sim_tree.specs.declared.stmt.ForElement.TheVariants as fe
 use Rattle.sim_tree.specs.declared.stmt.ReferenceElement.{ReferenceElement}
 use Rattle.sim_tree.specs.declared.stmt.Stmt.{Stmt}
 use Rattle.sim_tree.specs.declared.stmt.Stmt.TheVariants as t
 use Rattle.sim_tree.specs.declared.stmt.Timing.{Timing}
 use Rattle.sim_tree.specs.declared.stmt.When.{When}
 use Rattle.sim_tree.specs.Syntax as syntax
-use Rattle.sim_tree.specs.Syntax.{Also, Begin, Expression, Expressions, Named, NoStatement, Statement, declarations, expressions, statements}
+use Rattle.sim_tree.specs.Syntax.{Also, Begin, Dot, Expression, Expressions, Named, NoMore, NoStatement, Qua, Statement, declarations, expressions, statements}
 use Rattle.sim_tree.specs.SyntaxOf.{syntax_of}
-use Rattle.sim_tree.specs.SyntaxOfProgram.{block_syntax, declaration_syntax, element_syntax, right_side_syntax, statement_syntax}
+use Rattle.sim_tree.specs.SyntaxOfProgram.{block_syntax, declaration_syntax, element_syntax, reference_element_syntax, right_side_syntax, statement_syntax}
 use Rattle.sim_tree.proofs.ProgramSyntaxLemmas as v
-use Rattle.sim_tree.proofs.SyntaxLemmas as u
 use Rattle.sim_code.specs.declared.instr.Instr.{Instr}
 use Rattle.sim_code.specs.declared.instr.Instr.TheVariants as i
 use Rattle.sim_code.specs.Code.{CodeOf}
-use Rattle.sim_meaning.specs.Statements.{are_values, denoted_leaves, leaves, left_sides, right_side}
+use Rattle.sim_meaning.specs.Statements.{denoted_leaves, leaves}
 use Rattle.codegen_expr.specs.declared.spot.Spot.{Spot}
-use Rattle.codegen_expr.specs.Built.{ActualsBuilt, AreBuilt, IsBuilt, KeyBuilt, NamedBuilt, StandsIn}
-use Rattle.codegen_expr.specs.CodeExpr.{ActualsAt, ElementAt, ExprAt, ExprsAt, NamedAt, block_number, gives, operands}
+use Rattle.codegen_expr.specs.Built.{ActualsBuilt, AreBuilt, IsBuilt, KeyBuilt, NamedBuilt}
+use Rattle.codegen_expr.specs.CodeExpr.{ActualsAt, ExprAt, ExprsAt, NamedAt, block_number, gives}
 use Rattle.codegen_expr.specs.Drafts.{DraftOf, Emits, filled_in, given_up, with_hole, with_instr, with_push}
-use Rattle.codegen_expr.specs.Emit.{PutsNamed, Writes, WritesElement, WritesNamed}
-use Rattle.codegen_expr.specs.Sites.{At, Inside, Is, Pushes, Site, slot_of}
-use Rattle.codegen_expr.proofs.Around.{inside}
+use Rattle.codegen_expr.specs.declared.forms.Form.{Form}
+use Rattle.codegen_expr.specs.declared.forms.Form.TheVariants as form
+use Rattle.codegen_expr.specs.Forms.{FindsForm, IsOther}
+use Rattle.codegen_expr.specs.Emit.{PutsNamed, Writes, WritesNamed}
+use Rattle.codegen_expr.specs.Sites.{At, Is, Pushes, Site, slot_of}
 use Rattle.codegen_expr.proofs.Pieces.{emits_as, emits_at, emits_if, emits_loop, emits_none, emits_nothing, emits_push, emits_then, emits_when}
 use Rattle.codegen.specs.declared.left.Left.{Left}
 use Rattle.codegen.specs.declared.left.Left.TheVariants as left
-use Rattle.codegen.specs.BuiltProgram.{AssignBuilt, BlockBuilt, CalledBuilt, ElementBuilt, EnterBuilt, ForBuilt, LeftBuilt, ListBuilt, StatementBuilt, StatementsBuilt}
-use Rattle.codegen.specs.CodeFor.{ForAt, ListAt, OneElementAt, Variable, is_empty}
-use Rattle.codegen.specs.CodeLeft.{AssignAt, AtAddress, InCell, NotBuilt, Stored, each_stored, stored, stored_of}
-use Rattle.sim_meaning.specs.Closing.{is_text}
+use Rattle.codegen.specs.BuiltProgram.{AssignBuilt, BlockBuilt, CalledBuilt, EnterBuilt, ForBuilt, LeftBuilt, ListBuilt, StatementBuilt, StatementsBuilt, TakesValues}
+use Rattle.codegen.specs.CodeFor.{ForAt, GivesVariable, ListAt, Variable, assigned_by, is_empty}
+use Rattle.codegen.specs.CodeLeft.{AssignAt, InCell, NotBuilt, Stored, ToResult, ToText, AtAddress, each_stored, stored_left}
+use Rattle.sim_meaning.specs.Closing.{is_text, is_text_type}
 use Rattle.codegen.specs.CodeStm.{BlockAt, CalledAt, DropsAt, EnterAt, StmAt, StmsAt}
-use Rattle.codegen.specs.Emit.{OneGoesAt, OwesStatements, WritesAssignment, WritesBlock, WritesCall, WritesCalled, WritesElementOf, WritesFor, WritesList, WritesOne, WritesOneNamed, WritesStatement, WritesStatements}
-use Rattle.codegen.specs.EmitLeft.{FindsIdentifier, FindsLeft, IdentifierIn, IsLeft}
+use Rattle.codegen.specs.Emit.{OwesStatements, WritesAssignment, WritesBlock, WritesCall, WritesCalled, WritesElementOf, WritesFor, WritesGiven, WritesList, WritesOne, WritesStatement, WritesStatements, WritesTakenCall}
+use Rattle.codegen.specs.declared.elements.Element.{Element}
+use Rattle.codegen.specs.declared.elements.Element.TheVariants as view
+use Rattle.codegen.specs.declared.statement.Target.{Target}
+use Rattle.codegen.specs.EmitLeft.{FindsLeft, IsVariable}
+use Rattle.codegen.specs.ForElements.{view_syntax}
 use Rattle.codegen.proofs.Cells.{cell_there}
 use Rattle.codegen.specs.declared.lists.Shared.{Shared}
-use Rattle.codegen.specs.EmitShared.{TurnBuilt, TurnOf, WritesSent, WritesTurn, begins}
+use Rattle.codegen.specs.EmitShared.{Controls, TurnBuilt, TurnOf, WritesSent, WritesTurn, begins, line_in}
+use Rattle.codegen.proofs.Found.{form_at}
+use Rattle.codegen.proofs.Sides.{here}
 use Rattle.codegen.proofs.Cycles.{emits_cycle}
 use Rattle.codegen.proofs.Holes.{as_long, emits_here, longer, longer_hole, longer_push, longer_put}
 
@@ -104,7 +110,7 @@ module _ (b : Bound) (w : Spot) where
       let rs = map right_side_syntax xs in
       let ts = each_stored s (left_sides (syntax_of k) rs) in
       stm_as a d x _ (ap statement_syntax is ∙ v.syntax-Assignment k l ∙ ap (λ z. syntax.Assign (syntax_of k) (map right_side_syntax z)) (sym same))
-      (tick_then (AssignBuilt s w.text (are_values rs) ts (right_side (syntax_of k) rs)) (λ final site. AssignAt s final site 0 (are_values rs) ts (right_side (syntax_of k) rs)) a c d ec f)
+      (tick_then (AssignBuilt s w.text ts (last_value (syntax_of k) rs)) (λ final site. AssignAt s final site 0 ts (last_value (syntax_of k) rs)) a c d ec f)
 
   pub write_when : (c c0 c1 c2 c3 c4 : DraftOf) (x : Stmt) (k : TokenNo) (h : Expr) (p : Box Stmt Global) (o : Option (Box Stmt Global)) (y : Stmt) (jump : ℕ) (end : ℤ) → x ≡ t.If k h p o → o ≡ None → y ≡ p.value → c0 ≡ with_instr c i.Tick 0
       → Writes b w 0 c0 c1 h → jump ≡ length c1.instrs → c2 ≡ with_hole c1 → WritesStatement b w c2 c3 y → end ≡ pos (length c3.instrs) → c4 ≡ filled_in c3 jump (i.JumpF end) → WritesStatement b w c c4 x
@@ -147,9 +153,6 @@ module _ (b : Bound) (w : Spot) where
 
   pub write_inner : (a c : DraftOf) (x : Stmt) (k : TokenNo) → x ≡ t.Inner k → c ≡ given_up a → WritesStatement b w a c x
   write_inner a c x k is ec = unbuilt a c x _ (ap statement_syntax is ∙ v.syntax-Inner k) (λ z. z) ec
-
-  pub write_references : (a c : DraftOf) (x : Stmt) (k : TokenNo) (y : Identifier) (n : TokenNo) (l : Vec ReferenceElement Global) (p : Box Stmt Global) → x ≡ t.ForReference k y n l p → c ≡ given_up a → WritesStatement b w a c x
-  write_references a c x k y n l p is ec = unbuilt a c x _ (ap statement_syntax is ∙ v.syntax-ForReference k y n l p) (λ z. z) ec
 
   pub write_inspect : (a c : DraftOf) (x : Stmt) (k : TokenNo) (h : Expr) (n : TokenNo) (p : Box Stmt Global) (m : TokenNo) (o : Option (Box Stmt Global)) → x ≡ t.Inspect k h n p m o → c ≡ given_up a → WritesStatement b w a c x
   write_inspect a c x k h n p m o is ec = unbuilt a c x _ (ap statement_syntax is ∙ v.syntax-Inspect k h n p m o) (λ z. z) ec
@@ -222,35 +225,40 @@ module _ (b : Bound) (w : Spot) where
 
   -- ---- calls
 
-  pub write_no_name : (a c : DraftOf) (x : Expr) (r : Option (Bor Expr)) → FindsIdentifier (option_copied r) x → r ≡ None → c ≡ given_up a → WritesCall b w a c x
-  unfolding WritesCall FindsIdentifier
-  write_no_name a c x r f none ec = emits_nothing w a c _ _ (no_call (syntax_of x) (λ name es h. subst (λ z. IdentifierIn (option_copied z) x) none f name es h)) ec
-    where
-      no_call : (y : Expression) → ((name : Identifier) (es : Expressions) → y ≡ Named name es → ⊥) → CalledBuilt (source_of b) w.text y → ⊥
-      no_call (syntax.If k h l m) f z = z
-      no_call (syntax.Binary k h l m) f z = z
-      no_call (syntax.Not k h) f z = z
-      no_call (syntax.Signed k h l) f z = z
-      no_call (syntax.Member k h l m) f z = z
-      no_call (syntax.Dot k h l m) f z = z
-      no_call (syntax.Qua k h l) f z = z
-      no_call (syntax.Constant k h) f z = z
-      no_call (Named name es) f z = f name es refl
-      no_call (syntax.This k h) f z = z
-      no_call (syntax.New k h l) f z = z
-      no_call (syntax.Parentheses k h) f z = z
+  no_call : (y : Expression) → IsOther y → CalledBuilt (source_of b) w.text y → ⊥
+  no_call (syntax.If k h l m) f z = z
+  no_call (syntax.Binary k h l m) f z = z
+  no_call (syntax.Not k h) f z = z
+  no_call (syntax.Signed k h l) f z = z
+  no_call (syntax.Member k h l m) f z = z
+  no_call (Dot k h l m) f z = f
+  no_call (Qua k h l) f z = z
+  no_call (syntax.Constant k h) f z = z
+  no_call (Named name es) f z = f
+  no_call (syntax.This k h) f z = z
+  no_call (syntax.New k h l) f z = z
+  no_call (syntax.Parentheses k h) f z = z
 
-  -- the node of an identifier
-  pub named_in : (x : Expr) (r : Option (Bor Expr)) (y : Bor Expr) (name : Identifier) (l : Vec Expr Global) (es : List Expr) → FindsIdentifier (option_copied r) x → r ≡ Some y → y.now ≡ e.Named name l → es ≡ l.items → syntax_of x ≡ Named name (expressions (map syntax_of es))
-  unfolding FindsIdentifier
-  named_in x r y name l es f some is ee =
-      let g : IdentifierIn (Some y.now) x = subst (λ z. IdentifierIn (option_copied z) x) some f in
-      sym g.0 ∙ ap syntax_of is ∙ u.syntax-Named name l ∙ ap (λ z. Named name (expressions (map syntax_of z))) (sym ee)
+  call_as : (a c : DraftOf) (x : Expr) (y : Expression) → syntax_of x ≡ y → Emits w a c (CalledBuilt (source_of b) w.text y) (λ final site p q. (k : ℕ) × CalledAt (source_of b) final site 0 y p k × DropsAt final (leaves (source_of b) y) k q) → WritesCall b w a c x
+  unfolding WritesCall
+  call_as a c x y is f = subst (λ z. Emits w a c (CalledBuilt (source_of b) w.text z) (λ final site p q. (k : ℕ) × CalledAt (source_of b) final site 0 z p k × DropsAt final (leaves (source_of b) z) k q)) (sym is) f
 
-  pub write_named_call : (a c : DraftOf) (x : Expr) (r : Option (Bor Expr)) (y : Bor Expr) (name : Identifier) (l : Vec Expr Global) (es : List Expr) → FindsIdentifier (option_copied r) x → r ≡ Some y → y.now ≡ e.Named name l → es ≡ l.items → WritesCalled b w a c name es → WritesCall b w a c x
-  unfolding WritesCall WritesCalled
-  write_named_call a c x r y name l es f some is ee g =
-      subst (λ z. Emits w a c (CalledBuilt (source_of b) w.text z) (λ final site p q. (k : ℕ) × CalledAt (source_of b) final site 0 z p k × DropsAt final (leaves (source_of b) z) k q)) (sym (named_in x r y name l es f some is ee)) g
+  pub write_named_call : (a c : DraftOf) (x : Expr) (f : Form) (k : Bor Identifier) (l : Bor (List Expr)) → FindsForm f x → f ≡ form.Named k l → WritesCalled b w a c k.now l.now → WritesCall b w a c x
+  unfolding WritesCalled
+  write_named_call a c x f k l h is g = call_as a c x _ (form_at f (form.Named k l) x h is) g
+
+  pub write_taken_call : (a c : DraftOf) (x : Expr) (f : Form) (p : Bor Expr) (l : Bor (List Selector)) → FindsForm f x → f ≡ form.Taken p l → WritesTakenCall b w a c p.now l.now → WritesCall b w a c x
+  unfolding WritesTakenCall
+  write_taken_call a c x f p l h is g = call_as a c x _ (form_at f (form.Taken p l) x h is).0 g
+
+  pub some_taken : (x : Expr) (f : Form) (p : Bor Expr) (l : Bor (List Selector)) → FindsForm f x → f ≡ form.Taken p l → length l.now ≢ 0
+  some_taken x f p l h is = (form_at f (form.Taken p l) x h is).1
+
+  pub write_closed_call : (a c : DraftOf) (x : Expr) (f : Form) (p : Bor Expr) → FindsForm f x → f ≡ form.Closed p → c ≡ given_up a → WritesCall b w a c x
+  write_closed_call a c x f p h is ec = call_as a c x _ (form_at f (form.Closed p) x h is).1 (emits_nothing w a c _ _ (λ z. z) ec)
+
+  pub write_other_call : (a c : DraftOf) (x : Expr) (f : Form) → FindsForm f x → f ≡ form.Other → c ≡ given_up a → WritesCall b w a c x
+  write_other_call a c x f h is ec = call_as a c x (syntax_of x) refl (emits_nothing w a c _ _ (no_call (syntax_of x) (form_at f form.Other x h is)) ec)
 
   -- a value is left, or none, just as is given
   called : (a c d : DraftOf) (x : Identifier) (es : List Expr) (o : Option Denotation) (k : Bool) → o ≡ denoted (source_of b) x.token.0 → k ≡ denoted_leaves (source_of b) o → k ≡ gives (source_of b) o → WritesNamed b w 0 a c x.token o es
@@ -286,174 +294,130 @@ module _ (b : Bound) (w : Spot) where
 
   -- ---- assignments
 
-  pub write_one : (a c : DraftOf) (x v : Expr) (r : Option (Bor Expr)) (y : Bor Expr) (name : Identifier) (l : Vec Expr Global) (es : List Expr) → FindsIdentifier (option_copied r) x → r ≡ Some y → y.now ≡ e.Named name l → es ≡ l.items → WritesOneNamed b w a c name es v → WritesOne b w a c x v
-  unfolding WritesOne WritesOneNamed
-  write_one a c x v r y name l es f some is ee g =
-      let s = source_of b in
-      subst (λ z. Emits w a c (LeftBuilt s w.text (stored s z) × IsBuilt s w.text (syntax_of v)) (λ final site p q. OneGoesAt s final site (stored s z) (syntax_of v) p q)) (sym (named_in x r y name l es f some is ee)) g
+  abbrev Assigns : (a c : DraftOf) → Expr → List Assigned → Type 0
+  Assigns a c x l =
+      Emits w a c (AssignBuilt (source_of b) w.text (each_stored (source_of b) (left_sides (syntax_of x) (map right_side_syntax l))) (last_value (syntax_of x) (map right_side_syntax l)))
+      (λ final site p q. AssignAt (source_of b) final site 0 (each_stored (source_of b) (left_sides (syntax_of x) (map right_side_syntax l))) (last_value (syntax_of x) (map right_side_syntax l)) p q)
 
-  pub no_store : (s : Source) (k : ℕ) (texts : Bool) (y : Expression) → ((name : Identifier) (es : Expressions) → y ≡ Named name es → ⊥) → LeftBuilt s k (stored_of texts s y) → ⊥
-  no_store s k true (syntax.If g h l m) f z = z
-  no_store s k true (syntax.Binary g h l m) f z = z
-  no_store s k true (syntax.Not g h) f z = z
-  no_store s k true (syntax.Signed g h l) f z = z
-  no_store s k true (syntax.Member g h l m) f z = z
-  no_store s k true (syntax.Dot g h l m) f z = z
-  no_store s k true (syntax.Qua g h l) f z = z
-  no_store s k true (syntax.Constant g h) f z = z
-  no_store s k true (Named name es) f z = z
-  no_store s k true (syntax.This g h) f z = z
-  no_store s k true (syntax.New g h l) f z = z
-  no_store s k true (syntax.Parentheses g h) f z = z
-  no_store s k false (syntax.If g h l m) f z = z
-  no_store s k false (syntax.Binary g h l m) f z = z
-  no_store s k false (syntax.Not g h) f z = z
-  no_store s k false (syntax.Signed g h l) f z = z
-  no_store s k false (syntax.Member g h l m) f z = z
-  no_store s k false (syntax.Dot g h l m) f z = z
-  no_store s k false (syntax.Qua g h l) f z = z
-  no_store s k false (syntax.Constant g h) f z = z
-  no_store s k false (Named name es) f z = f name es refl
-  no_store s k false (syntax.This g h) f z = z
-  no_store s k false (syntax.New g h l) f z = z
-  no_store s k false (syntax.Parentheses g h) f z = z
-
-  pub write_no_left : (a c : DraftOf) (x v : Expr) (r : Option (Bor Expr)) → FindsIdentifier (option_copied r) x → r ≡ None → c ≡ given_up a → WritesOne b w a c x v
-  unfolding WritesOne FindsIdentifier
-  write_no_left a c x v r f none ec = emits_nothing w a c _ _ (λ h. no_store (source_of b) w.text (is_text (source_of b) (syntax_of x)) (syntax_of x) (λ name es i. subst (λ z. IdentifierIn (option_copied z) x) none f name es i) h.0) ec
-
-  count : (es : List Expr) → operands (expressions (map syntax_of es)) ≡ length es
-  count [] = refl
-  count (x ∷ xs) = ap suc (count xs)
-
-  -- what a left side is found to be
-  pub left_is : (name : Identifier) (es : List Expr) (n : ℕ) (r r' : Left) → FindsLeft b w name.token n r → n ≡ length es → r ≡ r' → IsLeft (source_of b) w (expressions (map syntax_of es)) (line_at (source_of b) name.token.0) r' (stored (source_of b) (Named name (expressions (map syntax_of es))))
-  unfolding FindsLeft
-  left_is name es n r r' f en er = subst (λ z. IsLeft (source_of b) w (expressions (map syntax_of es)) (line_at (source_of b) name.token.0) z (stored (source_of b) (Named name (expressions (map syntax_of es))))) er (f name (expressions (map syntax_of es)) refl (count es ∙ sym en))
-
-  pub write_one_cell : (c0 c1 c2 : DraftOf) (name : Identifier) (es : List Expr) (v : Expr) (n level slot : ℕ) (r : Left) (x : Instr) → FindsLeft b w name.token n r → n ≡ length es → r ≡ left.Cell level slot → Writes b w 0 c0 c1 v → x ≡ i.Store (pos level) (pos slot) → c2 ≡ with_instr c1 x 0 → WritesOneNamed b w c0 c2 name es v
-  unfolding WritesOneNamed Writes Rattle.codegen_expr.specs.Emit.Puts
-  write_one_cell c0 c1 c2 name es v n level slot r x f en er g ex ec =
-      let s = source_of b in
-      let l = left_is name es n r (left.Cell level slot) f en er in
-      let home = l.0 in
-      let key = l.1 in
-      let built : KeyBuilt s w.text home key = l.3 in
-      let at : x ≡ i.Store (pos (level_of s home)) (pos (slot_of s home key)) = ex ∙ ap (λ z. i.Store (pos z) (pos slot)) l.4 ∙ ap (λ z. i.Store (pos (level_of s home)) (pos z)) l.5 in
-      subst (λ z. Emits w c0 c2 (LeftBuilt s w.text z × IsBuilt s w.text (syntax_of v)) (λ final site p q. OneGoesAt s final site z (syntax_of v) p q)) (sym l.2)
-      (emits_as w _ _ _ _ c0 c2 (λ h. (h.1, tt)) (λ h. (built, h.0)) (λ final site p q stands _ k. (here s home site.text stands built.inside, cell_there s home key built.has, (k.0, k.1, record { line = 0; is = k.2 })))
-      (emits_then w _ ⊤ (λ z site. ExprAt s z site 0 (syntax_of v)) (λ final site p q. At final (i.Store (pos (level_of s home)) (pos (slot_of s home key))) 0 p q) c0 c1 c2 g
-      (emits_at w c1 c2 (i.Store (pos (level_of s home)) (pos (slot_of s home key))) 0 (ec ∙ ap (λ z. with_instr c1 z 0) at) (λ z. cc) refl)))
-    where
-      here : (s : Source) (home text : ℕ) → text ≡ w.text → StandsIn s w.text home → Inside s.tables text home
-      here s home text stands h = subst (λ z. Inside s.tables z home) (sym stands) (inside s.tables home (length s.tables.blocks) w.text h.found)
-
-  pub write_one_element : (c0 c1 c2 c3 : DraftOf) (name : Identifier) (es : List Expr) (v : Expr) (n : ℕ) (d : DeclNo) (r : Left) → FindsLeft b w name.token n r → n ≡ length es → r ≡ left.Element d → WritesElement b w 0 c0 c1 name.token d es → Writes b w 1 c1 c2 v → c3 ≡ with_instr c2 i.Put 0 → WritesOneNamed b w c0 c3 name es v
-  unfolding WritesOneNamed WritesElement Writes Rattle.codegen_expr.specs.Emit.Puts
-  write_one_element c0 c1 c2 c3 name es v n d r f en er g h ec =
-      let s = source_of b in
-      let xs = expressions (map syntax_of es) in
-      let line = line_at s name.token.0 in
-      let l = left_is name es n r (left.Element d) f en er in
-      subst (λ z. Emits w c0 c3 (LeftBuilt s w.text z × IsBuilt s w.text (syntax_of v)) (λ final site p q. OneGoesAt s final site z (syntax_of v) p q)) (sym l)
-      (emits_as w _ _ _ _ c0 c3 (λ k. (k.0, (k.1, tt))) (λ k. (k.0, k.1.0)) (λ final site p q stands _ k. (k.0, k.1, (k.2.0, k.2.1, record { line = 0; is = k.2.2 })))
-      (emits_then w _ _ (λ final site p q. ElementAt s final site 0 line d xs (λ m n. ExprsAt s final site 1 xs m n) p q) (λ final site p q. (y : ℕ) × ExprAt s final site 1 (syntax_of v) p y × At final i.Put 0 y q) c0 c1 c3 g
-      (emits_then w _ ⊤ (λ z site. ExprAt s z site 1 (syntax_of v)) (λ final site p q. At final i.Put 0 p q) c1 c2 c3 h (emits_at w c2 c3 i.Put 0 ec (λ z. cc) refl))))
-
-  pub write_one_unbuilt : (a c : DraftOf) (name : Identifier) (es : List Expr) (v : Expr) (n : ℕ) (r : Left) → FindsLeft b w name.token n r → n ≡ length es → r ≡ left.NotBuilt → c ≡ given_up a → WritesOneNamed b w a c name es v
-  unfolding WritesOneNamed
-  write_one_unbuilt a c name es v n r f en er ec = emits_nothing w a c _ _ (λ h. left_is name es n r left.NotBuilt f en er h.0) ec
-
-  pub write_single : (a c : DraftOf) (x : Expr) (l : List Assigned) (k : Assigned) → length l ≡ 1 → k ≡ slice_index_or l 0 k → k.sign ≡ assignment.Value → WritesOne b w a c x k.value → WritesAssignment b w a c x l
-  unfolding WritesAssignment WritesOne
-  write_single a c x l k one at is f =
-      let s = source_of b in
-      let t0 = stored s (syntax_of x) in
-      let v0 = syntax_of k.value in
-      subst (λ z. Emits w a c (AssignBuilt s w.text (are_values (map right_side_syntax z)) (each_stored s (left_sides (syntax_of x) (map right_side_syntax z))) (right_side (syntax_of x) (map right_side_syntax z)))
-      (λ final site p q. AssignAt s final site 0 (are_values (map right_side_syntax z)) (each_stored s (left_sides (syntax_of x) (map right_side_syntax z))) (right_side (syntax_of x) (map right_side_syntax z)) p q)) (sym (one_part l k one at))
-      (signed k.sign is)
-    where
-      signed : (g : Assignment) → g ≡ assignment.Value → Emits w a c (AssignBuilt (source_of b) w.text (are_values ((record { sign = g; token = k.token.0; value = syntax_of k.value }) ∷ [])) (stored (source_of b) (syntax_of x) ∷ []) (syntax_of k.value))
-          (λ final site p q. AssignAt (source_of b) final site 0 (are_values ((record { sign = g; token = k.token.0; value = syntax_of k.value }) ∷ [])) (stored (source_of b) (syntax_of x) ∷ []) (syntax_of k.value) p q)
-      signed assignment.Value h = f
-      signed assignment.Reference h = absurd (cc)
-
-  pub write_reference : (a c : DraftOf) (x : Expr) (l : List Assigned) (k : Assigned) → length l ≡ 1 → k ≡ slice_index_or l 0 k → k.sign ≡ assignment.Reference → c ≡ given_up a → WritesAssignment b w a c x l
+  single : (a c : DraftOf) (x : Expr) (l : List Assigned) (k : Assigned) → length l ≡ 1 → k ≡ slice_index_or l 0 k → Assigns a c x (k ∷ []) → WritesAssignment b w a c x l
   unfolding WritesAssignment
-  write_reference a c x l k one at is ec = emits_nothing w a c _ _ (λ h. never k.sign is (subst (λ z. AssignBuilt (source_of b) w.text (are_values (map right_side_syntax z)) (each_stored (source_of b) (left_sides (syntax_of x) (map right_side_syntax z))) (right_side (syntax_of x) (map right_side_syntax z))) (one_part l k one at) h)) ec
-    where
-      never : (g : Assignment) → g ≡ assignment.Reference → AssignBuilt (source_of b) w.text (are_values ((record { sign = g; token = k.token.0; value = syntax_of k.value }) ∷ [])) (stored (source_of b) (syntax_of x) ∷ []) (syntax_of k.value) → ⊥
-      never assignment.Reference h z = z
-      never assignment.Value h z = cc
+  single a c x l k one at f = subst (Assigns a c x) (sym (one_part l k one at)) f
+
+  pub write_single : (a c : DraftOf) (x : Bor Expr) (l : List Assigned) (k : Assigned) → length l ≡ 1 → k ≡ slice_index_or l 0 k → WritesOne b w a c (record { sign = k.sign; token = k.token.0; left = x.now }) k.value → WritesAssignment b w a c x.now l
+  unfolding WritesOne
+  write_single a c x l k one at f = single a c x.now l k one at f
 
   pub write_not_single : (a c : DraftOf) (x : Expr) (l : List Assigned) → length l ≡ 0 → c ≡ given_up a → WritesAssignment b w a c x l
   unfolding WritesAssignment
-  write_not_single a c x l none ec = emits_nothing w a c _ _ (never l none (are_values (map right_side_syntax l))) ec
+  write_not_single a c x l none ec = emits_nothing w a c _ _ (never l none) ec
     where
-      never : (l : List Assigned) → length l ≡ 0 → (v : Bool) → AssignBuilt (source_of b) w.text v (each_stored (source_of b) (left_sides (syntax_of x) (map right_side_syntax l))) (right_side (syntax_of x) (map right_side_syntax l)) → ⊥
-      never [] none true h = h
-      never [] none false h = h
-      never (k ∷ ks) none v h = absurd (omega (arith, none))
+      never : (l : List Assigned) → length l ≡ 0 → AssignBuilt (source_of b) w.text (each_stored (source_of b) (left_sides (syntax_of x) (map right_side_syntax l))) (last_value (syntax_of x) (map right_side_syntax l)) → ⊥
+      never [] none h = h
+      never (k ∷ ks) none h = absurd (omega (arith, none))
 
   -- ---- `for`
 
-  pub write_for_statement : (a c d : DraftOf) (x : Stmt) (k : TokenNo) (y : Identifier) (n : TokenNo) (l : Vec ForElement Global) (es : List ForElement) (p : Box Stmt Global) (z : Stmt) → x ≡ t.For k y n l p → es ≡ l.items → z ≡ p.value → c ≡ with_instr a i.Tick 0 → WritesFor b w c d y es z → WritesStatement b w a d x
-  unfolding WritesFor
-  write_for_statement a c d x k y n l es p z is ee ez ec f =
-      stm_as a d x _ (ap statement_syntax is ∙ v.syntax-For k y n l p ∙ ap (λ m. syntax.For k.0 y assignment.Value n.0 (map element_syntax m) (statement_syntax p.value)) (sym ee) ∙ ap (λ m. syntax.For k.0 y assignment.Value n.0 (map element_syntax es) (statement_syntax m)) (sym ez))
-      (tick_then _ _ a c d ec f)
+  abbrev Fors : (a c : DraftOf) → Identifier → Option (Option ℕ) → List syntax.Element → Statement → Type 0
+  Fors a c y assigned es z =
+      Emits w a c (ForBuilt (source_of b) w.text assigned (stored_left (source_of b) (Named y NoMore)) es (StatementBuilt (source_of b) w.text z))
+      (λ final site p q. ForAt (source_of b) final site 0 assigned (stored_left (source_of b) (Named y NoMore)) (is_empty z) es (λ site. StmAt (source_of b) final site 0 z) p q)
 
-  no_for : (s : Source) (k : ℕ) (t0 : Stored) (es : List syntax.Element) (Body : Type 0) → ForBuilt s k assignment.Value t0 es Body → LeftBuilt s k t0
-  no_for s k (InCell home key) es Body h = h.0
-  no_for s k (AtAddress d es line) es' Body h = absurd h
-  no_for s k NotBuilt es Body h = h
+  -- whether the variable is a text
+  text_is : (y : Identifier) (t u : Bool) → t ≡ is_text_type (type_at (source_of b) y.token.0) → t ≡ u → u ≡ is_text (source_of b) (Named y NoMore)
+  unfolding is_text
+  text_is y k0 u et is = sym is ∙ et
 
-  pub write_for_unbuilt : (a c : DraftOf) (name : Identifier) (n : ℕ) (es : List ForElement) (z : Stmt) (r : Left) → FindsLeft b w name.token n r → n ≡ 0 → r ≡ left.NotBuilt → c ≡ given_up a → WritesFor b w a c name es z
-  unfolding WritesFor
-  write_for_unbuilt a c name n es z r f en er ec = emits_nothing w a c _ _ (λ h. left_is name [] n r left.NotBuilt f en er (no_for (source_of b) w.text _ _ _ h)) ec
-
-  pub write_for_element : (a c : DraftOf) (name : Identifier) (n : ℕ) (es : List ForElement) (z : Stmt) (d : DeclNo) (r : Left) → FindsLeft b w name.token n r → n ≡ 0 → r ≡ left.Element d → c ≡ given_up a → WritesFor b w a c name es z
-  unfolding WritesFor
-  write_for_element a c name n es z d r f en er ec =
-      let l = left_is name [] n r (left.Element d) f en er in
-      emits_nothing w a c _ _ (λ h. subst (λ m. ForBuilt (source_of b) w.text assignment.Value m (map element_syntax es) (StatementBuilt (source_of b) w.text (statement_syntax z))) l h) ec
-
-  pub write_for_cell : (a c : DraftOf) (name : Identifier) (n : ℕ) (es : List ForElement) (z : Stmt) (level slot : ℕ) (r : Left) → FindsLeft b w name.token n r → n ≡ 0 → r ≡ left.Cell level slot → WritesList b w a c level slot es z → WritesFor b w a c name es z
-  unfolding WritesFor WritesList
-  write_for_cell a c name n es z level slot r f en er g =
+  values_as : (a c d : DraftOf) (x : Stmt) (k : TokenNo) (y : Identifier) (n : TokenNo) (l : Vec ForElement Global) (es : List ForElement) (p : Box Stmt Global) (z : Stmt) (k0 u : Bool) → x ≡ t.For k y n l p → es ≡ l.items → z ≡ p.value → c ≡ with_instr a i.Tick 0 → k0 ≡ is_text_type (type_at (source_of b) y.token.0) → k0 ≡ u → Fors c d y (assigned_by u assignment.Value (line_at (source_of b) n.0)) (map element_syntax es) (statement_syntax z) → WritesStatement b w a d x
+  values_as a c d x k y n l es p z k0 u is ee ez ec et eu f =
       let s = source_of b in
-      let l = left_is name [] n r (left.Cell level slot) f en er in
+      stm_as a d x _ (ap statement_syntax is ∙ v.syntax-For k y n l p ∙ ap (λ m. syntax.For k.0 y assignment.Value n.0 (map element_syntax m) (statement_syntax p.value)) (sym ee) ∙ ap (λ m. syntax.For k.0 y assignment.Value n.0 (map element_syntax es) (statement_syntax m)) (sym ez))
+      (tick_then _ _ a c d ec (subst (λ m. Fors c d y (assigned_by m assignment.Value (line_at s n.0)) (map element_syntax es) (statement_syntax z)) (text_is y k0 u et eu) f))
+
+  pub write_for_texts : (a c d : DraftOf) (x : Stmt) (k : TokenNo) (y : Identifier) (n : TokenNo) (l : Vec ForElement Global) (es : List ForElement) (p : Box Stmt Global) (z : Stmt) (k0 : Bool) (line : Line) → x ≡ t.For k y n l p → es ≡ l.items → z ≡ p.value → c ≡ with_instr a i.Tick 0 → k0 ≡ is_text_type (type_at (source_of b) y.token.0) → k0 ≡ true → line.0 ≡ line_at (source_of b) n.0 → WritesFor b w c d y (Some line.0) (map element_syntax es) z → WritesStatement b w a d x
+  unfolding WritesFor
+  write_for_texts a c d x k y n l es p z k0 line is ee ez ec et yes' el f = values_as a c d x k y n l es p z k0 true is ee ez ec et yes' (subst (λ m. Fors c d y (Some (Some m)) (map element_syntax es) (statement_syntax z)) el f)
+
+  pub write_for_values : (a c d : DraftOf) (x : Stmt) (k : TokenNo) (y : Identifier) (n : TokenNo) (l : Vec ForElement Global) (es : List ForElement) (p : Box Stmt Global) (z : Stmt) (k0 : Bool) → x ≡ t.For k y n l p → es ≡ l.items → z ≡ p.value → c ≡ with_instr a i.Tick 0 → k0 ≡ is_text_type (type_at (source_of b) y.token.0) → k0 ≡ false → WritesFor b w c d y None (map element_syntax es) z → WritesStatement b w a d x
+  unfolding WritesFor
+  write_for_values a c d x k y n l es p z k0 is ee ez ec et not' f = values_as a c d x k y n l es p z k0 false is ee ez ec et not' f
+
+  references_as : (a c d : DraftOf) (x : Stmt) (k : TokenNo) (y : Identifier) (n : TokenNo) (l : Vec ReferenceElement Global) (es : List ReferenceElement) (p : Box Stmt Global) (z : Stmt) (k0 u : Bool) → x ≡ t.ForReference k y n l p → es ≡ l.items → z ≡ p.value → c ≡ with_instr a i.Tick 0 → k0 ≡ is_text_type (type_at (source_of b) y.token.0) → k0 ≡ u → Fors c d y (assigned_by u assignment.Reference (line_at (source_of b) n.0)) (map reference_element_syntax es) (statement_syntax z) → WritesStatement b w a d x
+  references_as a c d x k y n l es p z k0 u is ee ez ec et eu f =
+      let s = source_of b in
+      stm_as a d x _ (ap statement_syntax is ∙ v.syntax-ForReference k y n l p ∙ ap (λ m. syntax.For k.0 y assignment.Reference n.0 (map reference_element_syntax m) (statement_syntax p.value)) (sym ee) ∙ ap (λ m. syntax.For k.0 y assignment.Reference n.0 (map reference_element_syntax es) (statement_syntax m)) (sym ez))
+      (tick_then _ _ a c d ec (subst (λ m. Fors c d y (assigned_by m assignment.Reference (line_at s n.0)) (map reference_element_syntax es) (statement_syntax z)) (text_is y k0 u et eu) f))
+
+  pub write_references : (a c d : DraftOf) (x : Stmt) (k : TokenNo) (y : Identifier) (n : TokenNo) (l : Vec ReferenceElement Global) (es : List ReferenceElement) (p : Box Stmt Global) (z : Stmt) (k0 : Bool) → x ≡ t.ForReference k y n l p → es ≡ l.items → z ≡ p.value → c ≡ with_instr a i.Tick 0 → k0 ≡ is_text_type (type_at (source_of b) y.token.0) → k0 ≡ true → WritesFor b w c d y None (map reference_element_syntax es) z → WritesStatement b w a d x
+  unfolding WritesFor
+  write_references a c d x k y n l es p z k0 is ee ez ec et yes' f = references_as a c d x k y n l es p z k0 true is ee ez ec et yes' f
+
+  -- references to objects are not built
+  pub write_objects : (a c d : DraftOf) (x : Stmt) (k : TokenNo) (y : Identifier) (n : TokenNo) (l : Vec ReferenceElement Global) (p : Box Stmt Global) (k0 : Bool) → x ≡ t.ForReference k y n l p → c ≡ with_instr a i.Tick 0 → k0 ≡ is_text_type (type_at (source_of b) y.token.0) → k0 ≡ false → d ≡ given_up c → WritesStatement b w a d x
+  write_objects a c d x k y n l p k0 is ec et not' ed =
+      references_as a c d x k y n l l.items p p.value k0 false is refl refl ec et not' (emits_nothing w c d _ _ (λ h. h) ed)
+
+  no_for : (s : Source) (k : ℕ) (assigned : Option ℕ) (t0 : Stored) (es : List syntax.Element) (Body : Type 0) → ForBuilt s k (Some assigned) t0 es Body → LeftBuilt s k t0
+  no_for s k assigned (InCell home key) es Body h = h.0
+  no_for s k assigned (AtAddress d es line) es' Body h = absurd h
+  no_for s k assigned (ToText e line) es' Body h = absurd h
+  no_for s k assigned (ToResult home line) es' Body h = absurd h
+  no_for s k assigned NotBuilt es Body h = h
+
+  -- what the variable is found to be
+  for_is : (name : Identifier) (r r' : Left) → FindsLeft b w name.token [] r → r ≡ r' → IsVariable (source_of b) w r' (stored_left (source_of b) (Named name NoMore))
+  unfolding FindsLeft
+  for_is name r r' f er = subst (λ z. IsVariable (source_of b) w z (stored_left (source_of b) (Named name NoMore))) er f
+
+  pub write_for_unbuilt : (a c : DraftOf) (name : Identifier) (o : Option ℕ) (es : List syntax.Element) (z : Stmt) (r : Left) → FindsLeft b w name.token [] r → r ≡ left.NotBuilt → c ≡ given_up a → WritesFor b w a c name o es z
+  unfolding WritesFor
+  write_for_unbuilt a c name o es z r f er ec = emits_nothing w a c _ _ (λ h. for_is name r left.NotBuilt f er (no_for (source_of b) w.text o _ _ _ h)) ec
+
+  pub write_for_text : (a c : DraftOf) (name : Identifier) (o : Option ℕ) (es : List syntax.Element) (z : Stmt) (r : Left) → FindsLeft b w name.token [] r → r ≡ left.Text → c ≡ given_up a → WritesFor b w a c name o es z
+  write_for_text a c name o es z r f er ec = absurd (for_is name r left.Text f er)
+
+  pub write_for_result : (a c : DraftOf) (name : Identifier) (o : Option ℕ) (es : List syntax.Element) (z : Stmt) (level slot : ℕ) (r : Left) → FindsLeft b w name.token [] r → r ≡ left.Result level slot → c ≡ given_up a → WritesFor b w a c name o es z
+  write_for_result a c name o es z level slot r f er ec = absurd (for_is name r (left.Result level slot) f er)
+
+  pub write_for_element : (a c : DraftOf) (name : Identifier) (o : Option ℕ) (es : List syntax.Element) (z : Stmt) (token : TokenNo) (d : DeclNo) (xs : Bor (List Expr)) (r : Left) → FindsLeft b w name.token [] r → r ≡ left.Element token d xs → c ≡ given_up a → WritesFor b w a c name o es z
+  unfolding WritesFor
+  write_for_element a c name o es z token d xs r f er ec =
+      let l = for_is name r (left.Element token d xs) f er in
+      emits_nothing w a c _ _ (λ h. subst (λ m. ForBuilt (source_of b) w.text (Some o) m es (StatementBuilt (source_of b) w.text (statement_syntax z))) l h) ec
+
+  pub write_for_cell : (a c : DraftOf) (name : Identifier) (o : Option Line) (es : List syntax.Element) (z : Stmt) (level slot : ℕ) (r : Left) → FindsLeft b w name.token [] r → r ≡ left.Cell level slot → WritesList b w a c (record { level = level; slot = slot; assigned = o }) es z → WritesFor b w a c name (option_map line_in o) es z
+  unfolding WritesFor WritesList
+  write_for_cell a c name o es z level slot r f er g =
+      let s = source_of b in
+      let l = for_is name r (left.Cell level slot) f er in
       let home = l.0 in
       let key = l.1 in
       let built : KeyBuilt s w.text home key = l.3 in
-      let variable : Variable = record { text = home; key = key } in
-      subst (λ m. Emits w a c (ForBuilt s w.text assignment.Value m (map element_syntax es) (StatementBuilt s w.text (statement_syntax z))) (λ final site p q. ForAt s final site 0 assignment.Value m (is_empty (statement_syntax z)) (map element_syntax es) (λ site. StmAt s final site 0 (statement_syntax z)) p q)) (sym l.2)
-      (emits_as w _ _ _ _ a c (λ h. h.1) (λ h. (built, h)) (λ final site p q stands _ k. (here s home site.text stands built.inside, cell_there s home key built.has, k)) (g variable l.4 l.5))
-    where
-      here : (s : Source) (home text : ℕ) → text ≡ w.text → StandsIn s w.text home → Inside s.tables text home
-      here s home text stands h = subst (λ z. Inside s.tables z home) (sym stands) (inside s.tables home (length s.tables.blocks) w.text h.found)
+      let variable : Variable = record { text = home; key = key; assigned = option_map line_in o } in
+      subst (λ m. Emits w a c (ForBuilt s w.text (Some (option_map line_in o)) m es (StatementBuilt s w.text (statement_syntax z))) (λ final site p q. ForAt s final site 0 (Some (option_map line_in o)) m (is_empty (statement_syntax z)) es (λ site. StmAt s final site 0 (statement_syntax z)) p q)) (sym l.2)
+      (emits_as w _ _ _ _ a c (λ h. h.1) (λ h. (built, h)) (λ final site p q stands _ k. (here b w s home site.text stands built.inside, cell_there s home key built.has, k)) (g variable (record { level = l.4; slot = l.5; assigned = refl })))
 
-  pub write_one_of : (a c : DraftOf) (es : List ForElement) (z : Stmt) (level slot : ℕ) (x : ForElement) (on : ℕ) → length es ≡ 1 → x ≡ slice_index_or es 0 x → WritesElementOf b w a c level slot x z None on → WritesList b w a c level slot es z
+  alone : {A : Type 0} (xs : List A) (x : A) → length xs ≡ 1 → slice_get xs 0 ≡ Some x → xs ≡ x ∷ []
+  alone [] x one at = absurd (omega (arith, one))
+  alone (y ∷ []) x one at = ap (λ z. z ∷ []) (some_is y x at)
+  alone (y ∷ z ∷ zs) x one at = absurd (omega (arith, one))
+
+  pub write_one_of : (a c : DraftOf) (es : List syntax.Element) (z : Stmt) (t0 : Target) (x : syntax.Element) (on m : ℕ) → m ≡ length es → m ≡ 1 → slice_get es 0 ≡ Some x → WritesElementOf b w a c t0 x z None on → WritesList b w a c t0 es z
   unfolding WritesList WritesElementOf
-  write_one_of a c es z level slot x on one at f variable el ek =
+  write_one_of a c es z t0 x on m em one at f variable k =
       let s = source_of b in
-      subst (λ m. Emits w a c (ListBuilt s w.text (map element_syntax m) (StatementBuilt s w.text (statement_syntax z))) (λ final site p q. ListAt s final site 0 variable (is_empty (statement_syntax z)) (map element_syntax m) (λ site. StmAt s final site 0 (statement_syntax z)) p q)) (sym (one_part es x one at))
-      (f variable el ek (omega arith)).2
+      subst (λ m. Emits w a c (ListBuilt s w.text variable.assigned m (StatementBuilt s w.text (statement_syntax z))) (λ final site p q. ListAt s final site 0 variable (is_empty (statement_syntax z)) m (λ site. StmAt s final site 0 (statement_syntax z)) p q)) (sym (alone es x (sym em ∙ one) at))
+      (f variable k (omega arith)).2
 
-  pub write_no_element : (a c : DraftOf) (es : List ForElement) (z : Stmt) (level slot : ℕ) → length es ≡ 0 → c ≡ given_up a → WritesList b w a c level slot es z
+  pub write_no_element : (a c : DraftOf) (es : List syntax.Element) (z : Stmt) (t0 : Target) (m : ℕ) → m ≡ length es → m ≡ 0 → c ≡ given_up a → WritesList b w a c t0 es z
   unfolding WritesList
-  write_no_element a c es z level slot none ec variable el ek = emits_nothing w a c _ _ (never es none) ec
+  write_no_element a c es z t0 m em none ec variable k = emits_nothing w a c _ _ (never es (sym em ∙ none)) ec
     where
-      never : (es : List ForElement) → length es ≡ 0 → ListBuilt (source_of b) w.text (map element_syntax es) (StatementBuilt (source_of b) w.text (statement_syntax z)) → ⊥
+      never : (es : List syntax.Element) → length es ≡ 0 → ListBuilt (source_of b) w.text variable.assigned es (StatementBuilt (source_of b) w.text (statement_syntax z)) → ⊥
       never [] none h = h
       never (x ∷ xs) none h = absurd (omega (arith, none))
 
-  element_as : (a c : DraftOf) (level slot : ℕ) (x : ForElement) (z : Stmt) (k : Option Shared) (on : ℕ) (y : syntax.Element) → element_syntax x ≡ y
-      → ((m : Variable) → level ≡ level_of (source_of b) m.text → slot ≡ slot_of (source_of b) m.text m.key → begins k ≤ length a.instrs → (length a.instrs ≤ on) × (on ≤ length c.instrs) × Emits w a c (ElementBuilt (source_of b) w.text y × TurnBuilt (source_of b) w.text (statement_syntax z) k) (λ final site p q. OneElementAt (source_of b) final site 0 m y (TurnOf (source_of b) final site w.used (statement_syntax z) k on) p q))
-      → WritesElementOf b w a c level slot x z k on
-  unfolding WritesElementOf
-  element_as a c level slot x z k on y is f m el ek le = subst (λ n. (length a.instrs ≤ on) × (on ≤ length c.instrs) × Emits w a c (ElementBuilt (source_of b) w.text n × TurnBuilt (source_of b) w.text (statement_syntax z) k) (λ final site p q. OneElementAt (source_of b) final site 0 m n (TurnOf (source_of b) final site w.used (statement_syntax z) k on) p q)) (sym is) (f m el ek le)
+  element_as : (a c : DraftOf) (t0 : Target) (x y : syntax.Element) (z : Stmt) (k : Option Shared) (on : ℕ) → x ≡ y → WritesElementOf b w a c t0 y z k on → WritesElementOf b w a c t0 x z k on
+  element_as a c t0 x y z k on is f = subst (λ n. WritesElementOf b w a c t0 n z k on) (sym is) f
 
   pub turn_whole : (a c : DraftOf) (z : Stmt) (k : Option Shared) (on : ℕ) → k ≡ None → WritesStatement b w a c z → on ≡ length c.instrs → WritesTurn b w a c z k on
   unfolding WritesTurn WritesStatement
@@ -463,11 +427,11 @@ module _ (b : Bound) (w : Spot) where
   unfolding WritesTurn WritesSent
   turn_sent a c z k m on is f at = subst (λ n. (on ≡ length c.instrs) × (begins n ≤ length a.instrs → Emits w a c (TurnBuilt (source_of b) w.text (statement_syntax z) n) (λ final site p q. TurnOf (source_of b) final site w.used (statement_syntax z) n on p q))) (sym is) (at, λ le. emits_here w _ _ _ a c (λ final site stands r. (r, sym at)) (f le))
 
-  store_of : (s : Source) (k : Variable) (level slot : ℕ) (x : Instr) → level ≡ level_of s k.text → slot ≡ slot_of s k.text k.key → x ≡ i.Store (pos level) (pos slot) → x ≡ i.Store (pos (level_of s k.text)) (pos (slot_of s k.text k.key))
-  store_of s k level slot x el ek ex = ex ∙ ap (λ z. i.Store (pos z) (pos slot)) el ∙ ap (λ z. i.Store (pos (level_of s k.text)) (pos z)) ek
+  store_of : (s : Source) (k : Variable) (t0 : Target) (x : Instr) → Controls s t0 k → x ≡ i.Store (pos t0.level) (pos t0.slot) → x ≡ i.Store (pos (level_of s k.text)) (pos (slot_of s k.text k.key))
+  store_of s k t0 x c ex = ex ∙ ap (λ z. i.Store (pos z) (pos t0.slot)) c.level ∙ ap (λ z. i.Store (pos (level_of s k.text)) (pos z)) c.slot
 
-  load_of : (s : Source) (k : Variable) (level slot : ℕ) (x : Instr) → level ≡ level_of s k.text → slot ≡ slot_of s k.text k.key → x ≡ i.Load (pos level) (pos slot) → x ≡ i.Load (pos (level_of s k.text)) (pos (slot_of s k.text k.key))
-  load_of s k level slot x el ek ex = ex ∙ ap (λ z. i.Load (pos z) (pos slot)) el ∙ ap (λ z. i.Load (pos (level_of s k.text)) (pos z)) ek
+  load_of : (s : Source) (k : Variable) (t0 : Target) (x : Instr) → Controls s t0 k → x ≡ i.Load (pos t0.level) (pos t0.slot) → x ≡ i.Load (pos (level_of s k.text)) (pos (slot_of s k.text k.key))
+  load_of s k t0 x c ex = ex ∙ ap (λ z. i.Load (pos z) (pos t0.slot)) c.level ∙ ap (λ z. i.Load (pos (level_of s k.text)) (pos z)) c.slot
 
   abbrev StoresAt : Source → Variable → Place
   StoresAt s k final site p q = At final (i.Store (pos (level_of s k.text)) (pos (slot_of s k.text k.key))) 0 p q
@@ -475,61 +439,73 @@ module _ (b : Bound) (w : Spot) where
   emits_store : (s : Source) (a c : DraftOf) (k : Variable) (x : Instr) → x ≡ i.Store (pos (level_of s k.text)) (pos (slot_of s k.text k.key)) → c ≡ with_instr a x 0 → Emits w a c ⊤ (StoresAt s k)
   emits_store s a c k x ex ec = emits_at w a c (i.Store (pos (level_of s k.text)) (pos (slot_of s k.text k.key))) 0 (ec ∙ ap (λ z. with_instr a z 0) ex) (λ z. cc) refl
 
-  pub write_once : (c0 c1 c2 c3 c4 : DraftOf) (level slot : ℕ) (x : ForElement) (h : Expr) (z : Stmt) (n : Instr) (turn : Option Shared) (on : ℕ) → x ≡ fe.Value h → c1 ≡ with_instr c0 i.Tick 0 → Writes b w 0 c1 c2 h → n ≡ i.Store (pos level) (pos slot) → c3 ≡ with_instr c2 n 0 → WritesTurn b w c3 c4 z turn on → WritesElementOf b w c0 c4 level slot x z turn on
-  unfolding Writes Rattle.codegen_expr.specs.Emit.Puts WritesTurn
-  write_once c0 c1 c2 c3 c4 level slot x h z n turn on is e1 f en e3 g =
+  pub write_once : (c0 c1 c2 c3 : DraftOf) (t0 : Target) (x : Element) (h : Bor Expr) (z : Stmt) (turn : Option Shared) (on : ℕ) → x ≡ view.Once h → c1 ≡ with_instr c0 i.Tick 0 → WritesGiven b w c1 c2 t0 h.now → WritesTurn b w c2 c3 z turn on → WritesElementOf b w c0 c3 t0 (view_syntax x) z turn on
+  unfolding WritesGiven WritesTurn WritesElementOf
+  write_once c0 c1 c2 c3 t0 x h z turn on is e1 f g =
       let s = source_of b in
-      element_as c0 c4 level slot x z turn on (syntax.Once (syntax_of h)) (ap element_syntax is) (λ k el ek le.
+      element_as c0 c3 t0 (view_syntax x) (syntax.Once (syntax_of h.now)) z turn on (ap view_syntax is) (λ k ct le.
+      let given = f k ct in
       let n1 = longer_put c0 c1 i.Tick 0 e1 in
-      let n2 = longer w c1 c2 _ _ f in
-      let n3 = longer_put c2 c3 n 0 e3 in
-      let go = g.1 (omega (arith, le, n1, n2, n3)) in
-      let n4 = longer w c3 c4 _ _ go in
+      let n2 = longer w c1 c2 _ _ given in
+      let go = g.1 (omega (arith, le, n1, n2)) in
+      let n4 = longer w c2 c3 _ _ go in
       let at = g.0 in (
-        omega (arith, at, n1, n2, n3, n4),
+        omega (arith, at, n1, n2, n4),
         omega (arith, at),
-        emits_as w _ _ _ _ c0 c4 (λ m. (m.0, (tt, m.1))) (λ m. (m.0, m.1.1)) (λ final site p q _ _ r. record { x = r.0; y = r.2.0; z = r.2.2.0; tick = r.1; value = r.2.1; stored = record { line = 0; is = r.2.2.1 }; turn = r.2.2.2 })
-            (tick_then _ _ c0 c1 c4 e1
-            (emits_then w _ _ (λ m site. ExprAt s m site 0 (syntax_of h)) (λ m site p q. (y : ℕ) × StoresAt s k m site p y × TurnOf s m site w.used (statement_syntax z) turn on y q) c1 c2 c4 f
-            (emits_then w ⊤ _ (StoresAt s k) (λ m site p q. TurnOf s m site w.used (statement_syntax z) turn on p q) c2 c3 c4 (emits_store s c2 c3 k n (store_of s k level slot n el ek en) e3) go))),
+        emits_as w _ _ _ _ c0 c3 (λ m. m) (λ m. m) (λ final site p q _ _ r. record { x = r.0; z = r.2.0; tick = r.1; given = r.2.1; turn = r.2.2 })
+            (tick_then _ _ c0 c1 c3 e1
+            (emits_then w _ _ (λ m site. GivesVariable s m site 0 k (syntax_of h.now)) (λ m site p q. TurnOf s m site w.used (statement_syntax z) turn on p q) c1 c2 c3 given go)),
       ))
 
-  pub write_while_element : (c0 c1 c2 c3 c4 c5 c6 c7 c8 : DraftOf) (level slot : ℕ) (x : ForElement) (h m : Expr) (token : TokenNo) (z : Stmt) (n : Instr) (start end : ℤ) (jump : ℕ) (turn : Option Shared) (on : ℕ) → x ≡ fe.While h token m → start ≡ pos (length c0.instrs) → c1 ≡ with_instr c0 i.Tick 0 → Writes b w 0 c1 c2 h → n ≡ i.Store (pos level) (pos slot) → c3 ≡ with_instr c2 n 0
-      → Writes b w 0 c3 c4 m → jump ≡ length c4.instrs → c5 ≡ with_hole c4 → WritesTurn b w c5 c6 z turn on → c7 ≡ with_instr c6 (i.Jump start) 0 → end ≡ pos (length c7.instrs) → c8 ≡ filled_in c7 jump (i.JumpF end) → WritesElementOf b w c0 c8 level slot x z turn on
-  unfolding Writes Rattle.codegen_expr.specs.Emit.Puts WritesTurn
-  write_while_element c0 c1 c2 c3 c4 c5 c6 c7 c8 level slot x h m token z n start end jump turn on is es e1 f en e3 g ej e5 j e7 ee e8 =
+  pub write_while_element : (c0 c1 c2 c4 c5 c6 c7 c8 : DraftOf) (t0 : Target) (x : Element) (h m : Bor Expr) (token : TokenNo) (z : Stmt) (start end : ℤ) (jump : ℕ) (turn : Option Shared) (on : ℕ) → x ≡ view.While token h m → start ≡ pos (length c0.instrs) → c1 ≡ with_instr c0 i.Tick 0 → WritesGiven b w c1 c2 t0 h.now
+      → Writes b w 0 c2 c4 m.now → jump ≡ length c4.instrs → c5 ≡ with_hole c4 → WritesTurn b w c5 c6 z turn on → c7 ≡ with_instr c6 (i.Jump start) 0 → end ≡ pos (length c7.instrs) → c8 ≡ filled_in c7 jump (i.JumpF end) → WritesElementOf b w c0 c8 t0 (view_syntax x) z turn on
+  unfolding Writes Rattle.codegen_expr.specs.Emit.Puts WritesGiven WritesTurn WritesElementOf
+  write_while_element c0 c1 c2 c4 c5 c6 c7 c8 t0 x h m token z start end jump turn on is es e1 f g ej e5 j e7 ee e8 =
       let s = source_of b in
-      element_as c0 c8 level slot x z turn on (syntax.While (syntax_of h) token.0 (syntax_of m)) (ap element_syntax is) (λ k el ek le.
+      element_as c0 c8 t0 (view_syntax x) (syntax.While (syntax_of h.now) token.0 (syntax_of m.now)) z turn on (ap view_syntax is) (λ k ct le.
+      let given = f k ct in
       let n1 = longer_put c0 c1 i.Tick 0 e1 in
-      let n2 = longer w c1 c2 _ _ f in
-      let n3 = longer_put c2 c3 n 0 e3 in
-      let n4 = longer w c3 c4 _ _ g in
+      let n2 = longer w c1 c2 _ _ given in
+      let n4 = longer w c2 c4 _ _ g in
       let n5 = longer_hole c4 c5 e5 in
-      let go = j.1 (omega (arith, le, n1, n2, n3, n4, n5)) in
+      let go = j.1 (omega (arith, le, n1, n2, n4, n5)) in
       let n6 = longer w c5 c6 _ _ go in
       let n7 = longer_put c6 c7 (i.Jump start) 0 e7 in
       let n8 = as_long c7 c8 jump (i.JumpF end) e8 in
       let at = j.0 in (
-        omega (arith, at, n1, n2, n3, n4, n5, n6),
+        omega (arith, at, n1, n2, n4, n5, n6),
         omega (arith, at, n7, n8),
-        emits_as w _ _ _ _ c0 c8 (λ o. ((o.0.0, (tt, o.0.1)), o.1)) (λ o. ((o.0.0, o.0.1.1), o.1))
-            (λ final site p q _ _ r. record { x = r.test.0; y = r.test.2.0; z = r.test.2.2.0; u = r.y; b = r.z; w = r.v; tick = r.test.1; value = r.test.2.1; stored = record { line = 0; is = r.test.2.2.1 }; test = r.test.2.2.2; jump = r.jump; leads = r.leads; turn = r.body; «back» = r.«back»; behind = r.behind })
+        emits_as w _ _ _ _ c0 c8 (λ o. o) (λ o. o)
+            (λ final site p q _ _ r. record { x = r.test.0; z = r.test.2.0; u = r.y; b = r.z; w = r.v; tick = r.test.1; given = r.test.2.1; test = r.test.2.2; jump = r.jump; leads = r.leads; turn = r.body; «back» = r.«back»; behind = r.behind })
             (emits_cycle w _ _ _ (λ o site p q. TurnOf s o site w.used (statement_syntax z) turn on p q) c0 c4 c5 c6 c7 c8 start end jump es
             (tick_then _ _ c0 c1 c4 e1
-            (emits_then w _ _ (λ o site. ExprAt s o site 0 (syntax_of h)) (λ o site p q. (y : ℕ) × StoresAt s k o site p y × ExprAt s o site 0 (syntax_of m) y q) c1 c2 c4 f
-            (emits_then w ⊤ _ (StoresAt s k) (λ o site. ExprAt s o site 0 (syntax_of m)) c2 c3 c4 (emits_store s c2 c3 k n (store_of s k level slot n el ek en) e3) g)))
+            (emits_then w _ _ (λ o site. GivesVariable s o site 0 k (syntax_of h.now)) (λ o site. ExprAt s o site 0 (syntax_of m.now)) c1 c2 c4 given g))
             ej e5 go e7 ee e8),
       ))
 
-  pub write_step : (c0 c1 c2 c3 c4 c5 c6 c7 c8 c9 c10 c11 c12 c13 c14 c15 c16 : DraftOf) (level slot line : ℕ) (x : ForElement) (h m o : Expr) (token : TokenNo) (z : Stmt) (n1 n2 n3 n4 : Instr) (test end : ℤ) (jump : ℕ) (turn : Option Shared) (on : ℕ) → x ≡ fe.Step h token m o
-      → Writes b w 0 c0 c1 h → n1 ≡ i.Store (pos level) (pos slot) → c2 ≡ with_instr c1 n1 0 → Writes b w 0 c2 c3 m → test ≡ pos (length c3.instrs) → c4 ≡ with_instr c3 i.Tick 0 → n2 ≡ i.Load (pos level) (pos slot) → c5 ≡ with_push c4 1 n2 0 → Writes b w 2 c5 c6 o → c7 ≡ with_instr c6 i.StepTest 0
-      → jump ≡ length c7.instrs → c8 ≡ with_hole c7 → WritesTurn b w c8 c9 z turn on → Writes b w 0 c9 c10 m → c11 ≡ with_push c10 1 i.Dup 0 → n3 ≡ i.Load (pos level) (pos slot) → c12 ≡ with_push c11 2 n3 0 → line ≡ line_at (source_of b) token.0 → c13 ≡ with_instr c12 i.Add line → n4 ≡ i.Store (pos level) (pos slot) → c14 ≡ with_instr c13 n4 0
-      → c15 ≡ with_instr c14 (i.Jump test) 0 → end ≡ pos (length c15.instrs) → c16 ≡ filled_in c15 jump (i.JumpF end) → WritesElementOf b w c0 c16 level slot x z turn on
-  unfolding Writes Rattle.codegen_expr.specs.Emit.Puts WritesTurn
-  write_step c0 c1 c2 c3 c4 c5 c6 c7 c8 c9 c10 c11 c12 c13 c14 c15 c16 level slot line x h m o token z n1 n2 n3 n4 test end jump turn on is f1 en1 e2 f3 et e4 en2 e5 f6 e7 ej e8 f9 f10 e11 en3 e12 el13 e13 en4 e14 e15 ee e16 =
+  -- steps are over values
+  pub write_no_step : (a c : DraftOf) (t0 : Target) (x : Element) (h m o : Bor Expr) (token : TokenNo) (z : Stmt) (turn : Option Shared) (on : ℕ) (r : Bool) → x ≡ view.Step h token m o → r ≡ is_some t0.assigned → r ≡ true → c ≡ given_up a → on ≡ length c.instrs → WritesElementOf b w a c t0 (view_syntax x) z turn on
+  unfolding WritesElementOf
+  write_no_step a c t0 x h m o token z turn on r is er yes' ec at =
+      element_as a c t0 (view_syntax x) (syntax.Step (syntax_of h.now) token.0 (syntax_of m.now) (syntax_of o.now)) z turn on (ap view_syntax is) (λ k ct le.
+      let none = emits_nothing w a c _ _ (λ q. no_values t0.assigned k.assigned ct.assigned (sym er ∙ yes') q.0.0) ec in
+      let n1 = longer w a c _ _ none in (omega (arith, at, n1), omega (arith, at), none))
+    where
+      no_values : (o : Option Line) (u : Option ℕ) → option_map line_in o ≡ u → is_some o ≡ true → TakesValues u → ⊥
+      no_values None u e s q = cc
+      no_values (Some line) None e s q = cc
+      no_values (Some line) (Some n) e s q = q
+
+  pub write_step : (c0 c1 c2 c3 c4 c5 c6 c7 c8 c9 c10 c11 c12 c13 c14 c15 c16 : DraftOf) (t0 : Target) (line : ℕ) (x : Element) (h m o : Bor Expr) (token : TokenNo) (z : Stmt) (n1 n2 n3 n4 : Instr) (test end : ℤ) (jump : ℕ) (turn : Option Shared) (on : ℕ) (r0 : Bool) → x ≡ view.Step h token m o → r0 ≡ is_some t0.assigned → r0 ≡ false
+      → Writes b w 0 c0 c1 h.now → n1 ≡ i.Store (pos t0.level) (pos t0.slot) → c2 ≡ with_instr c1 n1 0 → Writes b w 0 c2 c3 m.now → test ≡ pos (length c3.instrs) → c4 ≡ with_instr c3 i.Tick 0 → n2 ≡ i.Load (pos t0.level) (pos t0.slot) → c5 ≡ with_push c4 1 n2 0 → Writes b w 2 c5 c6 o.now → c7 ≡ with_instr c6 i.StepTest 0
+      → jump ≡ length c7.instrs → c8 ≡ with_hole c7 → WritesTurn b w c8 c9 z turn on → Writes b w 0 c9 c10 m.now → c11 ≡ with_push c10 1 i.Dup 0 → n3 ≡ i.Load (pos t0.level) (pos t0.slot) → c12 ≡ with_push c11 2 n3 0 → line ≡ line_at (source_of b) token.0 → c13 ≡ with_instr c12 i.Add line → n4 ≡ i.Store (pos t0.level) (pos t0.slot) → c14 ≡ with_instr c13 n4 0
+      → c15 ≡ with_instr c14 (i.Jump test) 0 → end ≡ pos (length c15.instrs) → c16 ≡ filled_in c15 jump (i.JumpF end) → WritesElementOf b w c0 c16 t0 (view_syntax x) z turn on
+  unfolding Writes Rattle.codegen_expr.specs.Emit.Puts WritesTurn WritesElementOf
+  write_step c0 c1 c2 c3 c4 c5 c6 c7 c8 c9 c10 c11 c12 c13 c14 c15 c16 t0 line x h m o token z n1 n2 n3 n4 test end jump turn on r0 is er0 no0 f1 en1 e2 f3 et e4 en2 e5 f6 e7 ej e8 f9 f10 e11 en3 e12 el13 e13 en4 e14 e15 ee e16 =
       let s = source_of b in
       let at = line_at s token.0 in
-      element_as c0 c16 level slot x z turn on (syntax.Step (syntax_of h) token.0 (syntax_of m) (syntax_of o)) (ap element_syntax is) (λ k el ek le.
+      element_as c0 c16 t0 (view_syntax x) (syntax.Step (syntax_of h.now) token.0 (syntax_of m.now) (syntax_of o.now)) z turn on (ap view_syntax is) (λ k ct le.
+      let takes : k.assigned ≡ None = sym ct.assigned ∙ ap (option_map line_in) (no_line t0.assigned (sym er0 ∙ no0)) in
       let t1 = longer w c0 c1 _ _ f1 in
       let t2 = longer_put c1 c2 n1 0 e2 in
       let t3 = longer w c2 c3 _ _ f3 in
@@ -552,8 +528,8 @@ module _ (b : Bound) (w : Spot) where
         omega (arith, there, t1, t2, t3, t4, t5, t6, t7, t8, t9),
         omega (arith, there, t10, t11, t12, t13, t14, t15, t16),
         emits_as w _ _ _ _ c0 c16
-            (λ j. (j.0.0, (tt, (j.0.1, ((tt, (j.0.2, tt)), (j.1, (j.0.1, (tt, (tt, (tt, tt))))))))))
-            (λ j. ((j.0, j.1.1.0, j.1.1.1.0.1.0), j.1.1.1.1.0))
+            (λ j. (j.0.1, (tt, (j.0.2, ((tt, (j.0.3, tt)), (j.1, (j.0.2, (tt, (tt, (tt, tt))))))))))
+            (λ j. ((subst TakesValues (sym takes) tt, j.0, j.1.1.0, j.1.1.1.0.1.0), j.1.1.1.1.0))
             (λ final site p q _ _ r.
             let first = r.2.2.2 in
             record {
@@ -571,6 +547,7 @@ module _ (b : Bound) (w : Spot) where
               l = first.body.2.2.2.0;
               m = first.body.2.2.2.2.0;
               w = first.v;
+              takes = takes;
               first = r.1;
               stored = record { line = 0; is = r.2.1 };
               first_step = r.2.2.1;
@@ -589,21 +566,25 @@ module _ (b : Bound) (w : Spot) where
               «back» = first.«back»;
               behind = first.behind;
             })
-            (emits_then w _ _ (λ j site. ExprAt s j site 0 (syntax_of h)) _ c0 c1 c16 f1
-            (emits_then w ⊤ _ (StoresAt s k) _ c1 c2 c16 (emits_store s c1 c2 k n1 (store_of s k level slot n1 el ek en1) e2)
-            (emits_then w _ _ (λ j site. ExprAt s j site 0 (syntax_of m)) _ c2 c3 c16 f3
+            (emits_then w _ _ (λ j site. ExprAt s j site 0 (syntax_of h.now)) _ c0 c1 c16 f1
+            (emits_then w ⊤ _ (StoresAt s k) _ c1 c2 c16 (emits_store s c1 c2 k n1 (store_of s k t0 n1 ct en1) e2)
+            (emits_then w _ _ (λ j site. ExprAt s j site 0 (syntax_of m.now)) _ c2 c3 c16 f3
             (emits_cycle w _ _ _ _ c3 c7 c8 c14 c15 c16 test end jump et
             (tick_then _ _ c3 c4 c7 e4
-            (emits_then w ⊤ _ (λ j site p q. Pushes j site 1 load p q) _ c4 c5 c7 (emits_push w c4 c5 1 load 0 (e5 ∙ ap (λ j. with_push c4 1 j 0) (load_of s k level slot n2 el ek en2)) (λ j. cc) refl)
-            (emits_then w _ ⊤ (λ j site. ExprAt s j site 2 (syntax_of o)) (λ j site p q. At j i.StepTest 0 p q) c5 c6 c7 f6 (emits_at w c6 c7 i.StepTest 0 e7 (λ j. cc) refl))))
+            (emits_then w ⊤ _ (λ j site p q. Pushes j site 1 load p q) _ c4 c5 c7 (emits_push w c4 c5 1 load 0 (e5 ∙ ap (λ j. with_push c4 1 j 0) (load_of s k t0 n2 ct en2)) (λ j. cc) refl)
+            (emits_then w _ ⊤ (λ j site. ExprAt s j site 2 (syntax_of o.now)) (λ j site p q. At j i.StepTest 0 p q) c5 c6 c7 f6 (emits_at w c6 c7 i.StepTest 0 e7 (λ j. cc) refl))))
             ej e8
             (emits_then w _ _ (λ j site p q. TurnOf s j site w.used (statement_syntax z) turn on p q) _ c8 c9 c14 go
-            (emits_then w _ _ (λ j site. ExprAt s j site 0 (syntax_of m)) _ c9 c10 c14 f10
+            (emits_then w _ _ (λ j site. ExprAt s j site 0 (syntax_of m.now)) _ c9 c10 c14 f10
             (emits_then w ⊤ _ (λ j site p q. Pushes j site 1 i.Dup p q) _ c10 c11 c14 (emits_push w c10 c11 1 i.Dup 0 e11 (λ j. cc) refl)
-            (emits_then w ⊤ _ (λ j site p q. Pushes j site 2 load p q) _ c11 c12 c14 (emits_push w c11 c12 2 load 0 (e12 ∙ ap (λ j. with_push c11 2 j 0) (load_of s k level slot n3 el ek en3)) (λ j. cc) refl)
+            (emits_then w ⊤ _ (λ j site p q. Pushes j site 2 load p q) _ c11 c12 c14 (emits_push w c11 c12 2 load 0 (e12 ∙ ap (λ j. with_push c11 2 j 0) (load_of s k t0 n3 ct en3)) (λ j. cc) refl)
             (emits_then w ⊤ ⊤ (λ j site p q. At j i.Add at p q) (StoresAt s k) c12 c13 c14 (emits_at w c12 c13 i.Add at (e13 ∙ ap (λ j. with_instr c12 i.Add j) el13) (λ j. cc) refl)
-            (emits_store s c13 c14 k n4 (store_of s k level slot n4 el ek en4) e14))))))
+            (emits_store s c13 c14 k n4 (store_of s k t0 n4 ct en4) e14))))))
             e15 ee e16)))),
       ))
+    where
+      no_line : (o : Option Line) → is_some o ≡ false → o ≡ None
+      no_line None e = refl
+      no_line (Some line) e = absurd (cc)
 
-pub ruleset writes = (write_empty, write_block, write_call, write_assigned, write_when, write_while, write_for_statement, write_prefixed, write_inner, write_references, write_inspect, write_inspect_when, write_activation, write_body, write_nowhere, write_outermost, write_elsewhere, write_entry, write_no_name, write_named_call, write_dropped, write_kept, write_lost, write_stays, write_one, write_no_left, write_one_cell, write_one_element, write_one_unbuilt, write_single, write_reference, write_for_unbuilt, write_for_element, write_for_cell, write_one_of, write_no_element, write_not_single, write_once, write_while_element, turn_whole, turn_sent)
+pub ruleset writes = (write_empty, write_block, write_call, write_assigned, write_when, write_while, write_for_texts, write_for_values, write_references, write_objects, write_prefixed, write_inner, write_inspect, write_inspect_when, write_activation, write_body, write_nowhere, write_outermost, write_elsewhere, write_entry, write_named_call, write_taken_call, some_taken, write_closed_call, write_other_call, write_dropped, write_kept, write_lost, write_stays, write_single, write_not_single, write_for_unbuilt, write_for_text, write_for_result, write_for_element, write_for_cell, write_one_of, write_no_element, write_once, write_while_element, write_no_step, turn_whole, turn_sent)

@@ -15,6 +15,7 @@ use Rattle.sim_tree.specs.Syntax.{Heading, Statement}
 use Rattle.sim_code.specs.declared.code.BlockKind.TheVariants as kind
 use Rattle.sim_code.specs.Code.{BlockOf, CodeOf}
 use Rattle.sim_code.specs.Running.{AllRun}
+use Rattle.sim_meaning.specs.Constants.{constants_of}
 use Rattle.sim_meaning.specs.Meaning.{has_result}
 use Rattle.sim_meaning.specs.Texts.{BlockText, ClassText, ConnectionText, PrefixedText, ProcedureText, Text, is_class_kind, text}
 use Rattle.codegen_expr.specs.CodeExpr.{block_number, blocks_before, is_connection}
@@ -121,8 +122,8 @@ named_gives (Some (type_name.Reference i class)) = refl
 -- ---- what is found
 
 -- the code of these blocks and instructions
-abbrev whole_code : List BlockOf → DraftOf → CodeOf
-whole_code blocks new = record { texts = []; blocks = blocks; classes = []; thunks = []; actual_lists = []; instrs = new.instrs }
+abbrev whole_code : Bound → List BlockOf → DraftOf → CodeOf
+whole_code b blocks new = record { texts = constants_of (source_of b); blocks = blocks; classes = []; thunks = []; actual_lists = []; instrs = new.instrs }
 
 module _ (b : Bound) (new : DraftOf) (blocks : List BlockOf) where
   built_whole : Compiles b new blocks → ProgramBuilt (source_of b) → new.whole ≡ true
@@ -133,9 +134,9 @@ module _ (b : Bound) (new : DraftOf) (blocks : List BlockOf) where
   unfolding Compiles WritesProgram
   as_many f w = let e = f.3 f.1 in ap length e.blocks ∙ e.counted w
 
-  coded : Compiles b new blocks → new.whole ≡ true → TextsCoded (source_of b) (whole_code blocks new) 0 (texts_of (source_of b)) blocks
+  coded : Compiles b new blocks → new.whole ≡ true → TextsCoded (source_of b) (whole_code b blocks new) 0 (texts_of (source_of b)) blocks
   unfolding Compiles WritesProgram
-  coded f w = let e = f.3 f.1 in subst (λ z. TextsCoded (source_of b) (whole_code blocks new) 0 (texts_of (source_of b)) z) (sym e.blocks) (e.at w (whole_code blocks new) (record { keeps = λ k x is ne. is }))
+  coded f w = let e = f.3 f.1 in subst (λ z. TextsCoded (source_of b) (whole_code b blocks new) 0 (texts_of (source_of b)) z) (sym e.blocks) (e.at w (whole_code b blocks new) (record { keeps = λ k x is ne. is }))
 
   text_at : (k : ℕ) → text (source_of b) k ≡ slice_get (texts_of (source_of b)) k
   unfolding text texts_of
@@ -160,8 +161,8 @@ module _ (b : Bound) (new : DraftOf) (blocks : List BlockOf) where
   fits_there : list_any is_special b.scopes.blocks ≡ false → Compiles b new blocks → new.whole ≡ true → (d : DeclNo) (result : Option SimType) (k : ℕ) → ProcedureThere (source_of b) d result k → ProcedureFits (source_of b) blocks d result k
   unfolding source_of
   fits_there plain f w d result k t =
-      let at = coded_at (source_of b) (whole_code blocks new) (texts_of (source_of b)) blocks 0 k k (ProcedureText t.given t.heading t.body) (omega arith) (coded f w) (sym (text_at k) ∙ t.is) in
-      let h = heads_of (source_of b) (whole_code blocks new) k t.given t.heading t.body at.0 (at.2 plain t.is) in
+      let at = coded_at (source_of b) (whole_code b blocks new) (texts_of (source_of b)) blocks 0 k k (ProcedureText t.given t.heading t.body) (omega arith) (coded f w) (sym (text_at k) ∙ t.is) in
+      let h = heads_of (source_of b) (whole_code b blocks new) k t.given t.heading t.body at.0 (at.2 plain t.is) in
       record { block = at.0; there = at.1; procedure = h.is_kind; gives = ap gives_value h.gives ∙ named_gives t.given ∙ t.same; around = t.around }
 
   pub none_procedures : list_any is_special b.scopes.blocks ≡ false → Compiles b new blocks → new.whole ≡ true → (r : Bool) → Tells r (ProceduresFit b blocks) → r ≡ false → Finds b None
@@ -180,13 +181,17 @@ module _ (b : Bound) (new : DraftOf) (blocks : List BlockOf) where
   unfolding Compiles WritesProgram AllRun
   runs_all f = (f.3 f.1).fits (λ k x is. absurd (let le = within f.0.instrs k x is in let none = f.1 in omega (arith, le, none)))
 
-  has_each : list_any is_special b.scopes.blocks ≡ false → Compiles b new blocks → new.whole ≡ true → length blocks ≡ length b.scopes.blocks → (k : ℕ) (x : Text) → text (source_of b) k ≡ Some x → CodeHas (source_of b) (whole_code blocks new) k x (slice_get blocks (block_number (source_of b) k))
+  has_each : list_any is_special b.scopes.blocks ≡ false → Compiles b new blocks → new.whole ≡ true → length blocks ≡ length b.scopes.blocks → (k : ℕ) (x : Text) → text (source_of b) k ≡ Some x → CodeHas (source_of b) (whole_code b blocks new) k x (slice_get blocks (block_number (source_of b) k))
   unfolding source_of block_number
   has_each plain f w many k x is =
-      let at = coded_at (source_of b) (whole_code blocks new) (texts_of (source_of b)) blocks 0 k k x (omega arith) (coded f w) (sym (text_at k) ∙ is) in
+      let at = coded_at (source_of b) (whole_code b blocks new) (texts_of (source_of b)) blocks 0 k k x (omega arith) (coded f w) (sym (text_at k) ∙ is) in
       let le : k < length blocks = within blocks k at.0 at.1 in
       let number : blocks_before k b.scopes.blocks ≡ k = plain_numbers b.scopes.blocks k plain (omega (arith, le, many)) in
-      subst (λ z. CodeHas (source_of b) (whole_code blocks new) k x z) (sym (ap (slice_get blocks) number ∙ at.1)) (has_code (source_of b) (whole_code blocks new) k x at.0 (at.2 plain is))
+      subst (λ z. CodeHas (source_of b) (whole_code b blocks new) k x z) (sym (ap (slice_get blocks) number ∙ at.1)) (has_code (source_of b) (whole_code b blocks new) k x at.0 (at.2 plain is))
+
+  has_each_of : list_any is_special b.scopes.blocks ≡ false → Compiles b new blocks → new.whole ≡ true → length blocks ≡ length b.scopes.blocks → (ts : List (List ℕ)) → ts ≡ constants_of (source_of b) → (k : ℕ) (x : Text) → text (source_of b) k ≡ Some x → CodeHas (source_of b) (record { texts = ts; blocks = blocks; classes = []; thunks = []; actual_lists = []; instrs = new.instrs }) k x (slice_get blocks (block_number (source_of b) k))
+  has_each_of plain f w many ts et k x is =
+      subst (λ z. CodeHas (source_of b) (record { texts = z; blocks = blocks; classes = []; thunks = []; actual_lists = []; instrs = new.instrs }) k x (slice_get blocks (block_number (source_of b) k))) (sym et) (has_each plain f w many k x is)
 
   procedure_there : list_any is_special b.scopes.blocks ≡ false → Compiles b new blocks → new.whole ≡ true → (d : DeclNo) (result : Option SimType) (k : ℕ) → ProcedureFits (source_of b) blocks d result k → ProcedureThere (source_of b) d result k
   unfolding source_of
@@ -195,9 +200,9 @@ module _ (b : Bound) (new : DraftOf) (blocks : List BlockOf) where
       let same = as_many f w in
       let x = at_index (texts_of (source_of b)) k (omega (arith, le, same)) in
       let is : text (source_of b) k ≡ Some x.0 = text_at k ∙ x.1 in
-      let at = coded_at (source_of b) (whole_code blocks new) (texts_of (source_of b)) blocks 0 k k x.0 (omega arith) (coded f w) x.1 in
+      let at = coded_at (source_of b) (whole_code b blocks new) (texts_of (source_of b)) blocks 0 k k x.0 (omega arith) (coded f w) x.1 in
       let blk : at.0 ≡ p.block = some_same at.0 p.block (sym at.1 ∙ p.there) in
-      let r = procedural (source_of b) (whole_code blocks new) k x.0 at.0 (at.2 plain is) (ap (λ z. z.kind) blk ∙ p.procedure) in
+      let r = procedural (source_of b) (whole_code b blocks new) k x.0 at.0 (at.2 plain is) (ap (λ z. z.kind) blk ∙ p.procedure) in
       record {
         given = r.0;
         heading = r.1;
@@ -207,9 +212,9 @@ module _ (b : Bound) (new : DraftOf) (blocks : List BlockOf) where
         same = sym (named_gives r.0) ∙ ap gives_value (sym r.4.gives ∙ ap (λ z. z.result_type) blk) ∙ p.gives;
       }
 
-  pub code_found : list_any is_special b.scopes.blocks ≡ false → Compiles b new blocks → new.whole ≡ true → length blocks ≡ length b.scopes.blocks → encloser b.scopes 0 ≡ None → (r q : Bool) → Tells r (LevelsFit b) → r ≡ true → Tells q (ProceduresFit b blocks) → q ≡ true → Finds b (Some (whole_code blocks new))
-  unfolding Finds Tells LevelsFit LevelFits ProceduresFit FitsAt source_of Rattle.sim_meaning.specs.Meaning.constants_of
-  code_found plain f w many outer r q fr er fq eq =
+  pub code_found : list_any is_special b.scopes.blocks ≡ false → Compiles b new blocks → new.whole ≡ true → length blocks ≡ length b.scopes.blocks → encloser b.scopes 0 ≡ None → (r q : Bool) → Tells r (LevelsFit b) → r ≡ true → Tells q (ProceduresFit b blocks) → q ≡ true → (ts : List (List ℕ)) → ts ≡ constants_of (source_of b) → Finds b (Some (record { texts = ts; blocks = blocks; classes = []; thunks = []; actual_lists = []; instrs = new.instrs }))
+  unfolding Finds Tells LevelsFit LevelFits ProceduresFit FitsAt source_of
+  code_found plain f w many outer r q fr er fq eq ts et =
       let levels : LevelsFit b = subst (λ z. Tells z (LevelsFit b)) er fr in
       let procedures : ProceduresFit b blocks = subst (λ z. Tells z (ProceduresFit b blocks)) eq fq in
       let agrees : Agrees (source_of b) = record {
@@ -218,7 +223,7 @@ module _ (b : Bound) (new : DraftOf) (blocks : List BlockOf) where
         levels = λ t u is. levels t u is;
         procedures = λ d result k is. procedure_there plain f w d result k (procedures d result k is);
       } in
-      (record { agrees = agrees; texts = refl; each = has_each plain f w many }, runs_all f, record { texts = all_built f w; plain = plain; agrees = agrees })
+      (record { agrees = agrees; texts = et; each = has_each_of plain f w many ts et }, runs_all f, record { texts = all_built f w; plain = plain; agrees = agrees })
 
 pub none_special : (b : Bound) (t : Bool) → t ≡ list_any is_special b.scopes.blocks → t ≡ true → Finds b None
 unfolding Finds source_of

@@ -1,5 +1,5 @@
 -- Which code stands for a `for` list, whose variable is a cell.
-use Rattle.std.specs.Prelude.{◌≡◌, ◌<◌, ◌≤◌, ℕ, suc, Bool, true, false, pos, List, [], ◌∷◌, length, slice_get, Some}
+use Rattle.std.specs.Prelude.{◌≡◌, ◌<◌, ◌≤◌, ℕ, suc, Bool, true, false, pos, List, [], ◌∷◌, length, slice_get, Option, Some, None}
 use Rattle.sim_scope.specs.Source.{Source, level_of, line_at}
 use Rattle.sim_tree.specs.declared.stmt.Assignment.{Assignment}
 use Rattle.sim_tree.specs.declared.stmt.Assignment.TheVariants as assignment
@@ -12,10 +12,19 @@ use Rattle.codegen_expr.specs.Sites.{Ahead, At, HasCell, Inside, Is, Pushes, Sit
 use Rattle.codegen_expr.specs.CodeExpr.{ExprAt}
 use Rattle.codegen.specs.CodeLeft.{InCell, Stored}
 
--- the variable: the text in which it is declared, and its key
+-- The variable: the text in which it is declared, its key, and whether it takes values, or its text gets the characters of others, with the
+-- line of the sign.
 pub record Variable : Type 0 where
   pub text : ℕ
   pub key : Key
+  pub assigned : Option ℕ
+
+-- which of both it is, by whether the variable is a text, and by the sign; of references it is not built
+abbrev pub assigned_by : (text : Bool) → Assignment → (line : ℕ) → Option (Option ℕ)
+assigned_by true assignment.Value line = Some (Some line)
+assigned_by true assignment.Reference line = Some None
+assigned_by false assignment.Value line = Some None
+assigned_by false assignment.Reference line = None
 
 abbrev pub StoresVariable : Source → CodeOf → Variable → ℕ → ℕ → Type 0
 StoresVariable s code v p q = Is code (i.Store (pos (level_of s v.text)) (pos (slot_of s v.text v.key))) p q
@@ -23,26 +32,30 @@ StoresVariable s code v p q = Is code (i.Store (pos (level_of s v.text)) (pos (s
 abbrev pub LoadsVariable : Source → CodeOf → Site → ℕ → Variable → ℕ → ℕ → Type 0
 LoadsVariable s code site n v p q = Pushes code site n (i.Load (pos (level_of s v.text)) (pos (slot_of s v.text v.key))) p q
 
+-- the value of an expression goes to the variable
+abbrev pub GivesBy : Source → CodeOf → Site → ℕ → Variable → (assigned : Option ℕ) → Expression → ℕ → ℕ → Type 0
+GivesBy s code site n v None e p q = (x : ℕ) × ExprAt s code site n e p x × StoresVariable s code v x q
+GivesBy s code site n v (Some line) e p q = (x : ℕ) × (y : ℕ) × LoadsVariable s code site n v p x × ExprAt s code site (suc n) e x y × At code i.AssignT line y q
+
+abbrev pub GivesVariable : Source → CodeOf → Site → ℕ → Variable → Expression → ℕ → ℕ → Type 0
+GivesVariable s code site n v e p q = GivesBy s code site n v v.assigned e p q
+
 -- Turn stands for the code of one turn: from where the variable has its value and the test is passed, to where the element goes on.
 pub record OnceAt (s : Source) (code : CodeOf) (site : Site) (n : ℕ) (v : Variable) (e : Expression) (Turn : ℕ → ℕ → Type 0) (p q : ℕ) : Type 0 where
   pub x : ℕ
-  pub y : ℕ
   pub z : ℕ
   pub tick : Is code i.Tick p x
-  pub value : ExprAt s code site n e x y
-  pub stored : StoresVariable s code v y z
+  pub given : GivesVariable s code site n v e x z
   pub turn : Turn z q
 
 pub record WhileElementAt (s : Source) (code : CodeOf) (site : Site) (n : ℕ) (v : Variable) (e c : Expression) (Turn : ℕ → ℕ → Type 0) (p q : ℕ) : Type 0 where
   pub x : ℕ
-  pub y : ℕ
   pub z : ℕ
   pub u : ℕ
   pub b : ℕ
   pub w : ℕ
   pub tick : Is code i.Tick p x
-  pub value : ExprAt s code site n e x y
-  pub stored : StoresVariable s code v y z
+  pub given : GivesVariable s code site n v e x z
   pub test : ExprAt s code site n c z u
   pub jump : Is code (i.JumpF (pos q)) u b
   pub leads : Ahead code u q
@@ -50,7 +63,7 @@ pub record WhileElementAt (s : Source) (code : CodeOf) (site : Site) (n : ℕ) (
   pub back : Is code (i.Jump (pos p)) w q
   pub behind : p ≤ w
 
--- the first value and the first step; the test, over the step; a turn; the step once more, which stays for the test, and the sum
+-- over a variable that takes values: the first value and the first step; the test, over the step; a turn; the step once more, which stays for the test, and the sum
 pub record StepAt (s : Source) (code : CodeOf) (site : Site) (n : ℕ) (v : Variable) (start : Expression) (line : ℕ) (step limit : Expression) (Turn : ℕ → ℕ → Type 0) (p q : ℕ) : Type 0 where
   pub a : ℕ
   pub b : ℕ
@@ -66,6 +79,7 @@ pub record StepAt (s : Source) (code : CodeOf) (site : Site) (n : ℕ) (v : Vari
   pub l : ℕ
   pub m : ℕ
   pub w : ℕ
+  pub takes : v.assigned ≡ None
   pub first : ExprAt s code site n start p a
   pub stored : StoresVariable s code v a b
   pub first_step : ExprAt s code site n step b t
@@ -150,6 +164,7 @@ ListAt s code site n v empty (e ∷ []) Body p q = OneElementAt s code site n v 
 ListAt s code site n v true es Body p q = ElementsAt s code site n v 0 es (λ k. Body site) p q
 ListAt s code site n v false es Body p q = SharedAt s code site n v es Body p q
 
-abbrev pub ForAt : Source → CodeOf → Site → ℕ → Assignment → Stored → (empty : Bool) → List Element → (Body : Site → ℕ → ℕ → Type 0) → ℕ → ℕ → Type 0
-ForAt s code site n assignment.Value (InCell text key) empty es Body p q = Inside s.tables site.text text × HasCell s text key × ListAt s code site n (record { text = text; key = key }) empty es Body p q
+abbrev pub ForAt : Source → CodeOf → Site → ℕ → (assigned : Option (Option ℕ)) → Stored → (empty : Bool) → List Element → (Body : Site → ℕ → ℕ → Type 0) → ℕ → ℕ → Type 0
+ForAt s code site n (Some assigned) (InCell text key) empty es Body p q =
+    Inside s.tables site.text text × HasCell s text key × ListAt s code site n (record { text = text; key = key; assigned = assigned }) empty es Body p q
 ForAt s code site n _ _ empty es Body p q = ⊥

@@ -1,5 +1,5 @@
 -- Which code stands for an assignment.
-use Rattle.std.specs.Prelude.{◌≡◌, ◌<◌, ◌≤◌, ℕ, suc, Bool, true, false, pos, List, [], ◌∷◌, reverse, Option, Some}
+use Rattle.std.specs.Prelude.{◌≡◌, ◌<◌, ◌≤◌, ℕ, suc, Bool, true, false, pos, List, [], ◌∷◌, reverse, Option, Some, None}
 use Rattle.sim_base.specs.declared.numbering.DeclNo.{DeclNo}
 use Rattle.sim_scope.specs.declared.scopes.Denotation.{Denotation}
 use Rattle.sim_scope.specs.declared.scopes.Denotation.TheVariants as denotation
@@ -9,21 +9,27 @@ use Rattle.sim_scope.specs.declared.types.FormalKind.{FormalKind}
 use Rattle.sim_scope.specs.declared.types.FormalKind.TheVariants as shape
 use Rattle.sim_scope.specs.declared.types.Mode.{Mode}
 use Rattle.sim_scope.specs.declared.types.Mode.TheVariants as mode
+use Rattle.sim_scope.specs.Assignments.{LeftSide}
 use Rattle.sim_scope.specs.Scopes.{entry_of}
 use Rattle.sim_scope.specs.Source.{Source, block_of, denoted, level_of, line_at}
+use Rattle.sim_tree.specs.declared.stmt.Assignment.{Assignment}
+use Rattle.sim_tree.specs.declared.stmt.Assignment.TheVariants as assignment
 use Rattle.sim_tree.specs.Syntax.{Expression, Expressions, NoMore, Then}
 use Rattle.sim_tree.specs.Syntax as syntax
 use Rattle.sim_code.specs.declared.instr.Instr.TheVariants as i
 use Rattle.sim_code.specs.Code.{CodeOf}
-use Rattle.sim_meaning.specs.Closing.{is_text}
+use Rattle.sim_meaning.specs.Closing.{is_text, own_result}
 use Rattle.sim_meaning.specs.Pending.{Declared, Key, Result}
-use Rattle.codegen_expr.specs.Sites.{HasCell, Inside, Is, Pushes, Site, slot_of}
+use Rattle.codegen_expr.specs.Sites.{At, HasCell, Inside, Is, Pushes, Site, slot_of}
 use Rattle.codegen_expr.specs.CodeExpr.{ElementAt, ExprAt, ExprsAt}
 
--- What a left side is in code: a cell, by its level and its slot; an address on the stack; or not built.
+-- What a left side is in code: a cell, by its level and its slot; an address on the stack; a text on the stack to which a text is assigned,
+-- which is the value of an expression or lies in the cell of the result of a procedure; or not built.
 pub data Stored : Type 0 where
   InCell : (text : ℕ) → Key → Stored
   AtAddress : DeclNo → Expressions → (line : ℕ) → Stored
+  ToText : Expression → (line : ℕ) → Stored
+  ToResult : (text line : ℕ) → Stored
   NotBuilt : Stored
 
 abbrev pub stored_variable : Source → DeclNo → Expressions → Stored
@@ -55,38 +61,65 @@ abbrev pub stored_named : Source → Option Denotation → Expressions → (line
 stored_named s (Some (denotation.Declared d)) es line = stored_declared s d es line (entry_of s.tables d)
 stored_named s _ es line = NotBuilt
 
-abbrev pub stored_of : (text : Bool) → Source → Expression → Stored
-stored_of false s (syntax.Named name es) = stored_named s (denoted s name.token.0) es (line_at s name.token.0)
-stored_of _ s e = NotBuilt
+-- a variable as a left side
+abbrev pub stored_left : Source → Expression → Stored
+stored_left s (syntax.Named name es) = stored_named s (denoted s name.token.0) es (line_at s name.token.0)
+stored_left s e = NotBuilt
 
-abbrev pub stored : Source → Expression → Stored
-stored s e = stored_of (is_text s e) s e
+-- a text to which a text is assigned, with the line of the sign
+abbrev pub stored_text : Option ℕ → Expression → (line : ℕ) → Stored
+stored_text None e line = ToText e line
+stored_text (Some block) e line = ToResult block line
 
--- the addresses of left sides, from left to right, each on one value more
+abbrev pub stored_of : (text : Bool) → Assignment → Source → (line : ℕ) → Expression → Stored
+stored_of true assignment.Value s line e = stored_text (own_result s e) e line
+stored_of true assignment.Reference s line e = stored_left s e
+stored_of false assignment.Value s line e = stored_left s e
+stored_of false assignment.Reference s line e = NotBuilt
+
+-- a left side, with the line of its sign
+abbrev pub stored : Source → Assignment → (line : ℕ) → Expression → Stored
+stored s sign line e = stored_of (is_text s e) sign s line e
+
+-- the text in the cell of the result of a procedure
+pub record ResultAt (s : Source) (code : CodeOf) (site : Site) (n text p q : ℕ) : Type 0 where
+  pub load : Pushes code site n (i.Load (pos (level_of s text)) (pos (slot_of s text Result))) p q
+  pub inside : Inside s.tables site.text text
+  pub within : HasCell s text Result
+
+-- the addresses and the texts of left sides, from left to right, each on one value more
 abbrev pub LeftsAt : Source → CodeOf → Site → ℕ → List Stored → (end : ℕ → ℕ → ℕ → Type 0) → ℕ → ℕ → Type 0
 LeftsAt s code site n [] End p q = End n p q
 LeftsAt s code site n (InCell text key ∷ rest) End p q = Inside s.tables site.text text × HasCell s text key × LeftsAt s code site n rest End p q
 LeftsAt s code site n (AtAddress d es line ∷ rest) End p q =
     (x : ℕ) × ElementAt s code site n line d es (ExprsAt s code site (suc n) es) p x × LeftsAt s code site (suc n) rest End x q
+LeftsAt s code site n (ToText e line ∷ rest) End p q = (x : ℕ) × ExprAt s code site n e p x × LeftsAt s code site (suc n) rest End x q
+LeftsAt s code site n (ToResult text line ∷ rest) End p q = (x : ℕ) × ResultAt s code site n text p x × LeftsAt s code site (suc n) rest End x q
 LeftsAt s code site n (NotBuilt ∷ rest) End p q = ⊥
 
 -- the value on top goes to one left side
 abbrev pub StoreAt : Source → CodeOf → Stored → ℕ → ℕ → Type 0
 StoreAt s code (InCell text key) p q = Is code (i.Store (pos (level_of s text)) (pos (slot_of s text key))) p q
 StoreAt s code (AtAddress d es line) p q = Is code i.Put p q
+StoreAt s code (ToText e line) p q = At code i.AssignT line p q
+StoreAt s code (ToResult text line) p q = At code i.AssignT line p q
 StoreAt s code NotBuilt p q = ⊥
 
 abbrev pub addresses : List Stored → ℕ
 addresses [] = 0
 addresses (AtAddress d es line ∷ rest) = suc (addresses rest)
+addresses (ToText e line ∷ rest) = suc (addresses rest)
+addresses (ToResult text line ∷ rest) = suc (addresses rest)
 addresses (_ ∷ rest) = addresses rest
 
--- how many values are left where one left side has its value: one fewer behind an address
+-- how many values are left where one left side has its value: one fewer behind an address or a text
 abbrev pub below : Stored → ℕ → ℕ
 below (AtAddress d es line) (suc n) = n
+below (ToText e line) (suc n) = n
+below (ToResult text line) (suc n) = n
 below _ n = n
 
--- It goes to several, the last one first, from a temp of its own; the addresses that still wait are among the n values.
+-- It goes to several, the last one first, from a temp of its own; the addresses and texts that still wait are among the n values.
 abbrev pub GivesAt : Source → CodeOf → Site → (temp n : ℕ) → List Stored → ℕ → ℕ → Type 0
 GivesAt s code site temp n [] p q = q ≡ p
 GivesAt s code site temp n (t ∷ rest) p q =
@@ -107,10 +140,9 @@ abbrev pub GoesAt : Source → CodeOf → Site → Expression → List Stored �
 GoesAt s code site e (t ∷ []) n p q = (x : ℕ) × ExprAt s code site n e p x × StoreAt s code t x q
 GoesAt s code site e ts n p q = SharesAt s code site n e ts p q
 
-abbrev pub each_stored : Source → List Expression → List Stored
+abbrev pub each_stored : Source → List LeftSide → List Stored
 each_stored s [] = []
-each_stored s (e ∷ es) = stored s e ∷ each_stored s es
+each_stored s (l ∷ ls) = stored s l.sign (line_at s l.token) l.target ∷ each_stored s ls
 
-abbrev pub AssignAt : Source → CodeOf → Site → ℕ → (values : Bool) → List Stored → Expression → ℕ → ℕ → Type 0
-AssignAt s code site n true ts e p q = LeftsAt s code site n ts (GoesAt s code site e ts) p q
-AssignAt s code site n false ts e p q = ⊥
+abbrev pub AssignAt : Source → CodeOf → Site → ℕ → List Stored → Expression → ℕ → ℕ → Type 0
+AssignAt s code site n ts e p q = LeftsAt s code site n ts (GoesAt s code site e ts) p q

@@ -1,16 +1,18 @@
 -- Which code stands for a statement. There are n values on the operand stack before it and behind it.
 use Rattle.std.specs.Prelude.{◌≡◌, ℕ, zero, suc, Bool, true, false, pos, Option, Some, None}
+use Rattle.sim_scope.specs.Assignments.{last_value, left_sides}
 use Rattle.sim_scope.specs.Scopes.{encloser}
 use Rattle.sim_scope.specs.Source.{Source, block_around, denoted, line_at}
 use Rattle.sim_tree.specs.Syntax.{Also, Begin, Block, Expression, NoDeclaration, NoMore, NoStatement, Statement, Statements, With}
 use Rattle.sim_tree.specs.Syntax as syntax
 use Rattle.sim_code.specs.declared.instr.Instr.TheVariants as i
 use Rattle.sim_code.specs.Code.{CodeOf}
-use Rattle.sim_meaning.specs.Statements.{are_values, leaves, left_sides, right_side}
+use Rattle.sim_meaning.specs.Closing.{is_text, is_variable, stream_of}
+use Rattle.sim_meaning.specs.Statements.{leaves}
 use Rattle.codegen_expr.specs.Sites.{At, IfAt, Is, LoopAt, Site, WhenAt}
-use Rattle.codegen_expr.specs.CodeExpr.{ActualsAt, ExprAt, ExprsAt, NamedAt, block_number, gives}
-use Rattle.codegen.specs.CodeFor.{ForAt, is_empty}
-use Rattle.codegen.specs.CodeLeft.{AssignAt, each_stored, stored}
+use Rattle.codegen_expr.specs.CodeExpr.{ActualsAt, DotAt, ExprAt, ExprsAt, NamedAt, PlaceAt, block_number, gives}
+use Rattle.codegen.specs.CodeFor.{ForAt, assigned_by, is_empty}
+use Rattle.codegen.specs.CodeLeft.{AssignAt, each_stored, stored_left}
 
 -- ---- statements
 
@@ -25,10 +27,12 @@ EnterAt s code site line None p q = ⊥
 EnterAt s code site line (Some zero) p q = ⊥
 EnterAt s code site line (Some (suc k)) p q = (encloser s.tables (suc k) ≡ Some site.text) × At code (i.Enter (pos (block_number s (suc k)))) line p q
 
--- a call that stands as a statement: an identifier that leaves a value just where its entry or row says so
+-- a call that stands as a statement: an identifier or an attribute that leaves a value just where its entry or row says so
 abbrev pub CalledAt : Source → CodeOf → Site → ℕ → Expression → ℕ → ℕ → Type 0
 CalledAt s code site n (syntax.Named name es) p q =
     (leaves s (syntax.Named name es) ≡ gives s (denoted s name.token.0)) × NamedAt s code site n (line_at s name.token.0) (denoted s name.token.0) es (ExprsAt s code site n es) (ExprsAt s code site (suc n) es) (λ formals. ActualsAt s code site (suc n) (line_at s name.token.0) es formals) p q
+CalledAt s code site n (syntax.Dot token a name es) p q =
+    (leaves s (syntax.Dot token a name es) ≡ gives s (denoted s name.token.0)) × DotAt code site n (line_at s name.token.0) (denoted s name.token.0) (stream_of s a) (is_variable s a) es (PlaceAt s code site n a) (ExprAt s code site n a) (ExprsAt s code site n es) (ExprsAt s code site (suc n) es) p q
 CalledAt s code site n _ p q = ⊥
 
 abbrev mutual
@@ -36,12 +40,12 @@ abbrev mutual
   StmAt s code site n (syntax.Empty token) p q = q ≡ p
   StmAt s code site n (syntax.Compound b) p q = (t : ℕ) × Is code i.Tick p t × BlockAt s code site n b t q
   StmAt s code site n (syntax.Call e) p q = (t : ℕ) × (x : ℕ) × Is code i.Tick p t × CalledAt s code site n e t x × DropsAt code (leaves s e) x q
-  StmAt s code site n (syntax.Assign left rs) p q = (t : ℕ) × Is code i.Tick p t × AssignAt s code site n (are_values rs) (each_stored s (left_sides left rs)) (right_side left rs) t q
+  StmAt s code site n (syntax.Assign left rs) p q = (t : ℕ) × Is code i.Tick p t × AssignAt s code site n (each_stored s (left_sides left rs)) (last_value left rs) t q
   StmAt s code site n (syntax.Choose token c a b) p q = (t : ℕ) × Is code i.Tick p t × BranchAt s code site n b (ExprAt s code site n c) (StmAt s code site n a) t q
   StmAt s code site n (syntax.Repeat token c a) p q =
       (t : ℕ) × (y : ℕ) × (w : ℕ) × Is code i.Tick p t × LoopAt code (ExprAt s code site n c) (StmAt s code site n a) t y w q
   StmAt s code site n (syntax.For token x sign assign es a) p q =
-      (t : ℕ) × Is code i.Tick p t × ForAt s code site n sign (stored s (syntax.Named x NoMore)) (is_empty a) es (λ site. StmAt s code site n a) t q
+      (t : ℕ) × Is code i.Tick p t × ForAt s code site n (assigned_by (is_text s (syntax.Named x NoMore)) sign (line_at s assign)) (stored_left s (syntax.Named x NoMore)) (is_empty a) es (λ site. StmAt s code site n a) t q
   StmAt s code site n _ p q = ⊥
 
   pub BranchAt : Source → CodeOf → Site → ℕ → Statements → (Test First : ℕ → ℕ → Type 0) → ℕ → ℕ → Type 0

@@ -1,11 +1,10 @@
 -- What is written of a statement that several elements share.
-use Rattle.std.specs.Prelude.{◌≡◌, ◌≤◌, ⊤, ◌+◌, ◌*◌, ℕ, suc, pos, true, List, [], ◌∷◌, ◌++◌, drop, length, map, slice_get, Option, Some, None}
+use Rattle.std.specs.Prelude.{◌≡◌, ◌≤◌, ⊤, ◌+◌, ◌*◌, ℕ, suc, pos, true, List, [], ◌∷◌, ◌++◌, drop, length, slice_get, Option, Some, None, option_map}
 use Rattle.sim_scope.specs.declared.bound.Bound.{Bound}
 use Rattle.sim_scope.specs.Source.{Source, level_of, source_of}
 use Rattle.sim_tree.specs.declared.stmt.Stmt.{Stmt}
-use Rattle.sim_tree.specs.Syntax.{Statement}
-use Rattle.sim_tree.specs.SyntaxOfProgram.{element_syntax, statement_syntax}
-use Rattle.sim_tree.specs.declared.stmt.ForElement.{ForElement}
+use Rattle.sim_tree.specs.Syntax.{Element, Statement}
+use Rattle.sim_tree.specs.SyntaxOfProgram.{statement_syntax}
 use Rattle.sim_code.specs.declared.instr.Instr.TheVariants as i
 use Rattle.sim_code.specs.declared.instr.Lined.{Lined}
 use Rattle.sim_code.specs.Code.{CodeOf}
@@ -13,10 +12,25 @@ use Rattle.sim_code.specs.Running.{AllRun}
 use Rattle.codegen_expr.specs.declared.spot.Spot.{Spot}
 use Rattle.codegen_expr.specs.Drafts.{Becomes, DraftOf, Emits, filled_in}
 use Rattle.codegen_expr.specs.Sites.{Ahead, Is, Pushes, Site, lined, slot_of}
+use Rattle.sim_base.specs.declared.numbering.Line.{Line}
 use Rattle.codegen.specs.declared.lists.Shared.{Shared}
+use Rattle.codegen.specs.declared.statement.Target.{Target}
 use Rattle.codegen.specs.BuiltProgram.{ElementBuilt, ElementsBuilt, StatementBuilt}
 use Rattle.codegen.specs.CodeFor.{ElementsAt, OneElementAt, ReturnAt, ReturnsAt, TurnAt, Variable}
 use Rattle.codegen.specs.CodeStm.{StmAt}
+
+-- ---- the controlled variable
+
+abbrev pub line_in : Line → ℕ
+line_in line = line.0
+
+-- a variable, as it is found
+pub record Controls (s : Source) (t : Target) (v : Variable) : Type 0 where
+  pub level : t.level ≡ level_of s v.text
+  pub slot : t.slot ≡ slot_of s v.text v.key
+  pub assigned : option_map line_in t.assigned ≡ v.assigned
+
+-- ---- holes
 
 -- holes at rising places, none before low
 abbrev pub OpenAt : List Lined → (low : ℕ) → List ℕ → Type 0
@@ -30,11 +44,11 @@ JumpsTo code (h ∷ hs) (r ∷ rs) = (slice_get code.instrs h ≡ Some (lined (i
 JumpsTo code _ _ = ⊥
 
 -- the place of a jump back: a test has five instructions, the last of which is its jump; behind the last test there is a jump alone
-abbrev pub hole_before : (chain number : ℕ) → List ForElement → ℕ
+abbrev pub hole_before : (chain number : ℕ) → List Element → ℕ
 hole_before chain k [] = chain + 5 * k
 hole_before chain k (x ∷ xs) = chain + 5 * k + 4
 
-abbrev pub holes_from : (chain number : ℕ) → List ForElement → List ℕ
+abbrev pub holes_from : (chain number : ℕ) → List Element → List ℕ
 holes_from chain k [] = []
 holes_from chain k (x ∷ xs) = hole_before chain k xs ∷ holes_from chain (suc k) xs
 
@@ -85,21 +99,21 @@ unfoldable pub WritesSent : Bound → Spot → (old new : DraftOf) → (start nu
 WritesSent b w old new start number = start ≤ length old.instrs → Emits w old new ⊤ (λ final site p q. SentAt (source_of b) final site w.used start number p q)
 
 -- an element whose turns go to the statement, and the jump back to it is written
-unfoldable pub PutsTurn : Bound → Spot → (old new : DraftOf) → (level slot : ℕ) → ForElement → (start number hole : ℕ) → Type 0
-PutsTurn b w old new level slot x start number hole =
-    (v : Variable) → level ≡ level_of (source_of b) v.text → slot ≡ slot_of (source_of b) v.text v.key → start ≤ length old.instrs
+unfoldable pub PutsTurn : Bound → Spot → (old new : DraftOf) → (target : Target) → Element → (start number hole : ℕ) → Type 0
+PutsTurn b w old new target x start number hole =
+    (v : Variable) → Controls (source_of b) target v → start ≤ length old.instrs
     → (m : DraftOf) × (on : ℕ) × (length old.instrs ≤ on) × (on ≤ length m.instrs) × (new ≡ filled_in m hole (i.Jump (pos on)))
-    × Emits w old m (ElementBuilt (source_of b) w.text (element_syntax x)) (λ final site p q. OneElementAt (source_of b) final site 0 v (element_syntax x) (λ p q. SentAt (source_of b) final site w.used start number p q × (q ≡ on)) p q)
+    × Emits w old m (ElementBuilt (source_of b) w.text v.assigned x) (λ final site p q. OneElementAt (source_of b) final site 0 v x (λ p q. SentAt (source_of b) final site w.used start number p q × (q ≡ on)) p q)
 
-unfoldable pub WritesTurns : Bound → Spot → (old new : DraftOf) → (level slot : ℕ) → List ForElement → (start chain number : ℕ) → Type 0
-WritesTurns b w old new level slot es start chain number =
-    (v : Variable) → level ≡ level_of (source_of b) v.text → slot ≡ slot_of (source_of b) v.text v.key → (low : ℕ) → start ≤ length old.instrs → OpenAt old.instrs low (holes_from chain number es)
-    → Turns w old new (holes_from chain number es) low (ElementsBuilt (source_of b) w.text (map element_syntax es))
-    (λ final site rs p q. (length rs ≡ length es) × ((all : List ℕ) → drop number all ≡ rs → ElementsAt (source_of b) final site 0 v number (map element_syntax es) (TurnAt (source_of b) final site 0 w.used start all) p q))
+unfoldable pub WritesTurns : Bound → Spot → (old new : DraftOf) → (target : Target) → List Element → (start chain number : ℕ) → Type 0
+WritesTurns b w old new target es start chain number =
+    (v : Variable) → Controls (source_of b) target v → (low : ℕ) → start ≤ length old.instrs → OpenAt old.instrs low (holes_from chain number es)
+    → Turns w old new (holes_from chain number es) low (ElementsBuilt (source_of b) w.text v.assigned es)
+    (λ final site rs p q. (length rs ≡ length es) × ((all : List ℕ) → drop number all ≡ rs → ElementsAt (source_of b) final site 0 v number es (TurnAt (source_of b) final site 0 w.used start all) p q))
 
 -- in a loop: what is written of the rest is written of the whole
-unfoldable pub OwesTurns : Bound → Spot → (old : DraftOf) → (level slot : ℕ) → List ForElement → (start chain : ℕ) → (now : DraftOf) → (number : ℕ) → List ForElement → Type 0
-OwesTurns b w old level slot es start chain now k rest = (end : DraftOf) → WritesTurns b w now end level slot rest start chain k → WritesTurns b w old end level slot es start chain 0
+unfoldable pub OwesTurns : Bound → Spot → (old : DraftOf) → (target : Target) → List Element → (start chain : ℕ) → (now : DraftOf) → (number : ℕ) → List Element → Type 0
+OwesTurns b w old target es start chain now k rest = (end : DraftOf) → WritesTurns b w now end target rest start chain k → WritesTurns b w old end target es start chain 0
 
 -- ---- the ways back
 
@@ -109,13 +123,13 @@ PutsReturn b w old new k =
     (length new.instrs ≡ length old.instrs + 5) × (slice_get new.instrs (length old.instrs + 4) ≡ Some (lined i.Halt 0))
     × Emits w old new ⊤ (λ final site p q. (target : ℕ) → slice_get final.instrs (p + 4) ≡ Some (lined (i.Jump (pos target)) 0) → Ahead final (p + 4) target → ReturnAt (source_of b) final site 0 w.used k target p q)
 
-unfoldable pub WritesReturns : Bound → Spot → (old new : DraftOf) → List ForElement → (chain number : ℕ) → Type 0
+unfoldable pub WritesReturns : Bound → Spot → (old new : DraftOf) → List Element → (chain number : ℕ) → Type 0
 WritesReturns b w old new es chain k =
     length old.instrs ≡ chain + 5 * k
     → OpenAt new.instrs (length old.instrs) (holes_from chain k es)
     × Emits w old new ⊤ (λ final site p q. (rs : List ℕ) → JumpsTo final (holes_from chain k es) rs → ReturnsAt (source_of b) final site 0 w.used k rs p q)
 
-unfoldable pub OwesReturns : Bound → Spot → (old : DraftOf) → List ForElement → (now : DraftOf) → (number : ℕ) → List ForElement → Type 0
+unfoldable pub OwesReturns : Bound → Spot → (old : DraftOf) → List Element → (now : DraftOf) → (number : ℕ) → List Element → Type 0
 OwesReturns b w old es now k rest = (end : DraftOf) → WritesReturns b w now end rest (length old.instrs) k → WritesReturns b w old end es (length old.instrs) 0
 
 -- the statement, where one temp more is in use

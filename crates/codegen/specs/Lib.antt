@@ -11,6 +11,7 @@ pub mod Emit
 pub mod EmitArrays
 pub mod EmitSeveral
 pub mod EmitLists
+pub mod ForElements
 pub mod EmitShared
 pub mod EmitProgram
 pub mod EmitCode

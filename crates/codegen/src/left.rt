@@ -1,49 +1,58 @@
 //! Left sides of assignments.
 ghost use Rattle.std.specs.Prelude.{◌≡◌};
-ghost use Rattle.sim_meaning.specs.Closing.{is_text_type};
-ghost use Rattle.sim_scope.specs.Source.{source_of, type_at};
+ghost use Rattle.sim_meaning.specs.Closing.{own_block, own_block_denoted, own_result as own_result_of};
+ghost use Rattle.sim_scope.specs.Calls.{is_inside as is_inside_of};
+ghost use Rattle.sim_scope.specs.Source.{source_of};
+ghost use Rattle.sim_tree.specs.SyntaxOf.{syntax_of};
 ghost use Rattle.codegen_expr.specs.Known.{Known};
-ghost use Rattle.codegen.specs.EmitLeft.{FindsDeclared, FindsElement, FindsFormal, FindsLeft, FindsResult, FindsVariable};
+ghost use Rattle.codegen.specs.EmitLeft.{FindsDeclared, FindsElement, FindsFormal, FindsLeft, FindsOwn, FindsResult, FindsSide, FindsText, FindsVariable, FindsWhole};
 
-use codegen_expr::{Cells, Spot, block_of, denoted, has_result, is_around, level_of, slot_of};
+use codegen_expr::{
+    Cells, Form, Spot, block_of, denoted, form_of, has_result, is_around, is_text, level_of,
+    slot_of,
+};
 use sim_base::{DeclNo, TokenNo};
-use sim_scope::{Bound, Denotation, Entry, FormalKind, Mode, SimType, entry_of};
+use sim_scope::{Bound, Denotation, Entry, FormalKind, Mode, Scopes, entry_of};
+use sim_tree::{Assignment, Expr, Identifier};
 
 /// What a left side is.
-#[derive(Clone, Copy, Debug, PartialEq, Eq)]
-pub(crate) enum Left {
+#[derive(Clone, Copy)]
+pub(crate) enum Left<'a> {
     /// A cell, by the level of its text and its number in the frames of that text.
-    Cell { level: u32, slot: u32 },
-    /// An element of an array.
-    Element(DeclNo),
+    Cell {
+        level: u32,
+        slot: u32,
+    },
+    /// An element of an array. The token is that of the array's identifier.
+    Element {
+        token: TokenNo,
+        array: DeclNo,
+        subscripts: &'a [Expr],
+    },
+    /// The text that is its value.
+    Text,
+    /// The text in the cell of a result.
+    Result {
+        level: u32,
+        slot: u32,
+    },
     /// It is not built.
     NotBuilt,
 }
 
-/// Whether the type at a token is that of a text.
-#[tactic(auto, unfolding(sim_scope::specs::Source::type_at, sim_scope::specs::Source::source_of))]
-fn is_text_at(bound: &Bound, token: TokenNo) -> bool
-    ensures { result ≡ is_text_type (type_at (source_of bound.now) token.0) }
-{
-    match bound.types.get(token.0 as usize) {
-        Some(Some(SimType::Text)) => true,
-        _ => false,
-    }
-}
-
 /// A variable or a parameter that is a value.
 #[tactic(auto, using(crate::proofs::Cells::lefts))]
-fn find_variable(
+fn find_variable<'a>(
     bound: &Bound,
     cells: &Cells,
     spot: Spot,
     declaration: DeclNo,
-    subscripts: usize,
-) -> Left
+    subscripts: &'a [Expr],
+) -> Left<'a>
     requires cells { Known bound.now cells.now }
-    ensures { FindsVariable bound.now spot declaration subscripts result }
+    ensures { FindsVariable bound.now spot declaration subscripts.now result }
 {
-    if subscripts != 0 {
+    if subscripts.len() != 0 {
         return Left::NotBuilt;
     }
     let Some(slot) = slot_of(bound, cells, declaration) else {
@@ -59,24 +68,40 @@ fn find_variable(
     Left::NotBuilt
 }
 
-/// An element of an array.
+/// An element of an array. The token is that of its identifier.
 #[tactic(auto, using(crate::proofs::Cells::lefts))]
-fn find_element(bound: &Bound, spot: Spot, declaration: DeclNo, subscripts: usize) -> Left
-    ensures { FindsElement bound.now spot declaration subscripts result }
+fn find_element<'a>(
+    bound: &Bound,
+    spot: Spot,
+    token: TokenNo,
+    declaration: DeclNo,
+    subscripts: &'a [Expr],
+) -> Left<'a>
+    ensures { FindsElement bound.now spot token declaration subscripts.now result }
 {
-    if subscripts == 0 {
+    if subscripts.len() == 0 {
         return Left::NotBuilt;
     }
-    Left::Element(declaration)
+    Left::Element {
+        token,
+        array: declaration,
+        subscripts,
+    }
 }
 
 /// The result of a procedure, whose cell is the first of its text.
 #[tactic(auto, using(crate::proofs::Cells::lefts))]
-fn find_result(bound: &Bound, cells: &Cells, spot: Spot, text: u32, subscripts: usize) -> Left
+fn find_result<'a>(
+    bound: &Bound,
+    cells: &Cells,
+    spot: Spot,
+    text: u32,
+    subscripts: &'a [Expr],
+) -> Left<'a>
     requires cells { Known bound.now cells.now }
-    ensures { FindsResult bound.now spot text subscripts result }
+    ensures { FindsResult bound.now spot text subscripts.now result }
 {
-    if subscripts != 0 {
+    if subscripts.len() != 0 {
         return Left::NotBuilt;
     }
     if !has_result(bound, cells, text) {
@@ -91,64 +116,65 @@ fn find_result(bound: &Bound, cells: &Cells, spot: Spot, text: u32, subscripts: 
     Left::NotBuilt
 }
 
-/// A formal parameter.
+/// A formal parameter. The token is that of its identifier.
 #[tactic(auto, using(crate::proofs::Cells::lefts))]
-fn find_formal(
+fn find_formal<'a>(
     bound: &Bound,
     cells: &Cells,
     spot: Spot,
+    token: TokenNo,
     declaration: DeclNo,
     mode: Mode,
     kind: FormalKind,
-    subscripts: usize,
-) -> Left
+    subscripts: &'a [Expr],
+) -> Left<'a>
     requires cells { Known bound.now cells.now }
-    ensures { FindsFormal bound.now spot declaration mode kind subscripts result }
+    ensures { FindsFormal bound.now spot token declaration mode kind subscripts.now result }
 {
     match mode {
         Mode::ByName => Left::NotBuilt,
         Mode::ByValue => match kind {
             FormalKind::Simple => find_variable(bound, cells, spot, declaration, subscripts),
-            FormalKind::Array => find_element(bound, spot, declaration, subscripts),
+            FormalKind::Array => find_element(bound, spot, token, declaration, subscripts),
             FormalKind::Procedure => Left::NotBuilt,
         },
         Mode::ByReference => match kind {
             FormalKind::Simple => find_variable(bound, cells, spot, declaration, subscripts),
-            FormalKind::Array => find_element(bound, spot, declaration, subscripts),
+            FormalKind::Array => find_element(bound, spot, token, declaration, subscripts),
             FormalKind::Procedure => Left::NotBuilt,
         },
     }
 }
 
-/// What is declared.
+/// What is declared. The token is that of its identifier.
 #[tactic(auto, using(crate::proofs::Cells::lefts))]
-fn find_declared(
+fn find_declared<'a>(
     bound: &Bound,
     cells: &Cells,
     spot: Spot,
+    token: TokenNo,
     declaration: DeclNo,
-    subscripts: usize,
-) -> Left
+    subscripts: &'a [Expr],
+) -> Left<'a>
     requires cells { Known bound.now cells.now }
-    ensures { FindsDeclared bound.now spot declaration subscripts result }
+    ensures { FindsDeclared bound.now spot token declaration subscripts.now result }
 {
     match entry_of(&bound.scopes, declaration) {
         Some(Entry::Variable(_)) => find_variable(bound, cells, spot, declaration, subscripts),
-        Some(Entry::Array { .. }) => find_element(bound, spot, declaration, subscripts),
+        Some(Entry::Array { .. }) => find_element(bound, spot, token, declaration, subscripts),
         Some(Entry::Formal(formal)) => {
             find_formal(
                 bound,
                 cells,
                 spot,
+                token,
                 declaration,
                 formal.mode,
                 formal.kind,
                 subscripts,
             )
         }
-        Some(Entry::Procedure { block, .. }) => {
-            find_result(bound, cells, spot, block, subscripts)
-        }
+        Some(Entry::Procedure { block, .. }) => find_result(bound, cells, spot, block, subscripts),
         Some(Entry::Constant(_)) => Left::NotBuilt,
         Some(Entry::Class { .. }) => Left::NotBuilt,
         Some(Entry::Virtual { .. }) => Left::NotBuilt,
@@ -157,26 +183,149 @@ fn find_declared(
     }
 }
 
-/// What an identifier is as a left side, by its token and the number of its subscripts.
+/// What an identifier with subscripts, or none, is as a variable.
 #[tactic(auto, using(crate::proofs::Cells::lefts))]
-pub(crate) fn find_left(
+pub(crate) fn find_left<'a>(
     bound: &Bound,
     cells: &Cells,
     spot: Spot,
     token: TokenNo,
-    subscripts: usize,
-) -> Left
+    subscripts: &'a [Expr],
+) -> Left<'a>
     requires cells { Known bound.now cells.now }
-    ensures { FindsLeft bound.now spot token subscripts result }
+    ensures { FindsLeft bound.now spot token subscripts.now result }
 {
-    if is_text_at(bound, token) {
-        return Left::NotBuilt;
-    }
     match denoted(bound, token) {
         Some(Denotation::Declared(declaration)) => {
-            find_declared(bound, cells, spot, declaration, subscripts)
+            find_declared(bound, cells, spot, token, declaration, subscripts)
         }
         Some(Denotation::Standard(_)) => Left::NotBuilt,
         None => Left::NotBuilt,
+    }
+}
+
+/// What an expression is as a variable.
+#[tactic(auto, using(crate::proofs::Found::founds))]
+fn find_whole<'a>(bound: &Bound, cells: &Cells, spot: Spot, left: &'a Expr) -> Left<'a>
+    requires cells { Known bound.now cells.now }
+    ensures { FindsWhole bound.now spot left.now result }
+{
+    match form_of(left) {
+        Form::Named { name, arguments } => find_left(bound, cells, spot, name.token, arguments),
+        Form::Taken { .. } => Left::NotBuilt,
+        Form::Closed { .. } => Left::NotBuilt,
+        Form::Other => Left::NotBuilt,
+    }
+}
+
+/// Whether a token stands in the text of a block.
+#[tactic(auto, unfolding(sim_scope::specs::Calls::is_inside))]
+fn is_inside(scopes: &Scopes, token: TokenNo, block: u32) -> bool
+    ensures { result ≡ is_inside_of scopes.now token.0 block }
+{
+    match scopes.blocks().get(block as usize) {
+        Some(block) => block.first().0 <= token.0 && token.0 < block.end().0,
+        None => false,
+    }
+}
+
+/// The block of the procedure that is declared, if the token stands in its text.
+#[tactic(auto, unfolding(sim_scope::specs::Source::source_of))]
+fn own_entry(bound: &Bound, token: TokenNo, entry: Option<Entry>) -> Option<u32>
+    ensures { result ≡ own_block (source_of bound.now) token.0 entry }
+{
+    match entry {
+        Some(Entry::Procedure { block, .. }) => {
+            if is_inside(&bound.scopes, token, block) {
+                return Some(block);
+            }
+            None
+        }
+        _ => None,
+    }
+}
+
+/// The block of the procedure that is denoted, if the token stands in its text.
+#[tactic(auto, unfolding(sim_scope::specs::Source::source_of))]
+fn own_denoted(bound: &Bound, token: TokenNo, denotation: Option<Denotation>) -> Option<u32>
+    ensures { result ≡ own_block_denoted (source_of bound.now) token.0 denotation }
+{
+    match denotation {
+        Some(Denotation::Declared(declaration)) => {
+            own_entry(bound, token, entry_of(&bound.scopes, declaration))
+        }
+        _ => None,
+    }
+}
+
+/// The block of the procedure whose result an expression is as a left side.
+#[tactic(auto, using(crate::proofs::Found::founds))]
+fn own_result(bound: &Bound, left: &Expr) -> Option<u32>
+    ensures { result ≡ own_result_of (source_of bound.now) (syntax_of left.now) }
+{
+    match form_of(left) {
+        Form::Named { name, arguments } => {
+            if arguments.len() == 0 {
+                return own_denoted(bound, name.token, denoted(bound, name.token));
+            }
+            None
+        }
+        Form::Taken { .. } => None,
+        Form::Closed { .. } => None,
+        Form::Other => None,
+    }
+}
+
+/// The text in the cell of the result of a procedure, which is the first of its text.
+#[tactic(auto, using(crate::proofs::Found::founds))]
+fn find_own<'a>(bound: &Bound, cells: &Cells, spot: Spot, text: u32) -> Left<'a>
+    requires cells { Known bound.now cells.now }
+    ensures { FindsOwn bound.now spot text result }
+{
+    if !has_result(bound, cells, text) {
+        return Left::NotBuilt;
+    }
+    if is_around(&bound.scopes, spot.text, text) {
+        return Left::Result {
+            level: level_of(bound, text),
+            slot: 0,
+        };
+    }
+    Left::NotBuilt
+}
+
+/// The text that is assigned to.
+#[tactic(auto, using(crate::proofs::Found::founds))]
+fn find_text<'a>(bound: &Bound, cells: &Cells, spot: Spot, left: &'a Expr) -> Left<'a>
+    requires cells { Known bound.now cells.now }
+    ensures { FindsText bound.now spot left.now result }
+{
+    match own_result(bound, left) {
+        Some(text) => find_own(bound, cells, spot, text),
+        None => Left::Text,
+    }
+}
+
+/// What a left side is, by its sign.
+#[tactic(auto, using(crate::proofs::Found::founds))]
+pub(crate) fn find_side<'a>(
+    bound: &Bound,
+    cells: &Cells,
+    spot: Spot,
+    sign: Assignment,
+    left: &'a Expr,
+) -> Left<'a>
+    requires cells { Known bound.now cells.now }
+    ensures { FindsSide bound.now spot sign left.now result }
+{
+    if is_text(bound, left) {
+        match sign {
+            Assignment::Value => return find_text(bound, cells, spot, left),
+            Assignment::Reference => return find_whole(bound, cells, spot, left),
+        }
+    }
+    match sign {
+        Assignment::Value => find_whole(bound, cells, spot, left),
+        Assignment::Reference => Left::NotBuilt,
     }
 }

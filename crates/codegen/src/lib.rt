@@ -2,7 +2,7 @@
 #![tactic(auto)]
 
 mod arrays;
-mod identifiers;
+mod elements;
 pub mod laws;
 mod leaves;
 mod left;

@@ -3,17 +3,19 @@ ghost use Rattle.std.specs.Prelude.{◌≡◌, ◌<◌, ◌+◌, ◌*◌, IfOk, 
 ghost use Rattle.sim_tree.specs.SyntaxOfProgram.{statement_syntax};
 ghost use Rattle.sim_code.specs.declared.instr.Instr.TheVariants as i;
 ghost use Rattle.codegen.specs.CodeFor.{is_empty as is_empty_of};
+ghost use Rattle.codegen.specs.ForElements.{in_list};
 ghost use Rattle.codegen.specs.EmitShared.{PutsReturn, WritesReturns, WritesSent};
 
+use crate::elements::{Elements, count};
 use codegen_expr::{Draft, Spot, level_of, load_instr, store_instr};
 use sim_base::Line;
 use sim_code::Instr;
 use sim_scope::Bound;
-use sim_tree::{ForElement, Stmt};
+use sim_tree::Stmt;
 use std::alloc::AllocError;
 
 /// Whether nothing stands there.
-#[tactic(auto, using(crate::proofs::Elements::empties))]
+#[tactic(auto, using(crate::proofs::ForLists::empties))]
 pub(crate) fn is_empty(stmt: &Stmt) -> bool
     ensures { result ≡ is_empty_of (statement_syntax stmt.now) }
 {
@@ -124,12 +126,12 @@ pub(crate) fn emit_returns(
     bound: &Bound,
     spot: Spot,
     draft: &mut Draft,
-    elements: &[ForElement],
+    elements: Elements,
 ) -> Result<(), AllocError>
-    requires some { 0 < length elements.now }
-    ensures { OnOk result (WritesReturns bound.now spot draft.old draft.new elements.now (length draft.old.instrs) 0) }
+    requires some { 0 < length (in_list elements) }
+    ensures { OnOk result (WritesReturns bound.now spot draft.old draft.new (in_list elements.entry) (length draft.old.instrs) 0) }
 {
-    for number in 0..elements.len() - 1 {
+    for number in 0..count(elements) - 1 {
         emit_return(bound, spot, draft, number)?;
     }
     draft.leave_hole()?;

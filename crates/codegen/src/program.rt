@@ -14,7 +14,7 @@ use sim_base::DeclNo;
 use sim_code::{BlockKind, BlockRecord, Code, CodeType};
 use sim_scope::{Block, Bound, Entry, Scopes, SimType, encloser, entry_of};
 use std::alloc::{AllocError, Global};
-use text_tables::{cells_of, declarations_by_token};
+use text_tables::{cells_of, constant_texts, declarations_by_token};
 
 /// Why there is no code.
 #[derive(Clone, Copy, Debug, PartialEq, Eq)]
@@ -246,8 +246,9 @@ fn agree(
     if !procedures_fit(bound, &blocks)? {
         return Ok(None);
     }
+    let texts = constant_texts(alloc, bound)?;
     Ok(Some(Code {
-        texts: Vec::new(alloc),
+        texts,
         blocks,
         classes: Vec::new(alloc),
         thunks: Vec::new(alloc),

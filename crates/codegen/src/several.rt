@@ -1,48 +1,52 @@
 //! Assignments to several left sides.
-ghost use Rattle.std.specs.Prelude.{◌≡◌, ◌<◌, ◌-◌, IfOk, OnOk, Some, length, map, slice_get};
-ghost use Rattle.sim_meaning.specs.Statements.{are_values as are_values_of};
-ghost use Rattle.sim_tree.specs.SyntaxOfProgram.{right_side_syntax};
+ghost use Rattle.std.specs.Prelude.{◌≡◌, ◌<◌, ◌-◌, IfOk, OnOk, Some, length, slice_get};
 ghost use Rattle.codegen_expr.specs.Known.{Known};
 ghost use Rattle.codegen.specs.Emit.{WritesAssignment};
-ghost use Rattle.codegen.specs.EmitSeveral.{WritesAddress, WritesAddressNamed, WritesAddresses, WritesGive, WritesGiveNamed, WritesGives, sides};
+ghost use Rattle.codegen.specs.EmitSeveral.{WritesAddress, WritesAddresses, WritesGive, WritesGives, side_in, sides};
 
-use crate::identifiers::identifier;
-use crate::left::{Left, find_left};
+use crate::left::{Left, find_side};
 use codegen_expr::{
-    Cells, Draft, Spot, deeper, emit_element, emit_expr, level_of, load_instr, store_instr,
+    Cells, Draft, Spot, deeper, emit_element, emit_expr, level_of, line_at, load_instr, store_instr,
 };
-use sim_base::Line;
+use sim_base::{Line, TokenNo};
 use sim_code::Instr;
 use sim_scope::Bound;
-use sim_tree::{Assigned, Assignment, Expr, Identifier};
+use sim_tree::{Assigned, Assignment, Expr};
 use std::alloc::AllocError;
 
-/// Whether all signs are of values.
-fn are_values(rest: &[Assigned]) -> bool
-    ensures { result ≡ are_values_of (map right_side_syntax rest.now) }
-{
-    for item in rest {
-        match item.sign {
-            Assignment::Value => {}
-            Assignment::Reference => return false,
-        }
-    }
-    true
+/// A left side with the sign behind it.
+#[derive(Clone, Copy)]
+pub(crate) struct Side<'a> {
+    /// The sign.
+    pub sign: Assignment,
+    /// The sign's token.
+    pub token: TokenNo,
+    /// The left side.
+    pub left: &'a Expr,
 }
 
 /// A left side, from left to right.
 #[tactic(auto, using(crate::proofs::Sides::severals))]
-fn side<'a>(left: &'a Expr, rest: &'a [Assigned], index: usize) -> &'a Expr
+fn side_at<'a>(left: &'a Expr, rest: &'a [Assigned], index: usize) -> Side<'a>
     requires { index < length rest.now }
-    ensures { slice_get (sides left.now rest.now) index ≡ Some result.now }
+    ensures { slice_get (sides left.now rest.now) index ≡ Some (side_in result) }
 {
+    let part = &rest[index];
     if index == 0 {
-        return left;
+        return Side {
+            sign: part.sign,
+            token: part.token,
+            left,
+        };
     }
-    &rest[index - 1].value
+    Side {
+        sign: part.sign,
+        token: part.token,
+        left: &rest[index - 1].value,
+    }
 }
 
-/// The address of a left side, if it has one. The answer is how many values are on the stack then.
+/// The address or the text of a left side, if it has one. The answer is how many values are on the stack then.
 #[tactic(auto, using(crate::proofs::Sides::severals))]
 fn emit_address(
     bound: &Bound,
@@ -50,47 +54,29 @@ fn emit_address(
     spot: Spot,
     draft: &mut Draft,
     depth: u32,
-    left: &Expr,
+    item: Side,
 ) -> Result<u32, AllocError>
     requires cells { Known bound.now cells.now }
-    ensures { IfOk result (λ m. WritesAddress bound.now spot depth draft.old draft.new m left.now) }
+    ensures { IfOk result (λ m. WritesAddress bound.now spot depth draft.old draft.new m (side_in item.entry)) }
 {
-    let Some(node) = identifier(left) else {
-        draft.give_up();
-        return Ok(depth);
-    };
-    match node {
-        Expr::Named { name, arguments } => {
-            let values = emit_address_named(bound, cells, spot, draft, depth, name, arguments)?;
+    match find_side(bound, cells, spot, item.sign, item.left) {
+        Left::Cell { .. } => Ok(depth),
+        Left::Element {
+            token,
+            array,
+            subscripts,
+        } => {
+            emit_element(bound, cells, spot, draft, depth, token, array, subscripts)?;
+            let values = deeper(depth)?;
             Ok(values)
         }
-        _ => {
-            draft.give_up();
-            Ok(depth)
+        Left::Text => {
+            emit_expr(bound, cells, spot, draft, depth, item.left)?;
+            let values = deeper(depth)?;
+            Ok(values)
         }
-    }
-}
-
-/// The same where the left side is an identifier.
-#[tactic(auto, using(crate::proofs::Sides::severals))]
-fn emit_address_named(
-    bound: &Bound,
-    cells: &Cells,
-    spot: Spot,
-    draft: &mut Draft,
-    depth: u32,
-    name: &Identifier,
-    subscripts: &[Expr],
-) -> Result<u32, AllocError>
-    requires cells { Known bound.now cells.now }
-    ensures { IfOk result (λ m. WritesAddressNamed bound.now spot depth draft.old draft.new m name.now subscripts.now) }
-{
-    match find_left(bound, cells, spot, name.token, subscripts.len()) {
-        Left::Cell { .. } => Ok(depth),
-        Left::Element(array) => {
-            emit_element(
-                bound, cells, spot, draft, depth, name.token, array, subscripts,
-            )?;
+        Left::Result { level, slot } => {
+            draft.push(depth, load_instr(level, slot), Line(0))?;
             let values = deeper(depth)?;
             Ok(values)
         }
@@ -101,7 +87,7 @@ fn emit_address_named(
     }
 }
 
-/// The addresses of all left sides that have one. The answer is how many there are.
+/// The addresses and the texts of all left sides that have one. The answer is how many there are.
 fn emit_addresses(
     bound: &Bound,
     cells: &Cells,
@@ -115,7 +101,7 @@ fn emit_addresses(
 {
     let mut depth = 0;
     for done in 0..rest.len() {
-        let item = side(left, rest, done);
+        let item = side_at(left, rest, done);
         depth = emit_address(bound, cells, spot, draft, depth, item)?;
     }
     Ok(depth)
@@ -139,58 +125,31 @@ fn emit_give(
     spot: Spot,
     draft: &mut Draft,
     depth: u32,
-    left: &Expr,
+    item: Side,
 ) -> Result<u32, AllocError>
     requires cells { Known bound.now cells.now }
-    ensures { IfOk result (λ m. WritesGive bound.now spot depth draft.old draft.new m left.now) }
+    ensures { IfOk result (λ m. WritesGive bound.now spot depth draft.old draft.new m (side_in item.entry)) }
 {
-    let Some(node) = identifier(left) else {
-        draft.give_up();
-        return Ok(depth);
-    };
-    match node {
-        Expr::Named { name, arguments } => {
-            let values = emit_give_named(bound, cells, spot, draft, depth, name, arguments)?;
-            Ok(values)
-        }
-        _ => {
-            draft.give_up();
-            Ok(depth)
-        }
-    }
-}
-
-/// The same where the left side is an identifier.
-#[tactic(auto, using(crate::proofs::Sides::severals))]
-fn emit_give_named(
-    bound: &Bound,
-    cells: &Cells,
-    spot: Spot,
-    draft: &mut Draft,
-    depth: u32,
-    name: &Identifier,
-    subscripts: &[Expr],
-) -> Result<u32, AllocError>
-    requires cells { Known bound.now cells.now }
-    ensures { IfOk result (λ m. WritesGiveNamed bound.now spot depth draft.old draft.new m name.now subscripts.now) }
-{
-    match find_left(bound, cells, spot, name.token, subscripts.len()) {
+    let temp = load_instr(level_of(bound, spot.text), spot.used);
+    match find_side(bound, cells, spot, item.sign, item.left) {
         Left::Cell { level, slot } => {
-            draft.push(
-                depth,
-                load_instr(level_of(bound, spot.text), spot.used),
-                Line(0),
-            )?;
+            draft.push(depth, temp, Line(0))?;
             draft.put(store_instr(level, slot), Line(0))?;
             Ok(depth)
         }
-        Left::Element(_) => {
-            draft.push(
-                depth,
-                load_instr(level_of(bound, spot.text), spot.used),
-                Line(0),
-            )?;
+        Left::Element { .. } => {
+            draft.push(depth, temp, Line(0))?;
             draft.put(Instr::Put, Line(0))?;
+            Ok(shallower(depth))
+        }
+        Left::Text => {
+            draft.push(depth, temp, Line(0))?;
+            draft.put(Instr::AssignT, line_at(bound, item.token))?;
+            Ok(shallower(depth))
+        }
+        Left::Result { .. } => {
+            draft.push(depth, temp, Line(0))?;
+            draft.put(Instr::AssignT, line_at(bound, item.token))?;
             Ok(shallower(depth))
         }
         Left::NotBuilt => {
@@ -215,7 +174,7 @@ fn emit_gives(
 {
     let mut values = depth;
     for done in 0..rest.len() {
-        let item = side(left, rest, rest.len() - 1 - done);
+        let item = side_at(left, rest, rest.len() - 1 - done);
         values = emit_give(bound, cells, spot, draft, values, item)?;
     }
     Ok(())
@@ -235,10 +194,6 @@ pub(crate) fn emit_several(
     requires several { 1 < length rest.now }
     ensures { OnOk result (WritesAssignment bound.now spot draft.old draft.new left.now rest.now) }
 {
-    if !are_values(rest) {
-        draft.give_up();
-        return Ok(());
-    }
     let last = &rest[rest.len() - 1];
     draft.take_temp(spot.used)?;
     let depth = emit_addresses(bound, cells, spot, draft, left, rest)?;

@@ -1,26 +1,29 @@
 //! Statements, from the tree to instructions.
-ghost use Rattle.std.specs.Prelude.{◌≡◌, ◌≢◌, ◌<◌, IfOk, OnOk, false, length, pos};
+ghost use Rattle.std.specs.Prelude.{◌≡◌, ◌≢◌, ◌<◌, IfOk, OnOk, false, length, option_map, pos};
 ghost use Rattle.sim_code.specs.declared.instr.Instr.TheVariants as i;
 ghost use Rattle.codegen_expr.specs.Known.{Known};
 ghost use Rattle.codegen.specs.EmitLists.{WritesEach};
-ghost use Rattle.codegen.specs.EmitShared.{PutsTurn, WritesInside, WritesTurn, WritesTurns};
+ghost use Rattle.codegen.specs.EmitShared.{PutsTurn, WritesInside, WritesTurn, WritesTurns, line_in};
 ghost use Rattle.codegen.specs.CodeFor.{is_empty as is_empty_of};
 ghost use Rattle.sim_tree.specs.SyntaxOfProgram.{statement_syntax};
-ghost use Rattle.codegen.specs.Emit.{WritesAssignment, WritesBlock, WritesCall, WritesCalled, WritesElementOf, WritesFor, WritesList, WritesOne, WritesOneNamed, WritesStatement, WritesStatements};
+ghost use Rattle.codegen.specs.Emit.{WritesAssignment, WritesBlock, WritesCall, WritesCalled, WritesCalledBehind, WritesElementOf, WritesFor, WritesGiven, WritesList, WritesOne, WritesStatement, WritesStatements, WritesTakenCall};
+ghost use Rattle.codegen.specs.EmitSeveral.{side_in};
+ghost use Rattle.codegen.specs.ForElements.{in_list, view_syntax};
 
-use crate::identifiers::identifier;
+use crate::elements::{Element, Elements, count, element_at};
 use crate::leaves::leaves;
-use crate::left::{Left, find_left};
+use crate::left::{Left, find_left, find_side};
 use crate::lists::{Shared, emit_returns, emit_sent, hole_at, is_empty, jump_to};
-use crate::several::emit_several;
+use crate::several::{Side, emit_several};
 use codegen_expr::{
-    Cells, Draft, Spot, block_number, deeper, denoted, emit_element, emit_expr, emit_named, gives,
-    line_at, load_instr, store_instr,
+    Cells, Draft, Form, Object, Spot, block_number, deeper, denoted, emit_before, emit_dot,
+    emit_element, emit_expr, emit_named, form_of, gives, is_text_at, line_at, load_instr,
+    store_instr,
 };
 use sim_base::Line;
 use sim_code::Instr;
 use sim_scope::{Bound, block_at, encloser};
-use sim_tree::{Assigned, Assignment, Block, Expr, ForElement, Identifier, Stmt};
+use sim_tree::{Assigned, Block, Expr, Identifier, Selector, Stmt};
 use std::alloc::AllocError;
 
 /// Writes the code of a statement, which stands on no value. The draft stops being whole where a form is not built.
@@ -104,12 +107,19 @@ pub(crate) fn emit_statement(
         }
         Stmt::For {
             variable,
+            sign,
             elements,
             body,
             ..
         } => {
             draft.put(Instr::Tick, Line(0))?;
-            emit_for(bound, cells, spot, draft, variable, elements, body)?;
+            let list = Elements::Values(elements);
+            if is_text_at(bound, variable.token) {
+                let line = line_at(bound, *sign);
+                emit_for(bound, cells, spot, draft, variable, Some(line), list, body)?;
+                return Ok(());
+            }
+            emit_for(bound, cells, spot, draft, variable, None, list, body)?;
             Ok(())
         }
         Stmt::PrefixedBlock { .. } => {
@@ -120,7 +130,18 @@ pub(crate) fn emit_statement(
             draft.give_up();
             Ok(())
         }
-        Stmt::ForReference { .. } => {
+        Stmt::ForReference {
+            variable,
+            elements,
+            body,
+            ..
+        } => {
+            draft.put(Instr::Tick, Line(0))?;
+            if is_text_at(bound, variable.token) {
+                let list = Elements::References(elements);
+                emit_for(bound, cells, spot, draft, variable, None, list, body)?;
+                return Ok(());
+            }
             draft.give_up();
             Ok(())
         }
@@ -230,16 +251,20 @@ fn emit_call(
     requires cells { Known bound.now cells.now }
     ensures { OnOk result (WritesCall bound.now spot draft.old draft.new call.now) }
 {
-    let Some(node) = identifier(call) else {
-        draft.give_up();
-        return Ok(());
-    };
-    match node {
-        Expr::Named { name, arguments } => {
+    match form_of(call) {
+        Form::Named { name, arguments } => {
             emit_called(bound, cells, spot, draft, name, arguments)?;
             Ok(())
         }
-        _ => {
+        Form::Taken { primary, rest } => {
+            emit_taken_call(bound, cells, spot, draft, primary, rest)?;
+            Ok(())
+        }
+        Form::Closed { .. } => {
+            draft.give_up();
+            Ok(())
+        }
+        Form::Other => {
             draft.give_up();
             Ok(())
         }
@@ -281,6 +306,69 @@ fn emit_called(
     Ok(())
 }
 
+/// A call of what is taken of an operand.
+#[tactic(auto, using(crate::proofs::TakenCalls::calls))]
+fn emit_taken_call(
+    bound: &Bound,
+    cells: &Cells,
+    spot: Spot,
+    draft: &mut Draft,
+    primary: &Expr,
+    rest: &[Selector],
+) -> Result<(), AllocError>
+    requires cells { Known bound.now cells.now }
+    requires some { length rest.now ≢ 0 }
+    ensures { OnOk result (WritesTakenCall bound.now spot draft.old draft.new primary.now rest.now) }
+{
+    let object = emit_before(bound, cells, spot, draft, 0, primary, rest)?;
+    match &rest[rest.len() - 1] {
+        Selector::Dot {
+            name,
+            arguments,
+            ..
+        } => {
+            emit_called_behind(bound, cells, spot, draft, object, name, arguments)?;
+            Ok(())
+        }
+        Selector::Qua { .. } => {
+            draft.give_up();
+            Ok(())
+        }
+    }
+}
+
+/// A call of an attribute behind its object, and what becomes of its value.
+#[tactic(auto, using(crate::proofs::TakenCalls::calls))]
+fn emit_called_behind(
+    bound: &Bound,
+    cells: &Cells,
+    spot: Spot,
+    draft: &mut Draft,
+    object: Object,
+    name: &Identifier,
+    arguments: &[Expr],
+) -> Result<(), AllocError>
+    requires cells { Known bound.now cells.now }
+    ensures { OnOk result (WritesCalledBehind bound.now spot draft.old draft.new object name.now arguments.now) }
+{
+    let denotation = denoted(bound, name.token);
+    if leaves(bound, denotation) {
+        if gives(bound, denotation) {
+            emit_dot(bound, cells, spot, draft, 0, object, name, arguments)?;
+            draft.put(Instr::Pop, Line(0))?;
+            return Ok(());
+        }
+        draft.give_up();
+        return Ok(());
+    }
+    if gives(bound, denotation) {
+        draft.give_up();
+        return Ok(());
+    }
+    emit_dot(bound, cells, spot, draft, 0, object, name, arguments)?;
+    Ok(())
+}
+
 /// An assignment behind its tick.
 #[tactic(auto, using(crate::proofs::Statements::writes))]
 fn emit_assignment(
@@ -296,16 +384,13 @@ fn emit_assignment(
 {
     if rest.len() == 1 {
         let part = &rest[0];
-        match part.sign {
-            Assignment::Value => {
-                emit_one(bound, cells, spot, draft, left, &part.value)?;
-                return Ok(());
-            }
-            Assignment::Reference => {
-                draft.give_up();
-                return Ok(());
-            }
-        }
+        let side = Side {
+            sign: part.sign,
+            token: part.token,
+            left,
+        };
+        emit_one(bound, cells, spot, draft, side, &part.value)?;
+        return Ok(());
     }
     if rest.len() == 0 {
         draft.give_up();
@@ -316,58 +401,44 @@ fn emit_assignment(
 }
 
 /// A value that goes to one left side.
-#[tactic(auto, using(crate::proofs::Statements::writes))]
+#[tactic(auto, using(crate::proofs::Ones::ones))]
 fn emit_one(
     bound: &Bound,
     cells: &Cells,
     spot: Spot,
     draft: &mut Draft,
-    left: &Expr,
+    side: Side,
     value: &Expr,
 ) -> Result<(), AllocError>
     requires cells { Known bound.now cells.now }
-    ensures { OnOk result (WritesOne bound.now spot draft.old draft.new left.now value.now) }
+    ensures { OnOk result (WritesOne bound.now spot draft.old draft.new (side_in side.entry) value.now) }
 {
-    let Some(node) = identifier(left) else {
-        draft.give_up();
-        return Ok(());
-    };
-    match node {
-        Expr::Named { name, arguments } => {
-            emit_one_named(bound, cells, spot, draft, name, arguments, value)?;
-            Ok(())
-        }
-        _ => {
-            draft.give_up();
-            Ok(())
-        }
-    }
-}
-
-/// A value that goes to an identifier with subscripts, or none.
-#[tactic(auto, using(crate::proofs::Statements::writes))]
-fn emit_one_named(
-    bound: &Bound,
-    cells: &Cells,
-    spot: Spot,
-    draft: &mut Draft,
-    name: &Identifier,
-    subscripts: &[Expr],
-    value: &Expr,
-) -> Result<(), AllocError>
-    requires cells { Known bound.now cells.now }
-    ensures { OnOk result (WritesOneNamed bound.now spot draft.old draft.new name.now subscripts.now value.now) }
-{
-    match find_left(bound, cells, spot, name.token, subscripts.len()) {
+    match find_side(bound, cells, spot, side.sign, side.left) {
         Left::Cell { level, slot } => {
             emit_expr(bound, cells, spot, draft, 0, value)?;
             draft.put(store_instr(level, slot), Line(0))?;
             Ok(())
         }
-        Left::Element(array) => {
-            emit_element(bound, cells, spot, draft, 0, name.token, array, subscripts)?;
+        Left::Element {
+            token,
+            array,
+            subscripts,
+        } => {
+            emit_element(bound, cells, spot, draft, 0, token, array, subscripts)?;
             emit_expr(bound, cells, spot, draft, 1, value)?;
             draft.put(Instr::Put, Line(0))?;
+            Ok(())
+        }
+        Left::Text => {
+            emit_expr(bound, cells, spot, draft, 0, side.left)?;
+            emit_expr(bound, cells, spot, draft, 1, value)?;
+            draft.put(Instr::AssignT, line_at(bound, side.token))?;
+            Ok(())
+        }
+        Left::Result { level, slot } => {
+            draft.push(0, load_instr(level, slot), Line(0))?;
+            emit_expr(bound, cells, spot, draft, 1, value)?;
+            draft.put(Instr::AssignT, line_at(bound, side.token))?;
             Ok(())
         }
         Left::NotBuilt => {
@@ -377,7 +448,18 @@ fn emit_one_named(
     }
 }
 
-/// A `for` statement behind its tick.
+/// A controlled variable.
+#[derive(Clone, Copy, Debug, PartialEq, Eq)]
+pub struct Target {
+    /// The level of its text.
+    pub level: u32,
+    /// Its number in the frames of that text.
+    pub slot: u32,
+    /// Where its text gets the characters of others: the line of the sign.
+    pub assigned: Option<Line>,
+}
+
+/// A `for` statement behind its tick, with the line of its sign where a text is assigned to the variable's.
 #[cycle(emit)]
 #[tactic(auto, using(crate::proofs::Statements::writes))]
 pub(crate) fn emit_for(
@@ -386,18 +468,32 @@ pub(crate) fn emit_for(
     spot: Spot,
     draft: &mut Draft,
     variable: &Identifier,
-    elements: &[ForElement],
+    assigned: Option<Line>,
+    elements: Elements,
     body: &Stmt,
 ) -> Result<(), AllocError>
     requires cells { Known bound.now cells.now }
-    ensures { OnOk result (WritesFor bound.now spot draft.old draft.new variable.now elements.now body.now) }
+    ensures { OnOk result (WritesFor bound.now spot draft.old draft.new variable.now (option_map line_in assigned) (in_list elements.entry) body.now) }
 {
-    match find_left(bound, cells, spot, variable.token, 0) {
+    match find_left(bound, cells, spot, variable.token, &[]) {
         Left::Cell { level, slot } => {
-            emit_elements(bound, cells, spot, draft, level, slot, elements, body)?;
+            let target = Target {
+                level,
+                slot,
+                assigned,
+            };
+            emit_elements(bound, cells, spot, draft, target, elements, body)?;
             Ok(())
         }
-        Left::Element(_) => {
+        Left::Element { .. } => {
+            draft.give_up();
+            Ok(())
+        }
+        Left::Text => {
+            draft.give_up();
+            Ok(())
+        }
+        Left::Result { .. } => {
             draft.give_up();
             Ok(())
         }
@@ -410,34 +506,33 @@ pub(crate) fn emit_for(
 
 /// A list of elements over the variable in a cell.
 #[cycle(emit)]
-#[tactic(auto, using(crate::proofs::Statements::writes, crate::proofs::Elements::lists))]
+#[tactic(auto, using(crate::proofs::Statements::writes, crate::proofs::ForLists::lists))]
 fn emit_elements(
     bound: &Bound,
     cells: &Cells,
     spot: Spot,
     draft: &mut Draft,
-    level: u32,
-    slot: u32,
-    elements: &[ForElement],
+    target: Target,
+    elements: Elements,
     body: &Stmt,
 ) -> Result<(), AllocError>
     requires cells { Known bound.now cells.now }
-    ensures { OnOk result (WritesList bound.now spot draft.old draft.new level slot elements.now body.now) }
+    ensures { OnOk result (WritesList bound.now spot draft.old draft.new target (in_list elements.entry) body.now) }
 {
-    if elements.len() == 1 {
-        let element = &elements[0];
-        emit_element_of(bound, cells, spot, draft, level, slot, element, body, None)?;
+    if count(elements) == 1 {
+        let element = element_at(elements, 0);
+        emit_element_of(bound, cells, spot, draft, target, element, body, None)?;
         return Ok(());
     }
-    if elements.len() == 0 {
+    if count(elements) == 0 {
         draft.give_up();
         return Ok(());
     }
     if is_empty(body) {
-        emit_each(bound, cells, spot, draft, level, slot, elements, body)?;
+        emit_each(bound, cells, spot, draft, target, elements, body)?;
         return Ok(());
     }
-    emit_shared(bound, cells, spot, draft, level, slot, elements, body)?;
+    emit_shared(bound, cells, spot, draft, target, elements, body)?;
     Ok(())
 }
 
@@ -449,15 +544,14 @@ fn emit_shared(
     cells: &Cells,
     spot: Spot,
     draft: &mut Draft,
-    level: u32,
-    slot: u32,
-    elements: &[ForElement],
+    target: Target,
+    elements: Elements,
     body: &Stmt,
 ) -> Result<(), AllocError>
     requires cells { Known bound.now cells.now }
-    requires several { 1 < length elements.now }
+    requires several { 1 < length (in_list elements) }
     requires stands { is_empty_of (statement_syntax body.now) ≡ false }
-    ensures { OnOk result (WritesList bound.now spot draft.old draft.new level slot elements.now body.now) }
+    ensures { OnOk result (WritesList bound.now spot draft.old draft.new target (in_list elements.entry) body.now) }
 {
     draft.take_temp(spot.used)?;
     let over = draft.here();
@@ -470,7 +564,7 @@ fn emit_shared(
     let jump = jump_to(first)?;
     draft.fill_in(over, jump);
     emit_turns(
-        bound, cells, spot, draft, level, slot, elements, body, start, chain,
+        bound, cells, spot, draft, target, elements, body, start, chain,
     )?;
     Ok(())
 }
@@ -504,35 +598,30 @@ fn emit_turns(
     cells: &Cells,
     spot: Spot,
     draft: &mut Draft,
-    level: u32,
-    slot: u32,
-    elements: &[ForElement],
+    target: Target,
+    elements: Elements,
     body: &Stmt,
     start: usize,
     chain: usize,
 ) -> Result<(), AllocError>
     requires cells { Known bound.now cells.now }
-    requires some { 0 < length elements.now }
-    ensures { OnOk result (WritesTurns bound.now spot draft.old draft.new level slot elements.now start chain 0) }
+    requires some { 0 < length (in_list elements) }
+    ensures { OnOk result (WritesTurns bound.now spot draft.old draft.new target (in_list elements.entry) start chain 0) }
 {
-    let last = elements.len() - 1;
+    let last = count(elements) - 1;
     for number in 0..last {
         let hole = hole_at(chain, number, 4)?;
-        let element = &elements[number];
+        let element = element_at(elements, number);
         let turn = Shared { start, number };
-        emit_turn_at(
-            bound, cells, spot, draft, level, slot, element, body, turn, hole,
-        )?;
+        emit_turn_at(bound, cells, spot, draft, target, element, body, turn, hole)?;
     }
     let hole = hole_at(chain, last, 0)?;
-    let element = &elements[last];
+    let element = element_at(elements, last);
     let turn = Shared {
         start,
         number: last,
     };
-    emit_turn_at(
-        bound, cells, spot, draft, level, slot, element, body, turn, hole,
-    )?;
+    emit_turn_at(bound, cells, spot, draft, target, element, body, turn, hole)?;
     Ok(())
 }
 
@@ -544,27 +633,16 @@ fn emit_turn_at(
     cells: &Cells,
     spot: Spot,
     draft: &mut Draft,
-    level: u32,
-    slot: u32,
-    element: &ForElement,
+    target: Target,
+    element: Element,
     body: &Stmt,
     turn: Shared,
     hole: usize,
 ) -> Result<(), AllocError>
     requires cells { Known bound.now cells.now }
-    ensures { OnOk result (PutsTurn bound.now spot draft.old draft.new level slot element.now turn.start turn.number hole) }
+    ensures { OnOk result (PutsTurn bound.now spot draft.old draft.new target (view_syntax element.entry) turn.start turn.number hole) }
 {
-    let on = emit_element_of(
-        bound,
-        cells,
-        spot,
-        draft,
-        level,
-        slot,
-        element,
-        body,
-        Some(turn),
-    )?;
+    let on = emit_element_of(bound, cells, spot, draft, target, element, body, Some(turn))?;
     let jump = jump_to(on)?;
     draft.fill_in(hole, jump);
     Ok(())
@@ -578,16 +656,16 @@ fn emit_each(
     cells: &Cells,
     spot: Spot,
     draft: &mut Draft,
-    level: u32,
-    slot: u32,
-    elements: &[ForElement],
+    target: Target,
+    elements: Elements,
     body: &Stmt,
 ) -> Result<(), AllocError>
     requires cells { Known bound.now cells.now }
-    ensures { OnOk result (WritesEach bound.now spot draft.old draft.new level slot elements.now body.now) }
+    ensures { OnOk result (WritesEach bound.now spot draft.old draft.new target (in_list elements.entry) body.now) }
 {
-    for element in elements {
-        emit_element_of(bound, cells, spot, draft, level, slot, element, body, None)?;
+    for index in 0..count(elements) {
+        let element = element_at(elements, index);
+        emit_element_of(bound, cells, spot, draft, target, element, body, None)?;
     }
     Ok(())
 }
@@ -618,6 +696,34 @@ fn emit_turn(
     }
 }
 
+/// A value goes to the controlled variable.
+#[tactic(auto, using(crate::proofs::Ones::ones))]
+fn emit_given(
+    bound: &Bound,
+    cells: &Cells,
+    spot: Spot,
+    draft: &mut Draft,
+    target: Target,
+    value: &Expr,
+) -> Result<(), AllocError>
+    requires cells { Known bound.now cells.now }
+    ensures { OnOk result (WritesGiven bound.now spot draft.old draft.new target value.now) }
+{
+    match target.assigned {
+        None => {
+            emit_expr(bound, cells, spot, draft, 0, value)?;
+            draft.put(store_instr(target.level, target.slot), Line(0))?;
+            Ok(())
+        }
+        Some(line) => {
+            draft.push(0, load_instr(target.level, target.slot), Line(0))?;
+            emit_expr(bound, cells, spot, draft, 1, value)?;
+            draft.put(Instr::AssignT, line)?;
+            Ok(())
+        }
+    }
+}
+
 /// One element with its turns. The answer is the place where a turn goes on.
 #[cycle(emit)]
 #[tactic(auto, using(crate::proofs::Statements::writes))]
@@ -626,32 +732,29 @@ fn emit_element_of(
     cells: &Cells,
     spot: Spot,
     draft: &mut Draft,
-    level: u32,
-    slot: u32,
-    element: &ForElement,
+    target: Target,
+    element: Element,
     body: &Stmt,
     shared: Option<Shared>,
 ) -> Result<usize, AllocError>
     requires cells { Known bound.now cells.now }
-    ensures { IfOk result (λ on. WritesElementOf bound.now spot draft.old draft.new level slot element.now body.now shared on) }
+    ensures { IfOk result (λ on. WritesElementOf bound.now spot draft.old draft.new target (view_syntax element.entry) body.now shared on) }
 {
     match element {
-        ForElement::Value { value } => {
+        Element::Once { value } => {
             draft.put(Instr::Tick, Line(0))?;
-            emit_expr(bound, cells, spot, draft, 0, value)?;
-            draft.put(store_instr(level, slot), Line(0))?;
+            emit_given(bound, cells, spot, draft, target, value)?;
             let on = emit_turn(bound, cells, spot, draft, body, shared)?;
             Ok(on)
         }
-        ForElement::While {
+        Element::While {
             value,
             condition,
             ..
         } => {
             let start = draft.place()?;
             draft.put(Instr::Tick, Line(0))?;
-            emit_expr(bound, cells, spot, draft, 0, value)?;
-            draft.put(store_instr(level, slot), Line(0))?;
+            emit_given(bound, cells, spot, draft, target, value)?;
             emit_expr(bound, cells, spot, draft, 0, condition)?;
             let jump = draft.here();
             draft.leave_hole()?;
@@ -661,18 +764,22 @@ fn emit_element_of(
             draft.fill_in(jump, Instr::JumpF(end));
             Ok(on)
         }
-        ForElement::Step {
+        Element::Step {
             start: first,
             token,
             step,
             limit,
         } => {
+            if target.assigned.is_some() {
+                draft.give_up();
+                return Ok(draft.here());
+            }
             emit_expr(bound, cells, spot, draft, 0, first)?;
-            draft.put(store_instr(level, slot), Line(0))?;
+            draft.put(store_instr(target.level, target.slot), Line(0))?;
             emit_expr(bound, cells, spot, draft, 0, step)?;
             let test = draft.place()?;
             draft.put(Instr::Tick, Line(0))?;
-            draft.push(1, load_instr(level, slot), Line(0))?;
+            draft.push(1, load_instr(target.level, target.slot), Line(0))?;
             emit_expr(bound, cells, spot, draft, 2, limit)?;
             draft.put(Instr::StepTest, Line(0))?;
             let jump = draft.here();
@@ -680,9 +787,9 @@ fn emit_element_of(
             let on = emit_turn(bound, cells, spot, draft, body, shared)?;
             emit_expr(bound, cells, spot, draft, 0, step)?;
             draft.push(1, Instr::Dup, Line(0))?;
-            draft.push(2, load_instr(level, slot), Line(0))?;
-            draft.put(Instr::Add, line_at(bound, *token))?;
-            draft.put(store_instr(level, slot), Line(0))?;
+            draft.push(2, load_instr(target.level, target.slot), Line(0))?;
+            draft.put(Instr::Add, line_at(bound, token))?;
+            draft.put(store_instr(target.level, target.slot), Line(0))?;
             draft.put(Instr::Jump(test), Line(0))?;
             let end = draft.place()?;
             draft.fill_in(jump, Instr::JumpF(end));

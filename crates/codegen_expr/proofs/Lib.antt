@@ -1,5 +1,12 @@
 pub mod Around
 pub mod Slots
 pub mod Pieces
+pub mod Formed
+pub mod Attributes
+pub mod Texts
+pub mod Joins
 pub mod Written
 pub mod Seen
+pub mod Behind
+pub mod Places
+pub mod Taken

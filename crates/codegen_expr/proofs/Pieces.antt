@@ -10,7 +10,7 @@ use Rattle.sim_code.specs.Code.{CodeOf}
 use Rattle.sim_code.specs.Running.{AllRun, runs}
 use Rattle.codegen_expr.specs.declared.spot.Spot.{Spot}
 use Rattle.codegen_expr.specs.Sites.{At, IfAt, Pushes, Site, lined, WhenAt, LoopAt}
-use Rattle.codegen_expr.specs.Drafts.{Becomes, DraftOf, Emits, Grows, filled_in, given_up, with_hole, with_instr, with_push, with_temp}
+use Rattle.codegen_expr.specs.Drafts.{Becomes, DraftOf, Emits, Grows, filled_in, given_up, with_hole, with_instr, with_push, with_room, with_temp}
 
 pub set_len : {A : Type 0} (xs : List A) (i : ℕ) (v : A) → length (slice_set xs i v) ≡ length xs
 set_len [] i v = refl
@@ -453,6 +453,54 @@ emits_temp t P A a b c temp et e f =
           let taken = g.taken in
           let sized = g.sized in
           (omega (arith, taken, et), omega (arith, es, right, bc', sized), subst (λ n. A final site n (length c.instrs)) (ap length ei) (f.at w final site g));
+    }
+
+-- a temp further behind
+pub emits_temp_behind : (t : Spot) (P : Type 0) (A : CodeOf → Site → ℕ → ℕ → Type 0) (a b c : DraftOf) (temp : ℕ) → b ≡ with_temp a temp → Emits t b c P A → Emits t a c P (λ final site p q. (temp < site.size) × A final site p q)
+unfolding with_temp
+emits_temp_behind t P A a b c temp e f =
+    let ei : b.instrs ≡ a.instrs = ap (λ z. z.instrs) e in
+    let er : b.room ≡ a.room = ap (λ z. z.room) e in
+    let es : b.size ≡ max a.size (suc temp) = ap (λ z. z.size) e in
+    let ew : b.whole ≡ a.whole = ap (λ z. z.whole) e in
+    let left = le-max_left a.size (suc temp) in
+    let right = le-max_right a.size (suc temp) in
+    let bc = f.roomier in
+    let bc' = f.larger in
+    record {
+      rest = f.rest;
+      front = f.front ∙ ap (λ z. z ++ f.rest) ei;
+      roomier = omega (arith, er, bc);
+      larger = omega (arith, es, left, bc');
+      built = λ p w. f.built p (ew ∙ w);
+      before = λ w. sym ew ∙ f.before w;
+      only = f.only;
+      fits = λ h. f.fits (subst AllRun (sym ei) h);
+      at = λ w final site g. let sized = g.sized in (omega (arith, es, right, bc', sized), subst (λ n. A final site n (length c.instrs)) (ap length ei) (f.at w final site g));
+    }
+
+-- room for a value on n others
+pub emits_room : (t : Spot) (P : Type 0) (A : CodeOf → Site → ℕ → ℕ → Type 0) (a b c : DraftOf) (n : ℕ) → b ≡ with_room a n → Emits t b c P A → Emits t a c P (λ final site p q. (n < site.room) × A final site p q)
+unfolding with_room
+emits_room t P A a b c n e f =
+    let ei : b.instrs ≡ a.instrs = ap (λ z. z.instrs) e in
+    let er : b.room ≡ max a.room (suc n) = ap (λ z. z.room) e in
+    let es : b.size ≡ a.size = ap (λ z. z.size) e in
+    let ew : b.whole ≡ a.whole = ap (λ z. z.whole) e in
+    let left = le-max_left a.room (suc n) in
+    let right = le-max_right a.room (suc n) in
+    let bc = f.roomier in
+    let bc' = f.larger in
+    record {
+      rest = f.rest;
+      front = f.front ∙ ap (λ z. z ++ f.rest) ei;
+      roomier = omega (arith, er, left, bc);
+      larger = omega (arith, es, bc');
+      built = λ p w. f.built p (ew ∙ w);
+      before = λ w. sym ew ∙ f.before w;
+      only = f.only;
+      fits = λ h. f.fits (subst AllRun (sym ei) h);
+      at = λ w final site g. let roomy = g.roomy in (omega (arith, er, right, bc, roomy), subst (λ n. A final site n (length c.instrs)) (ap length ei) (f.at w final site g));
     }
 
 -- what stands where a temp more is in use

@@ -1,6 +1,6 @@
 -- Identifiers with their operands.
-use Rattle.std.proofs.Common.{◌≡◌, ◌≢◌, ◌<◌, ◌+◌, ℕ, pos, suc, Bool, List, [], ◌∷◌, length, map, drop, Option, Some, None, true, false, refl, sym, ap, ◌∙◌, subst, arith}
-use Rattle.std.specs.Prelude.{⊤, option_map}
+use Rattle.std.proofs.Common.{◌≡◌, ◌≢◌, ◌<◌, ℕ, pos, suc, Bool, List, [], ◌∷◌, length, map, Option, Some, None, true, false, refl, sym, ap, ◌∙◌, subst, arith}
+use Rattle.std.specs.Prelude.{⊤}
 use Rattle.sim_base.specs.declared.numbering.DeclNo.{DeclNo}
 use Rattle.sim_base.specs.declared.numbering.TokenNo.{TokenNo}
 use Rattle.sim_scope.specs.declared.bound.Bound.{Bound}
@@ -20,29 +20,28 @@ use Rattle.sim_scope.specs.Scopes.{formals_at as formals_at_block}
 use Rattle.sim_scope.specs.Source.{Source, block_of, denoted, level_of, line_at, source_of}
 use Rattle.sim_tree.specs.declared.expr.Expr.{Expr}
 use Rattle.sim_tree.specs.declared.expr.Identifier.{Identifier}
-use Rattle.sim_tree.specs.Syntax.{Expression, Expressions, Named, NoMore, Then, expressions}
+use Rattle.sim_tree.specs.Syntax.{Expression, Expressions, NoMore, Then, expressions}
 use Rattle.sim_tree.specs.SyntaxOf.{syntax_of}
+use Rattle.sim_values.specs.declared.standard.Standard.TheVariants as name_of
 use Rattle.sim_values.specs.Plain.{Plain}
+use Rattle.sim_values.specs.Standard.{row_of}
 use Rattle.sim_code.specs.declared.instr.Instr.{Instr}
 use Rattle.sim_code.specs.declared.instr.Instr.TheVariants as i
 use Rattle.sim_code.specs.Code.{CodeOf}
 use Rattle.sim_meaning.specs.Closing.{formals_at, formals_from, is_text_type}
 use Rattle.sim_meaning.specs.Texts.{constant_of}
-use Rattle.codegen_expr.specs.declared.cells.ConstantValue.{ConstantValue}
-use Rattle.codegen_expr.specs.declared.cells.ConstantValue.TheVariants as constant
 use Rattle.codegen_expr.specs.declared.operators.Passed.{Passed}
 use Rattle.codegen_expr.specs.declared.operators.Passed.TheVariants as passed
 use Rattle.codegen_expr.specs.declared.operators.Seen.{Seen}
 use Rattle.codegen_expr.specs.declared.operators.Seen.TheVariants as seen
 use Rattle.codegen_expr.specs.declared.spot.Spot.{Spot}
-use Rattle.codegen_expr.specs.Built.{ActualBuilt, ActualsBuilt, AreBuilt, CallBuilt, ConstantBuilt, DeclaredBuilt, IsBuilt, FormalBuilt, NamedBuilt, PlainBuilt, StandsIn, is_around}
-use Rattle.codegen_expr.specs.CodeExpr.{ActualAt, ActualsAt, CallAt, ConstantAt, DeclaredAt, ElementAt, ExprAt, ExprsAt, FormalAt, NamedAt, block_number, gives, operands}
+use Rattle.codegen_expr.specs.Built.{ActualBuilt, ActualsBuilt, AreBuilt, CallBuilt, ConstantBuilt, DeclaredBuilt, IsBuilt, FormalBuilt, is_around}
+use Rattle.codegen_expr.specs.CodeExpr.{ActualAt, ActualsAt, CallAt, DeclaredAt, ElementAt, ExprAt, ExprsAt, FormalAt, StandardIs, block_number, gives, operands}
 use Rattle.codegen_expr.specs.Drafts.{DraftOf, Emits, given_up, with_instr, with_push}
-use Rattle.codegen_expr.specs.Emit.{IsSmall, OwesActuals, Puts, PutsNamed, PutsSeen, SeenAt, SeenBuilt, Writes, WritesActual, WritesActuals, WritesCall, WritesCell, WritesConstant, WritesElement, WritesGiving, WritesLink, WritesNamed, WritesSeen, WritesStandard, formals_of_block, instr_of, passed_of, seen_formal, seen_of}
-use Rattle.codegen_expr.specs.Known.{plain_of}
-use Rattle.codegen_expr.specs.Sites.{At, Inside, Is, Pushes, Site}
+use Rattle.codegen_expr.specs.Emit.{OwesActuals, Puts, PutsNamed, PutsSeen, SeenAt, SeenBuilt, Writes, WritesActual, WritesActuals, WritesCall, WritesCell, WritesConstant, WritesElement, WritesGiving, WritesLink, WritesNamed, WritesSeen, WritesStandard, formals_of_block, passed_of, seen_formal, seen_of}
+use Rattle.codegen_expr.specs.Sites.{At, Inside, Pushes, Site}
 use Rattle.codegen_expr.proofs.Around.{inside}
-use Rattle.codegen_expr.proofs.Pieces.{emits_as, emits_at, emits_none, emits_nothing, emits_push, emits_then}
+use Rattle.codegen_expr.proofs.Pieces.{emits_as, emits_at, emits_none, emits_nothing, emits_push, emits_push_at, emits_then}
 
 abbrev Place : Type 1
 Place = CodeOf → Site → ℕ → ℕ → Type 0
@@ -56,26 +55,6 @@ count [] = refl
 count (x ∷ xs) = ap suc (count xs)
 
 module _ (b : Bound) (w : Spot) (n : ℕ) where
-  -- ---- constants
-
-  value_emits : (v : ConstantValue) (a c : DraftOf) → IsSmall v → c ≡ with_push a n (instr_of v) 0 → Emits w a c (PlainBuilt (plain_of v)) (λ final site p q. ConstantAt final site n (Some (plain_of v)) NoMore p q)
-  value_emits (constant.Integer z) a c small ec = emits_push w a c n (i.Int z) 0 ec (λ z. cc) refl
-  value_emits (constant.Character z) a c small ec = emits_as w ⊤ ⊤ (λ final site p q. Pushes final site n (i.Char (pos z)) p q) _ a c (λ t. t) (λ t. t) (λ final site p q _ _ r. (small, r)) (emits_push w a c n (i.Char (pos z)) 0 ec (λ z. cc) refl)
-  value_emits (constant.Truth true) a c small ec = emits_push w a c n (i.Bool (pos 1)) 0 ec (λ z. cc) refl
-  value_emits (constant.Truth false) a c small ec = emits_push w a c n (i.Bool (pos 0)) 0 ec (λ z. cc) refl
-
-  pub see_value : (a c : DraftOf) (d : DeclNo) (u : Option ConstantValue) (v : ConstantValue) (x : Instr) → option_map plain_of u ≡ constant_of (source_of b) d → u ≡ Some v → x ≡ instr_of v → IsSmall v → c ≡ with_push a n x 0 → WritesConstant b w n a c d
-  unfolding WritesConstant
-  see_value a c d u v x eu some ex small ec =
-      let is : Some (plain_of v) ≡ constant_of (source_of b) d = ap (option_map plain_of) (sym some) ∙ eu in
-      subst (λ o. Emits w a c (ConstantBuilt o NoMore) (λ final site p q. ConstantAt final site n o NoMore p q)) is (value_emits v a c small (ec ∙ ap (λ z. with_push a n z 0) ex))
-
-  pub see_no_value : (a c : DraftOf) (d : DeclNo) (u : Option ConstantValue) → option_map plain_of u ≡ constant_of (source_of b) d → u ≡ None → c ≡ given_up a → WritesConstant b w n a c d
-  unfolding WritesConstant
-  see_no_value a c d u eu none ec =
-      let is : None ≡ constant_of (source_of b) d = ap (option_map plain_of) (sym none) ∙ eu in
-      subst (λ o. Emits w a c (ConstantBuilt o NoMore) (λ final site p q. ConstantAt final site n o NoMore p q)) is (emits_nothing w a c _ _ (λ z. z) ec)
-
   -- ---- calls
 
   pub see_link : (a c : DraftOf) (d : DeclNo) (x : Instr) (block m : ℕ) → block ≡ block_of (source_of b) d → is_around b.scopes (length b.scopes.blocks) w.text block ≡ true → m ≡ level_of (source_of b) block → x ≡ i.Link (pos m) → c ≡ with_push a n x 0 → WritesLink b w n a c d
@@ -108,7 +87,7 @@ module _ (b : Bound) (w : Spot) (n : ℕ) where
 
   -- ---- actual parameters
 
-  plain_passed : (m : Mode) (k : FormalKind) (t : Bool) (line : ℕ) (P : Type 0) (A : Place) (a c : DraftOf) → passed.Plain ≡ passed_of m k t → Emits w a c P A → Emits w a c (P × ActualBuilt m k t) (λ final site p q. ActualAt final line m k t (A final site) p q)
+  plain_passed : (m : Mode) (k : FormalKind) (t : Bool) (line : ℕ) (P : Type 0) (A : Place) (a c : DraftOf) → passed.Plain ≡ passed_of m k t → Emits w a c P A → Emits w a c (P × ActualBuilt m k) (λ final site p q. ActualAt final site n line m k t (A final site) p q)
   plain_passed mode.ByValue shape.Array t line P A a c e f = absurd (cc)
   plain_passed mode.ByValue shape.Simple true line P A a c e f = absurd (cc)
   plain_passed mode.ByValue shape.Simple false line P A a c e f = emits_as w _ _ _ _ a c (λ t. t.0) (λ t. (t, tt)) (λ final site p q _ _ r. r) f
@@ -120,7 +99,7 @@ module _ (b : Bound) (w : Spot) (n : ℕ) where
   plain_passed mode.ByName shape.Simple t line P A a c e f = absurd (cc)
   plain_passed mode.ByName shape.Procedure t line P A a c e f = absurd (cc)
 
-  copied_passed : (m : Mode) (k : FormalKind) (t : Bool) (line : ℕ) (P : Type 0) (A : Place) (a c : DraftOf) → passed.Copied ≡ passed_of m k t → Emits w a c (P × ⊤) (λ final site p q. (x : ℕ) × A final site p x × At final i.CopyArr line x q) → Emits w a c (P × ActualBuilt m k t) (λ final site p q. ActualAt final line m k t (A final site) p q)
+  copied_passed : (m : Mode) (k : FormalKind) (t : Bool) (line : ℕ) (P : Type 0) (A : Place) (a c : DraftOf) → passed.Copied ≡ passed_of m k t → Emits w a c (P × ⊤) (λ final site p q. (x : ℕ) × A final site p x × At final i.CopyArr line x q) → Emits w a c (P × ActualBuilt m k) (λ final site p q. ActualAt final site n line m k t (A final site) p q)
   copied_passed mode.ByValue shape.Array t line P A a c e f = f
   copied_passed mode.ByValue shape.Simple true line P A a c e f = absurd (cc)
   copied_passed mode.ByValue shape.Simple false line P A a c e f = absurd (cc)
@@ -132,9 +111,25 @@ module _ (b : Bound) (w : Spot) (n : ℕ) where
   copied_passed mode.ByName shape.Simple t line P A a c e f = absurd (cc)
   copied_passed mode.ByName shape.Procedure t line P A a c e f = absurd (cc)
 
-  other_passed : (m : Mode) (k : FormalKind) (t : Bool) → passed.Other ≡ passed_of m k t → ActualBuilt m k t → ⊥
+  copies : (final : CodeOf) (site : Site) (line x q : ℕ) → At final (i.Std (pos 15)) line x q → n < site.room → StandardIs final site n line name_of.Copy 1 x q
+  unfolding row_of
+  copies final site line x q at fits = record { as_many = refl; number = 15; numbered = refl; is = at; fits = λ _. fits }
+
+  text_passed : (m : Mode) (k : FormalKind) (t : Bool) (line : ℕ) (P : Type 0) (A : Place) (a c : DraftOf) → passed.CopiedText ≡ passed_of m k t → Emits w a c (P × ⊤) (λ final site p q. (x : ℕ) × A final site p x × (At final (i.Std (pos 15)) line x q × (n < site.room))) → Emits w a c (P × ActualBuilt m k) (λ final site p q. ActualAt final site n line m k t (A final site) p q)
+  text_passed mode.ByValue shape.Array t line P A a c e f = absurd (cc)
+  text_passed mode.ByValue shape.Simple true line P A a c e f = emits_as w _ _ _ _ a c (λ t. t) (λ t. t) (λ final site p q _ _ r. (r.0, r.1, copies final site line r.0 q r.2.0 r.2.1)) f
+  text_passed mode.ByValue shape.Simple false line P A a c e f = absurd (cc)
+  text_passed mode.ByValue shape.Procedure t line P A a c e f = absurd (cc)
+  text_passed mode.ByReference shape.Array t line P A a c e f = absurd (cc)
+  text_passed mode.ByReference shape.Simple t line P A a c e f = absurd (cc)
+  text_passed mode.ByReference shape.Procedure t line P A a c e f = absurd (cc)
+  text_passed mode.ByName shape.Array t line P A a c e f = absurd (cc)
+  text_passed mode.ByName shape.Simple t line P A a c e f = absurd (cc)
+  text_passed mode.ByName shape.Procedure t line P A a c e f = absurd (cc)
+
+  other_passed : (m : Mode) (k : FormalKind) (t : Bool) → passed.Other ≡ passed_of m k t → ActualBuilt m k → ⊥
   other_passed mode.ByValue shape.Array t e h = cc
-  other_passed mode.ByValue shape.Simple true e h = h
+  other_passed mode.ByValue shape.Simple true e h = cc
   other_passed mode.ByValue shape.Simple false e h = cc
   other_passed mode.ByValue shape.Procedure t e h = h
   other_passed mode.ByReference shape.Array t e h = cc
@@ -155,10 +150,18 @@ module _ (b : Bound) (w : Spot) (n : ℕ) where
       copied_passed f.mode f.kind (is_text_type f.ty) (line_at s token.0) _ (λ z site p q. ExprAt s z site n (syntax_of x) p q) a c (sym is ∙ ek)
       (emits_then w _ _ (λ z site p q. ExprAt s z site n (syntax_of x) p q) (λ z site. At z i.CopyArr (line_at s token.0)) a c0 c g (emits_at w c0 c i.CopyArr (line_at s token.0) (ec ∙ ap (λ z. with_instr c0 i.CopyArr z) el) (λ z. cc) refl))
 
+  pub see_text_actual : (a c0 c : DraftOf) (token : TokenNo) (x : Expr) (f : Formal) (k : Passed) (line : ℕ) (y : Instr) → Writes b w n a c0 x → k ≡ passed_of f.mode f.kind (is_text_type f.ty) → k ≡ passed.CopiedText → y ≡ i.Std (pos 15) → line ≡ line_at (source_of b) token.0 → c ≡ with_push c0 n y line → WritesActual b w n a c token x f
+  unfolding WritesActual Writes Puts
+  see_text_actual a c0 c token x f k line y g ek is ey el ec =
+      let s = source_of b in
+      text_passed f.mode f.kind (is_text_type f.ty) (line_at s token.0) _ (λ z site p q. ExprAt s z site n (syntax_of x) p q) a c (sym is ∙ ek)
+      (emits_then w _ _ (λ z site p q. ExprAt s z site n (syntax_of x) p q) (λ z site p q. At z (i.Std (pos 15)) (line_at s token.0) p q × (n < site.room)) a c0 c g
+      (emits_push_at w c0 c n (i.Std (pos 15)) (line_at s token.0) (ec ∙ ap (λ z. with_push c0 n z line) ey ∙ ap (λ z. with_push c0 n (i.Std (pos 15)) z) el) (λ z. cc) refl))
+
   pub see_no_actual : (a c0 c : DraftOf) (token : TokenNo) (x : Expr) (f : Formal) (k : Passed) → Writes b w n a c0 x → k ≡ passed_of f.mode f.kind (is_text_type f.ty) → k ≡ passed.Other → c ≡ given_up c0 → WritesActual b w n a c token x f
   unfolding WritesActual Writes Puts
   see_no_actual a c0 c token x f k g ek is ec =
-      let never : ActualBuilt f.mode f.kind (is_text_type f.ty) → ⊥ = other_passed f.mode f.kind (is_text_type f.ty) (sym is ∙ ek) in
+      let never : ActualBuilt f.mode f.kind → ⊥ = other_passed f.mode f.kind (is_text_type f.ty) (sym is ∙ ek) in
       emits_as w (IsBuilt (source_of b) w.text (syntax_of x) × ⊥) _ _ _ a c (λ q. absurd (never q.1)) (λ q. absurd q.1) (λ final site p q _ _ r. absurd r.2)
       (emits_then w _ ⊥ (λ z site p q. ExprAt (source_of b) z site n (syntax_of x) p q) (λ final site p q. ⊥) a c0 c g (emits_nothing w c0 c ⊥ (λ final site p q. ⊥) (λ z. z) ec))
 
@@ -187,7 +190,7 @@ module _ (b : Bound) (w : Spot) (n : ℕ) where
       (subst (λ z. Emits w c end (ActualsBuilt s w.text (expressions (map syntax_of z)) g) (λ final site p q. ActualsAt s final site m line (expressions (map syntax_of z)) g p q)) (sym er)
       (subst (λ z. Emits w c end (ActualsBuilt s w.text (expressions (map syntax_of (x ∷ r'))) z) (λ final site p q. ActualsAt s final site m line (expressions (map syntax_of (x ∷ r'))) z p q)) (sym eg)
       (emits_as w _ _ _ _ c end (λ t. ((t.0, t.1), t.2)) (λ t. (t.0.0, t.0.1, t.1)) (λ final site p q _ _ r. r)
-      (emits_then w _ _ (λ z site p q. ActualAt z line f.mode f.kind (is_text_type f.ty) (λ u v. ExprAt s z site m (syntax_of x) u v) p q) (λ z site p q. ActualsAt s z site (suc m) line xs' g' p q) c d end one rest'))))
+      (emits_then w _ _ (λ z site p q. ActualAt z site m line f.mode f.kind (is_text_type f.ty) (λ u v. ExprAt s z site m (syntax_of x) u v) p q) (λ z site p q. ActualsAt s z site (suc m) line xs' g' p q) c d end one rest'))))
 
   pub actuals_none : (a c : DraftOf) (token : TokenNo) (es r : List Expr) (fs g : List Formal) (m : ℕ) → OwesActuals b w n a token es fs m c r g → r ≡ [] → g ≡ [] → WritesActuals b w n a c token es fs
   unfolding OwesActuals WritesActuals
@@ -290,7 +293,7 @@ module _ (b : Bound) (w : Spot) (n : ℕ) where
       subst (λ z. PutsNamed s w n a c token z es) (sym some)
       (seen_emits a c line d (entry_of s.tables d) es (AreBuilt s w.text es) (λ formals. ActualsBuilt s w.text es formals) (λ final site p q. ExprsAt s final site (suc n) es p q) (λ final site formals p q. ActualsAt s final site (suc n) line es formals p q) refl f')
 
-  pub see_standard : (a c : DraftOf) (token : TokenNo) (es : List Expr) (u : Option Denotation) (k : Standard) → u ≡ Some (denotation.Standard k) → WritesStandard b w n a c token k es → WritesNamed b w n a c token u es
+  pub see_standard : (a c : DraftOf) (token : TokenNo) (es : List Expr) (u : Option Denotation) (k : Standard) → u ≡ Some (denotation.Standard k) → WritesStandard b w n a c 1 token k es → WritesNamed b w n a c token u es
   unfolding WritesNamed PutsNamed WritesStandard
   see_standard a c token ys u k some f = subst (λ z. PutsNamed (source_of b) w n a c token z (expressions (map syntax_of ys))) (sym some) f
 
@@ -310,4 +313,4 @@ module _ (b : Bound) (w : Spot) (n : ℕ) where
   unfolding WritesGiving Puts
   see_not_giving a c x ys u eu not' ec = emits_nothing w a c _ _ (λ h. let t : gives (source_of b) u ≡ true = ap (gives (source_of b)) eu ∙ h.0 in cc) ec
 
-pub ruleset sees = (see_value, see_no_value, see_link, see_no_link, see_call, see_plain_actual, see_copied_actual, see_no_actual, see_unlike, see_variable, see_no_variable, see_constant, see_no_constant, see_array, see_element, see_called, see_nothing, see_declared, see_standard, see_undeclared, see_giving, see_not_giving)
+pub ruleset sees = (see_link, see_no_link, see_call, see_plain_actual, see_copied_actual, see_text_actual, see_no_actual, see_unlike, see_variable, see_no_variable, see_constant, see_no_constant, see_array, see_element, see_called, see_nothing, see_declared, see_standard, see_undeclared, see_giving, see_not_giving)

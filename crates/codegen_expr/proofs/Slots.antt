@@ -1,5 +1,5 @@
 -- The number of a cell, and whether there is one.
-use Rattle.std.proofs.Common.{◌≡◌, ◌<◌, ◌+◌, ℕ, zero, suc, Bool, true, false, if◌then◌else◌, List, [], ◌∷◌, length, Option, Some, None, refl, sym, ap, ◌∙◌, arith, subst}
+use Rattle.std.proofs.Common.{◌≡◌, ◌<◌, ◌+◌, ℕ, suc, Bool, true, false, if◌then◌else◌, List, [], ◌∷◌, length, Some, ◌∙◌, arith}
 use Rattle.sim_scope.specs.Source.{Source}
 use Rattle.sim_meaning.specs.Pending.{Held, Key, same_key}
 use Rattle.sim_meaning.specs.Texts.{text}

@@ -1,5 +1,5 @@
 -- Expressions, one part behind another.
-use Rattle.std.proofs.Common.{◌≡◌, ◌≢◌, ◌<◌, ◌+◌, ◌-◌, ℕ, ℤ, pos, suc, Bool, if◌then◌else◌, List, [], ◌∷◌, length, map, drop, Option, Some, None, true, false, refl, sym, ap, ◌∙◌, subst, arith}
+use Rattle.std.proofs.Common.{◌≡◌, ◌≢◌, ◌<◌, ◌≤◌, ◌+◌, ◌-◌, ℕ, ℤ, pos, suc, Bool, List, [], ◌∷◌, length, map, drop, Option, Some, None, true, false, refl, sym, ap, ◌∙◌, subst, arith}
 use Rattle.std.proofs.lemmas.List.{drop_more}
 use Rattle.std.specs.Prelude.{⊤, slice_index_or}
 use Rattle.std.specs.declared.alloc.Global.{Global}
@@ -8,17 +8,7 @@ use Rattle.std.specs.declared.vec.Vec.{Vec}
 use Rattle.sim_base.specs.declared.numbering.DeclNo.{DeclNo}
 use Rattle.sim_base.specs.declared.numbering.TokenNo.{TokenNo}
 use Rattle.sim_scope.specs.declared.bound.Bound.{Bound}
-use Rattle.sim_scope.specs.declared.scopes.Denotation.{Denotation}
-use Rattle.sim_scope.specs.declared.scopes.Denotation.TheVariants as denotation
-use Rattle.sim_scope.specs.declared.types.Entry.{Entry}
-use Rattle.sim_scope.specs.declared.types.Entry.TheVariants as entry
-use Rattle.sim_scope.specs.declared.types.Formal.{Formal}
-use Rattle.sim_scope.specs.declared.types.FormalKind.{FormalKind}
-use Rattle.sim_scope.specs.declared.types.FormalKind.TheVariants as shape
-use Rattle.sim_scope.specs.declared.types.Mode.{Mode}
-use Rattle.sim_scope.specs.declared.types.Mode.TheVariants as mode
-use Rattle.sim_scope.specs.Scopes.{entry_of}
-use Rattle.sim_scope.specs.Source.{Source, block_of, denoted, level_of, line_at, source_of}
+use Rattle.sim_scope.specs.Source.{block_of, level_of, line_at, source_of}
 use Rattle.sim_tree.specs.declared.expr.Expr.{Expr}
 use Rattle.sim_tree.specs.declared.expr.Expr.TheVariants as e
 use Rattle.sim_tree.specs.declared.expr.Factor.{Factor}
@@ -35,11 +25,9 @@ use Rattle.sim_tree.specs.declared.expr.Sign.TheVariants as sign
 use Rattle.sim_tree.specs.declared.expr.Term.{Term}
 use Rattle.sim_tree.specs.declared.operator.Operator.{Operator}
 use Rattle.sim_tree.specs.declared.operator.Operator.TheVariants as o
-use Rattle.sim_tree.specs.Syntax.{Binary, Expression, Expressions, If, Named, NoMore, Signed, Then, expressions}
-use Rattle.sim_tree.specs.SyntaxOf.{Cast, Selection, Tail, Take, chain, factor_syntax, negated, operand_syntax, selected, selector_syntax, signed, syntax_of, term_syntax, with_operator}
+use Rattle.sim_tree.specs.Syntax.{Binary, Expression, If, Named, Signed, expressions}
+use Rattle.sim_tree.specs.SyntaxOf.{Tail, chain, factor_syntax, negated, operand_syntax, selected, selector_syntax, signed, syntax_of, term_syntax, with_operator}
 use Rattle.sim_tree.proofs.SyntaxLemmas as v
-use Rattle.sim_values.specs.Standard.{operands_of, row_of}
-use Rattle.codegen_expr.specs.declared.names.StandardCode.{StandardCode}
 use Rattle.sim_values.specs.declared.operators.Calculation.TheVariants as calculation
 use Rattle.sim_values.specs.declared.operators.Connective.TheVariants as connective
 use Rattle.sim_values.specs.declared.operators.Dyadic.{Dyadic}
@@ -47,23 +35,22 @@ use Rattle.sim_values.specs.declared.operators.Dyadic.TheVariants as dyadic
 use Rattle.sim_code.specs.declared.instr.Instr.{Instr}
 use Rattle.sim_code.specs.declared.instr.Instr.TheVariants as i
 use Rattle.sim_code.specs.Code.{CodeOf}
-use Rattle.sim_code.specs.Running.{runs, standard_runs}
+use Rattle.sim_code.specs.Running.{runs}
 use Rattle.sim_meaning.specs.Closing.{Joining, Lazily, Negated, Plainly, Sort, is_text, sort_of}
-use Rattle.sim_scope.specs.declared.standard.Standard.{Standard}
-use Rattle.sim_values.specs.declared.standard.Standard.{Standard as Row}
-use Rattle.sim_meaning.specs.Names.{procedure_named}
 use Rattle.sim_meaning.specs.Pending.{Declared}
 use Rattle.codegen_expr.specs.declared.spot.Spot.{Spot}
+use Rattle.codegen_expr.specs.declared.operators.Object.{Object}
 use Rattle.codegen_expr.specs.declared.operators.Sorted.{Sorted}
 use Rattle.codegen_expr.specs.declared.operators.Sorted.TheVariants as sorted
-use Rattle.codegen_expr.specs.Built.{AreBuilt, IsBuilt, StandardBuilt, SortBuilt, is_around, is_there, slot_in}
-use Rattle.codegen_expr.specs.CodeExpr.{CellAt, ElementAt, ExprAt, ExprsAt, StandardAt, TwoAt, operands, two_instr}
+use Rattle.codegen_expr.specs.Built.{AreBuilt, IsBuilt, is_around, is_there, slot_in}
+use Rattle.codegen_expr.specs.CodeExpr.{CellAt, ExprAt, ExprsAt, JoinAt, Stand, TwoAt, join_instrs, operands, two_instr}
 use Rattle.codegen_expr.specs.Drafts.{DraftOf, Emits, filled_in, given_up, with_hole, with_instr, with_push}
-use Rattle.codegen_expr.specs.Emit.{Numbered, OwesList, OwesTails, Puts, Steady, Writes, WritesCell, WritesElement, WritesGiving, WritesList, WritesNot, WritesOperand, WritesOperands, WritesSelected, WritesSign, WritesStandard, WritesTails, sorted_of}
-use Rattle.codegen_expr.specs.Sites.{At, HasCell, IfAt, Inside, Is, Pushes, Site, slot_of}
+use Rattle.codegen_expr.specs.Emit.{OwesList, OwesTails, Puts, Steady, Writes, WritesCell, WritesElement, WritesEnd, WritesGiving, WritesJoin, WritesList, WritesNot, WritesOperand, WritesOperands, WritesSign, WritesStart, WritesSteps, WritesTails, WritesTaken, WritesTextAt, moves_next, sorted_of}
+use Rattle.codegen_expr.specs.Sites.{At, HasCell, IfAt, Inside, Pushes, Site, slot_of}
 use Rattle.codegen_expr.proofs.Around.{inside}
 use Rattle.codegen_expr.proofs.Slots.{slot_found, slot_within}
-use Rattle.codegen_expr.proofs.Pieces.{emits_as, emits_at, emits_if, emits_none, emits_nothing, emits_push, emits_push_at, emits_then}
+use Rattle.codegen_expr.proofs.Taken.{taken_before, taken_nothing, taken_whole}
+use Rattle.codegen_expr.proofs.Pieces.{emits_as, emits_at, emits_if, emits_none, emits_nothing, emits_push, emits_then}
 
 two_real : (op : Dyadic) → two_instr op ≢ i.Halt
 two_real (dyadic.Calculate calculation.Add) = λ z. cc
@@ -79,6 +66,21 @@ two_real (dyadic.Connect connective.Implies) = λ z. cc
 two_real (dyadic.Connect connective.Equivalent) = λ z. cc
 two_real dyadic.SameObject = λ z. cc
 two_real dyadic.SameText = λ z. cc
+
+two_runs : (op : Dyadic) → runs (two_instr op) ≡ true
+two_runs (dyadic.Calculate calculation.Add) = refl
+two_runs (dyadic.Calculate calculation.Subtract) = refl
+two_runs (dyadic.Calculate calculation.Multiply) = refl
+two_runs (dyadic.Calculate calculation.Divide) = refl
+two_runs (dyadic.Calculate calculation.Power) = refl
+two_runs (dyadic.Compare r) = refl
+two_runs (dyadic.CompareTexts r) = refl
+two_runs (dyadic.Connect connective.And) = refl
+two_runs (dyadic.Connect connective.Or) = refl
+two_runs (dyadic.Connect connective.Implies) = refl
+two_runs (dyadic.Connect connective.Equivalent) = refl
+two_runs dyadic.SameObject = refl
+two_runs dyadic.SameText = refl
 
 plain_same : (x y : Instr) → sorted.Plain x ≡ sorted.Plain y → x ≡ y
 plain_same x y e = cc
@@ -148,103 +150,73 @@ module _ (b : Bound) (w : Spot) (n : ℕ) where
       (λ f site. ExprAt s f site n (syntax_of x)) (λ f site. ExprAt s f site n (syntax_of y)) (λ f site. ExprAt s f site n (syntax_of z)) c0 c1 c2 c3 c4 c5 c6 c7 jump over start end f1 ej e2 f3 eo e4 es f5 ee e6 e7)
 
   -- an operator and its second operand, of which there are codes on n values and on one more
-  plain_runs : (x : Instr) (op : Dyadic) (r : Bool) → runs (two_instr op) ≡ r → sorted.Plain x ≡ (if r then sorted.Plain (two_instr op) else sorted.Other) → (two_instr op ≡ x) × (runs (two_instr op) ≡ true)
-  plain_runs x op true h e = (sym (plain_same x (two_instr op) e), h)
-  plain_runs x op false h e = absurd (cc)
-
-  negated_runs : (x : Instr) (op : Dyadic) (r : Bool) → runs (two_instr op) ≡ r → sorted.Negated x ≡ (if r then sorted.Negated (two_instr op) else sorted.Other) → (two_instr op ≡ x) × (runs (two_instr op) ≡ true)
-  negated_runs x op true h e = (sym (negated_same x (two_instr op) e), h)
-  negated_runs x op false h e = absurd (cc)
-
-  not_negated : (x : Instr) (op : Dyadic) (r : Bool) → sorted.Plain x ≡ (if r then sorted.Negated (two_instr op) else sorted.Other) → ⊥
-  not_negated x op true e = cc
-  not_negated x op false e = cc
-
-  not_plain : (x : Instr) (op : Dyadic) (r : Bool) → sorted.Negated x ≡ (if r then sorted.Plain (two_instr op) else sorted.Other) → ⊥
-  not_plain x op true e = cc
-  not_plain x op false e = cc
-
   plain_emits : (k : Sort) (line : ℕ) (A B C : Place) (P Q : Type 0) (c d : DraftOf) (x : Instr) → sorted.Plain x ≡ sorted_of k
-      → ((op : Dyadic) → two_instr op ≡ x → runs (two_instr op) ≡ true → Emits w c d (P × ⊤ × Q) (λ f site p q. (y : ℕ) × (z : ℕ) × A f site p y × C f site y z × At f (two_instr op) line z q))
-      → Emits w c d (P × SortBuilt k × Q) (λ f site p q. TwoAt f site n k line (A f site) (B f site) (C f site) p q)
-  plain_emits (Plainly op) line A B C P Q c d x e f =
-      let r = plain_runs x op (runs (two_instr op)) refl e in
-      emits_as w (P × ⊤ × Q) (P × (runs (two_instr op) ≡ true) × Q) _ _ c d (λ t. (t.0, tt, t.2)) (λ t. (t.0, r.1, t.2)) (λ final site p q _ _ t. t) (f op r.0 r.1)
-  plain_emits (Negated op) line A B C P Q c d x e f = absurd (not_negated x op (runs (two_instr op)) e)
+      → ((op : Dyadic) → two_instr op ≡ x → Emits w c d (P × Q) (λ f site p q. (y : ℕ) × (z : ℕ) × A f site p y × C f site y z × At f (two_instr op) line z q))
+      → Emits w c d (P × Q) (λ f site p q. TwoAt (source_of b) f site n k line (A f site) (B f site) (C f site) p q)
+  plain_emits (Plainly op) line A B C P Q c d x e f = f op (sym (plain_same x (two_instr op) e))
+  plain_emits (Negated op) line A B C P Q c d x e f = absurd (cc)
   plain_emits (Lazily true) line A B C P Q c d x e f = absurd (cc)
   plain_emits (Lazily false) line A B C P Q c d x e f = absurd (cc)
   plain_emits Joining line A B C P Q c d x e f = absurd (cc)
 
   negated_emits : (k : Sort) (line : ℕ) (A B C : Place) (P Q : Type 0) (c d : DraftOf) (x : Instr) → sorted.Negated x ≡ sorted_of k
-      → ((op : Dyadic) → two_instr op ≡ x → runs (two_instr op) ≡ true → Emits w c d (P × ⊤ × Q) (λ f site p q. (y : ℕ) × (z : ℕ) × (u : ℕ) × A f site p y × C f site y z × At f (two_instr op) line z u × At f i.Not line u q))
-      → Emits w c d (P × SortBuilt k × Q) (λ f site p q. TwoAt f site n k line (A f site) (B f site) (C f site) p q)
-  negated_emits (Plainly op) line A B C P Q c d x e f = absurd (not_plain x op (runs (two_instr op)) e)
-  negated_emits (Negated op) line A B C P Q c d x e f =
-      let r = negated_runs x op (runs (two_instr op)) refl e in
-      emits_as w (P × ⊤ × Q) (P × (runs (two_instr op) ≡ true) × Q) _ _ c d (λ t. (t.0, tt, t.2)) (λ t. (t.0, r.1, t.2)) (λ final site p q _ _ t. t) (f op r.0 r.1)
+      → ((op : Dyadic) → two_instr op ≡ x → Emits w c d (P × Q) (λ f site p q. (y : ℕ) × (z : ℕ) × (u : ℕ) × A f site p y × C f site y z × At f (two_instr op) line z u × At f i.Not line u q))
+      → Emits w c d (P × Q) (λ f site p q. TwoAt (source_of b) f site n k line (A f site) (B f site) (C f site) p q)
+  negated_emits (Plainly op) line A B C P Q c d x e f = absurd (cc)
+  negated_emits (Negated op) line A B C P Q c d x e f = f op (sym (negated_same x (two_instr op) e))
   negated_emits (Lazily true) line A B C P Q c d x e f = absurd (cc)
   negated_emits (Lazily false) line A B C P Q c d x e f = absurd (cc)
   negated_emits Joining line A B C P Q c d x e f = absurd (cc)
 
-  lazy_or : (op : Dyadic) {x : Sorted} → (r : Bool) → sorted.OrElse ≡ (if r then x else sorted.Other) → (sorted.OrElse ≡ x → ⊥) → ⊥
-  lazy_or op true e never = never e
-  lazy_or op false e never = cc
-
-  lazy_and : (op : Dyadic) {x : Sorted} → (r : Bool) → sorted.AndThen ≡ (if r then x else sorted.Other) → (sorted.AndThen ≡ x → ⊥) → ⊥
-  lazy_and op true e never = never e
-  lazy_and op false e never = cc
-
   or_emits : (k : Sort) (line : ℕ) (A B C : Place) (P Q : Type 0) (c d : DraftOf) → sorted.OrElse ≡ sorted_of k
       → Emits w c d (P × ⊤ × Q) (λ f site p q. IfAt f (A f site) (Pushes f site n (i.Bool (pos 1))) (B f site) p q)
-      → Emits w c d (P × SortBuilt k × Q) (λ f site p q. TwoAt f site n k line (A f site) (B f site) (C f site) p q)
-  or_emits (Plainly op) line A B C P Q c d e f = absurd (lazy_or op (runs (two_instr op)) e (λ z. cc))
-  or_emits (Negated op) line A B C P Q c d e f = absurd (lazy_or op (runs (two_instr op)) e (λ z. cc))
-  or_emits (Lazily true) line A B C P Q c d e f = f
+      → Emits w c d (P × Q) (λ f site p q. TwoAt (source_of b) f site n k line (A f site) (B f site) (C f site) p q)
+  or_emits (Plainly op) line A B C P Q c d e f = absurd (cc)
+  or_emits (Negated op) line A B C P Q c d e f = absurd (cc)
+  or_emits (Lazily true) line A B C P Q c d e f = emits_as w (P × ⊤ × Q) (P × Q) _ _ c d (λ t. (t.0, tt, t.1)) (λ t. (t.0, t.2)) (λ final site p q _ _ t. t) f
   or_emits (Lazily false) line A B C P Q c d e f = absurd (cc)
   or_emits Joining line A B C P Q c d e f = absurd (cc)
 
   and_emits : (k : Sort) (line : ℕ) (A B C : Place) (P Q : Type 0) (c d : DraftOf) → sorted.AndThen ≡ sorted_of k
       → Emits w c d (P × Q × ⊤) (λ f site p q. IfAt f (A f site) (B f site) (Pushes f site n (i.Bool (pos 0))) p q)
-      → Emits w c d (P × SortBuilt k × Q) (λ f site p q. TwoAt f site n k line (A f site) (B f site) (C f site) p q)
-  and_emits (Plainly op) line A B C P Q c d e f = absurd (lazy_and op (runs (two_instr op)) e (λ z. cc))
-  and_emits (Negated op) line A B C P Q c d e f = absurd (lazy_and op (runs (two_instr op)) e (λ z. cc))
+      → Emits w c d (P × Q) (λ f site p q. TwoAt (source_of b) f site n k line (A f site) (B f site) (C f site) p q)
+  and_emits (Plainly op) line A B C P Q c d e f = absurd (cc)
+  and_emits (Negated op) line A B C P Q c d e f = absurd (cc)
   and_emits (Lazily true) line A B C P Q c d e f = absurd (cc)
-  and_emits (Lazily false) line A B C P Q c d e f = emits_as w (P × Q × ⊤) (P × ⊤ × Q) _ _ c d (λ t. (t.0, t.2, t.1)) (λ t. (t.0, t.2, t.1)) (λ final site p q _ _ t. t) f
+  and_emits (Lazily false) line A B C P Q c d e f = emits_as w (P × Q × ⊤) (P × Q) _ _ c d (λ t. (t.0, t.1, tt)) (λ t. (t.0, t.1)) (λ final site p q _ _ t. t) f
   and_emits Joining line A B C P Q c d e f = absurd (cc)
 
-  other_runs : (op : Dyadic) {x : Sorted} → (r : Bool) → runs (two_instr op) ≡ r → sorted.Other ≡ (if r then x else sorted.Other) → (sorted.Other ≡ x → ⊥) → runs (two_instr op) ≡ true → ⊥
-  other_runs op true h e never k = never e
-  other_runs op false h e never k = cc
-
-  other_built : (k : Sort) → sorted.Other ≡ sorted_of k → SortBuilt k → ⊥
-  other_built (Plainly op) e h = other_runs op (runs (two_instr op)) refl e (λ z. cc) h
-  other_built (Negated op) e h = other_runs op (runs (two_instr op)) refl e (λ z. cc) h
-  other_built (Lazily true) e h = cc
-  other_built (Lazily false) e h = cc
-  other_built Joining e h = h
+  join_emits : (k : Sort) (line : ℕ) (A B C : Place) (P Q : Type 0) (c d : DraftOf) → sorted.Joined ≡ sorted_of k
+      → Emits w c d (P × Q) (λ f site p q. JoinAt (source_of b) f site n line (A f site) (C f site) p q)
+      → Emits w c d (P × Q) (λ f site p q. TwoAt (source_of b) f site n k line (A f site) (B f site) (C f site) p q)
+  join_emits (Plainly op) line A B C P Q c d e f = absurd (cc)
+  join_emits (Negated op) line A B C P Q c d e f = absurd (cc)
+  join_emits (Lazily true) line A B C P Q c d e f = absurd (cc)
+  join_emits (Lazily false) line A B C P Q c d e f = absurd (cc)
+  join_emits Joining line A B C P Q c d e f = f
 
   pub write_plain : (c0 c1 c2 : DraftOf) (texts : Bool) (operator : Operator) (token : TokenNo) (a : Expr) (k : Sorted) (x : Instr) (m line : ℕ) → k ≡ sorted_of (sort_of texts operator) → k ≡ sorted.Plain x → m ≡ suc n → Writes b w m c0 c1 a → line ≡ line_at (source_of b) token.0 → c2 ≡ with_instr c1 x line → WritesOperand b w n c0 c2 texts operator token a
   unfolding Writes WritesOperand Puts
   write_plain c0 c1 c2 texts operator token a k x m line ek ex em f el e2 start left st l =
       let s = source_of b in
       let f' = subst (λ z. Emits w c0 c1 (IsBuilt s w.text (syntax_of a)) (λ final site p q. ExprAt s final site z (syntax_of a) p q)) em f in
-      plain_emits (sort_of (is_text s left) operator) (line_at s token.0) (λ f site. ExprAt s f site n left) (λ f site. ExprAt s f site n (syntax_of a)) (λ f site. ExprAt s f site (suc n) (syntax_of a)) (IsBuilt s w.text left) (IsBuilt s w.text (syntax_of a)) start c2 x (sym ex ∙ ek ∙ ap sorted_of (sym st)) (λ op same run.
-      emits_as w _ _ _ _ start c2 (λ t. (t.0, (t.2, tt))) (λ t. (t.0, tt, t.1.0)) (λ final site p q _ _ r. (r.0, r.2.0, r.1, r.2.1, r.2.2))
+      plain_emits (sort_of (is_text s left) operator) (line_at s token.0) (λ f site. ExprAt s f site n left) (λ f site. ExprAt s f site n (syntax_of a)) (λ f site. ExprAt s f site (suc n) (syntax_of a)) (IsBuilt s w.text left) (IsBuilt s w.text (syntax_of a)) start c2 x (sym ex ∙ ek ∙ ap sorted_of (sym st)) (λ op same.
+      emits_as w _ _ _ _ start c2 (λ t. (t.0, (t.1, tt))) (λ t. (t.0, t.1.0)) (λ final site p q _ _ r. (r.0, r.2.0, r.1, r.2.1, r.2.2))
       (emits_then w _ _ (λ z site. ExprAt s z site n left) (λ z site p q. (y : ℕ) × ExprAt s z site (suc n) (syntax_of a) p y × At z (two_instr op) (line_at s token.0) y q) start c0 c2 l
       (emits_then w _ _ (λ z site. ExprAt s z site (suc n) (syntax_of a)) (λ z site. At z (two_instr op) (line_at s token.0)) c0 c1 c2 f'
-      (emits_at w c1 c2 (two_instr op) (line_at s token.0) (e2 ∙ ap (λ z. with_instr c1 z line) (sym same) ∙ ap (λ z. with_instr c1 (two_instr op) z) el) (two_real op) run))))
+      (emits_at w c1 c2 (two_instr op) (line_at s token.0) (e2 ∙ ap (λ z. with_instr c1 z line) (sym same) ∙ ap (λ z. with_instr c1 (two_instr op) z) el) (two_real op) (two_runs op)))))
 
   pub write_negated : (c0 c1 c2 c3 : DraftOf) (texts : Bool) (operator : Operator) (token : TokenNo) (a : Expr) (k : Sorted) (x : Instr) (m line line2 : ℕ) → k ≡ sorted_of (sort_of texts operator) → k ≡ sorted.Negated x → m ≡ suc n → Writes b w m c0 c1 a → line ≡ line_at (source_of b) token.0 → c2 ≡ with_instr c1 x line → line2 ≡ line_at (source_of b) token.0 → c3 ≡ with_instr c2 i.Not line2 → WritesOperand b w n c0 c3 texts operator token a
   unfolding Writes WritesOperand Puts
   write_negated c0 c1 c2 c3 texts operator token a k x m line line2 ek ex em f el e2 el2 e3 start left st l =
       let s = source_of b in
       let f' = subst (λ z. Emits w c0 c1 (IsBuilt s w.text (syntax_of a)) (λ final site p q. ExprAt s final site z (syntax_of a) p q)) em f in
-      negated_emits (sort_of (is_text s left) operator) (line_at s token.0) (λ f site. ExprAt s f site n left) (λ f site. ExprAt s f site n (syntax_of a)) (λ f site. ExprAt s f site (suc n) (syntax_of a)) (IsBuilt s w.text left) (IsBuilt s w.text (syntax_of a)) start c3 x (sym ex ∙ ek ∙ ap sorted_of (sym st)) (λ op same run.
-      emits_as w _ _ _ _ start c3 (λ t. (t.0, (t.2, (tt, tt)))) (λ t. (t.0, tt, t.1.0)) (λ final site p q _ _ r. (r.0, r.2.0, r.2.2.0, r.1, r.2.1, r.2.2.1, r.2.2.2))
+      negated_emits (sort_of (is_text s left) operator) (line_at s token.0) (λ f site. ExprAt s f site n left) (λ f site. ExprAt s f site n (syntax_of a)) (λ f site. ExprAt s f site (suc n) (syntax_of a)) (IsBuilt s w.text left) (IsBuilt s w.text (syntax_of a)) start c3 x (sym ex ∙ ek ∙ ap sorted_of (sym st)) (λ op same.
+      emits_as w _ _ _ _ start c3 (λ t. (t.0, (t.1, (tt, tt)))) (λ t. (t.0, t.1.0)) (λ final site p q _ _ r. (r.0, r.2.0, r.2.2.0, r.1, r.2.1, r.2.2.1, r.2.2.2))
       (emits_then w _ _ (λ z site. ExprAt s z site n left) (λ z site p q. (y : ℕ) × ExprAt s z site (suc n) (syntax_of a) p y × ((u : ℕ) × At z (two_instr op) (line_at s token.0) y u × At z i.Not (line_at s token.0) u q)) start c0 c3 l
       (emits_then w _ _ (λ z site. ExprAt s z site (suc n) (syntax_of a)) (λ z site y q. (u : ℕ) × At z (two_instr op) (line_at s token.0) y u × At z i.Not (line_at s token.0) u q) c0 c1 c3 f'
       (emits_then w _ _ (λ z site. At z (two_instr op) (line_at s token.0)) (λ z site. At z i.Not (line_at s token.0)) c1 c2 c3
-      (emits_at w c1 c2 (two_instr op) (line_at s token.0) (e2 ∙ ap (λ z. with_instr c1 z line) (sym same) ∙ ap (λ z. with_instr c1 (two_instr op) z) el) (two_real op) run)
+      (emits_at w c1 c2 (two_instr op) (line_at s token.0) (e2 ∙ ap (λ z. with_instr c1 z line) (sym same) ∙ ap (λ z. with_instr c1 (two_instr op) z) el) (two_real op) (two_runs op))
       (emits_at w c2 c3 i.Not (line_at s token.0) (e3 ∙ ap (λ z. with_instr c2 i.Not z) el2) (λ z. cc) refl)))))
 
   pub write_or : (c1 c2 c3 c4 c5 c6 c7 : DraftOf) (texts : Bool) (operator : Operator) (token : TokenNo) (a : Expr) (k : Sorted) (jump over : ℕ) (start end : ℤ) → k ≡ sorted_of (sort_of texts operator) → k ≡ sorted.OrElse
@@ -271,11 +243,15 @@ module _ (b : Bound) (w : Spot) (n : ℕ) where
       emits_as w (P × ⊥) Q _ _ a d (λ q. absurd (never q)) (λ q. absurd q.1) (λ final site p q _ _ r. absurd r.2)
       (emits_then w P ⊥ A (λ final site p q. ⊥) a c d f (emits_nothing w c d ⊥ (λ final site p q. ⊥) (λ z. z) is))
 
-  pub write_other : (c0 c1 : DraftOf) (texts : Bool) (operator : Operator) (token : TokenNo) (a : Expr) (k : Sorted) → k ≡ sorted_of (sort_of texts operator) → k ≡ sorted.Other → c1 ≡ given_up c0 → WritesOperand b w n c0 c1 texts operator token a
-  unfolding WritesOperand Puts
-  write_other c0 c1 texts operator token a k ek ex is start left st l =
+  pub write_joined : (c0 c1 c2 : DraftOf) (texts : Bool) (operator : Operator) (token : TokenNo) (a : Expr) (k : Sorted) (m : ℕ) → k ≡ sorted_of (sort_of texts operator) → k ≡ sorted.Joined → m ≡ suc n → Writes b w m c0 c1 a → WritesJoin b w n c1 c2 token → WritesOperand b w n c0 c2 texts operator token a
+  unfolding Writes WritesOperand Puts WritesJoin
+  write_joined c0 c1 c2 texts operator token a k m ek ex em f g start left st l =
       let s = source_of b in
-      gives_up (IsBuilt s w.text left) _ (λ f site. ExprAt s f site n left) _ start c0 c1 l (λ t. other_built (sort_of (is_text s left) operator) (sym ex ∙ ek ∙ ap sorted_of (sym st)) t.1) is
+      let f' = subst (λ z. Emits w c0 c1 (IsBuilt s w.text (syntax_of a)) (λ final site p q. ExprAt s final site z (syntax_of a) p q)) em f in
+      join_emits (sort_of (is_text s left) operator) (line_at s token.0) (λ f site. ExprAt s f site n left) (λ f site. ExprAt s f site n (syntax_of a)) (λ f site. ExprAt s f site (suc n) (syntax_of a)) (IsBuilt s w.text left) (IsBuilt s w.text (syntax_of a)) start c2 (sym ex ∙ ek ∙ ap sorted_of (sym st))
+      (emits_as w _ _ _ _ start c2 (λ t. (t.0, (t.1, tt))) (λ t. (t.0, t.1.0)) (λ final site p q _ _ r. record { x = r.0; y = r.2.0; temp = w.used; behind = r.2.2.0; within = r.2.2.1; left = r.1; right = r.2.1; room = r.2.2.2; joins = r.2.2.3 })
+      (emits_then w _ _ (λ z site. ExprAt s z site n left) (λ z site p q. (y : ℕ) × ExprAt s z site (suc n) (syntax_of a) p y × ((site.used ≤ w.used) × (suc (suc w.used) < site.size) × (suc (suc n) < site.room) × Stand z (line_at s token.0) (join_instrs (level_of s site.text) w.used) y q)) start c0 c2 l
+      (emits_then w _ _ (λ z site. ExprAt s z site (suc n) (syntax_of a)) (λ z site y q. (site.used ≤ w.used) × (suc (suc w.used) < site.size) × (suc (suc n) < site.room) × Stand z (line_at s token.0) (join_instrs (level_of s site.text) w.used) y q) c0 c1 c2 f' g)))
 
   -- further operands
   pub owes_all : (a : DraftOf) (ts : List Tail) → OwesTails b w n a ts a ts
@@ -375,78 +351,27 @@ module _ (b : Bound) (w : Spot) (n : ℕ) where
       (emits_as w _ _ _ _ a d (λ t. (t, tt)) (λ t. t.0) (λ final site p q _ _ r. r)
       (emits_then w _ _ (λ z site. ExprAt s z site n (negated ts (syntax_of x))) (λ z site. At z i.Not (line_at s t.0)) a c d f (emits_at w c d i.Not (line_at s t.0) (ed ∙ ap (λ z. with_instr c i.Not z) el) (λ z. cc) refl)))
 
-  -- what is taken of an object
-  unbuilt_selected : (s : Source) (x : Expression) (ys : List Selection) → (IsBuilt s w.text x → ⊥) → IsBuilt s w.text (selected x ys) → ⊥
-  unbuilt_selected s x [] never h = never h
-  unbuilt_selected s x (Take t y args ∷ ys) never h = unbuilt_selected s _ ys (λ z. z) h
-  unbuilt_selected s x (Cast t y ∷ ys) never h = unbuilt_selected s _ ys (λ z. z) h
+  write_postfix : (c0 c1 : DraftOf) (a x : Expr) (p : Box Expr Global) (l : Vec Selector Global) (ts : List Selector) → a ≡ e.Postfix p l → x ≡ p.value → ts ≡ l.items → WritesTaken b w n c0 c1 x ts → Writes b w n c0 c1 a
+  unfolding Writes WritesTaken
+  write_postfix c0 c1 a x p l ts is ex et f = puts_as c0 c1 (selected (syntax_of x) (map selector_syntax ts)) (syntax_of a)
+      (ap (λ z. selected (syntax_of z) (map selector_syntax ts)) ex ∙ ap (λ z. selected (syntax_of p.value) (map selector_syntax z)) et ∙ sym (ap syntax_of is ∙ v.syntax-Postfix p l)) f
 
-  unbuilt_further : (s : Source) (x : Expression) (y : Selection) (ys : List Selection) → IsBuilt s w.text (selected x (y ∷ ys)) → ⊥
-  unbuilt_further s x (Take t y args) ys h = unbuilt_selected s _ ys (λ z. z) h
-  unbuilt_further s x (Cast t y) ys h = unbuilt_selected s _ ys (λ z. z) h
+  pub write_postfix_alone : (c0 c1 : DraftOf) (a x : Expr) (p : Box Expr Global) (l : Vec Selector Global) (ts : List Selector) → a ≡ e.Postfix p l → x ≡ p.value → ts ≡ l.items → length ts ≡ 0 → Writes b w n c0 c1 x → Writes b w n c0 c1 a
+  write_postfix_alone c0 c1 a x p l ts is ex et none f = write_postfix c0 c1 a x p l ts is ex et (taken_nothing b w n c0 c1 x ts none f)
 
-  pub select_none : (a : DraftOf) (xs : List Selector) → length xs ≡ 0 → WritesSelected b w n a a xs
-  unfolding WritesSelected
-  select_none a [] is start x f = f
-  select_none a (y ∷ ys) is start x f = absurd (omega (arith, is))
-
-  pub select_some : (a c : DraftOf) (xs : List Selector) → length xs ≢ 0 → c ≡ given_up a → WritesSelected b w n a c xs
-  unfolding WritesSelected Puts
-  select_some a c [] is ec start x f = absurd (is refl)
-  select_some a c (y ∷ ys) is ec start x f = gives_up (IsBuilt (source_of b) w.text x) _ (λ z site. ExprAt (source_of b) z site n x) _ start a c f (unbuilt_further (source_of b) x (selector_syntax y) (map selector_syntax ys)) ec
-
-  pub write_postfix : (c0 c1 c2 : DraftOf) (a x : Expr) (p : Box Expr Global) (l : Vec Selector Global) (ts : List Selector) → a ≡ e.Postfix p l → x ≡ p.value → ts ≡ l.items → Writes b w n c0 c1 x → WritesSelected b w n c1 c2 ts → Writes b w n c0 c2 a
-  unfolding Writes WritesSelected
-  write_postfix c0 c1 c2 a x p l ts is ex et f g = puts_as c0 c2 (selected (syntax_of x) (map selector_syntax ts)) (syntax_of a)
-      (ap (λ z. selected (syntax_of z) (map selector_syntax ts)) ex ∙ ap (λ z. selected (syntax_of p.value) (map selector_syntax z)) et ∙ sym (ap syntax_of is ∙ v.syntax-Postfix p l)) (g c0 (syntax_of x) f)
+  pub write_postfix_taken : (c0 c1 c2 c3 : DraftOf) (a x : Expr) (p : Box Expr Global) (l : Vec Selector Global) (ts : List Selector) (o o' : Object) (moves : Bool) → a ≡ e.Postfix p l → x ≡ p.value → ts ≡ l.items
+      → moves ≡ moves_next (source_of b) (drop 0 (map selector_syntax ts)) → WritesStart b w n c0 c1 moves o x → WritesSteps b w n c1 c2 o ts o' → WritesEnd b w n c2 c3 o' ts → Writes b w n c0 c3 a
+  write_postfix_taken c0 c1 c2 c3 a x p l ts o o' moves is ex et em f g h =
+      write_postfix c0 c3 a x p l ts is ex et (taken_whole b w n c0 c2 c3 x ts o' (taken_before b w n c0 c1 c2 x ts o o' moves em f g) h)
 
   -- identifiers, of which there is what they write
   pub write_named : (a c : DraftOf) (u : Expr) (x : Identifier) (l : Vec Expr Global) (es : List Expr) → u ≡ e.Named x l → es ≡ l.items → WritesGiving b w n a c x es → Writes b w n a c u
   unfolding Writes WritesGiving
   write_named a c u x l es is ee f = puts_as a c (Named x (expressions (map syntax_of es))) (syntax_of u) (ap (λ z. Named x (expressions (map syntax_of z))) ee ∙ sym (ap syntax_of is ∙ v.syntax-Named x l)) f
 
-  -- standard names
-  numbered_emits : (o : Option Row) (row : StandardCode) (count line : ℕ) (es : Expressions) (A : Place) (P : Type 0) (a c : DraftOf) → Numbered (Some row) o → operands es ≡ row.operands → runs (i.Std (pos row.number)) ≡ true → Emits w a c (P × ⊤) (λ final site p q. (x : ℕ) × A final site p x × (At final (i.Std (pos row.number)) line x q × (n < site.room)))
-      → Emits w a c (StandardBuilt o (operands es) × P) (λ final site p q. StandardAt final site n line o es (A final site) p q)
-  numbered_emits None row count line es A P a c h many run f = absurd h
-  numbered_emits (Some name) row count line es A P a c h many run f =
-      let as_many : operands es ≡ length (operands_of (row_of name).function) = many ∙ h.takes in
-      emits_as w _ _ _ _ a c (λ t. (t.1, tt)) (λ t. ((h.runs, as_many), t.0)) (λ final site p q _ _ r. (r.0, r.1, record { as_many = as_many; number = row.number; numbered = h.named; is = r.2.0; fits = λ _. r.2.1 })) f
-
-  numbered_runs : (o : Option Row) (row : StandardCode) → Numbered (Some row) o → runs (i.Std (pos row.number)) ≡ true
-  numbered_runs None row h = absurd h
-  numbered_runs (Some name) row h = ap standard_runs h.named ∙ h.runs
-
-  count : (es : List Expr) → operands (expressions (map syntax_of es)) ≡ length es
+  pub count : (es : List Expr) → operands (expressions (map syntax_of es)) ≡ length es
   count [] = refl
   count (x ∷ xs) = ap suc (count xs)
-
-  pub write_standard : (a c0 c : DraftOf) (token : TokenNo) (name : Standard) (es : List Expr) (o : Option StandardCode) (row : StandardCode) (line : ℕ) (x : Instr) → Numbered o (procedure_named name) → o ≡ Some row → length es ≡ row.operands → WritesList b w n a c0 es → x ≡ i.Std (pos row.number) → line ≡ line_at (source_of b) token.0 → c ≡ with_push c0 n x line → WritesStandard b w n a c token name es
-  unfolding WritesStandard WritesList
-  write_standard a c0 c token name ys o row line x h some many f ex el ec =
-      let s = source_of b in
-      let es = expressions (map syntax_of ys) in
-      let is = subst (λ z. Numbered z (procedure_named name)) some h in
-      let run = numbered_runs (procedure_named name) row is in
-      numbered_emits (procedure_named name) row (operands es) (line_at s token.0) es (λ z site p q. ExprsAt s z site n es p q) _ a c is (count ys ∙ many) run
-      (emits_then w _ _ (λ z site p q. ExprsAt s z site n es p q) (λ z site p q. At z (i.Std (pos row.number)) (line_at s token.0) p q × (n < site.room)) a c0 c f
-      (emits_push_at w c0 c n (i.Std (pos row.number)) (line_at s token.0) (ec ∙ ap (λ z. with_push c0 n z line) ex ∙ ap (λ z. with_push c0 n (i.Std (pos row.number)) z) el) (λ z. cc) run))
-
-  no_number : (o : Option Row) (count : ℕ) → Numbered None o → StandardBuilt o count → ⊥
-  no_number None count h t = t
-  no_number (Some name) count h t = let k = t.0 in cc
-
-  pub write_no_number : (a c : DraftOf) (token : TokenNo) (name : Standard) (es : List Expr) (o : Option StandardCode) → Numbered o (procedure_named name) → o ≡ None → c ≡ given_up a → WritesStandard b w n a c token name es
-  unfolding WritesStandard
-  write_no_number a c token name es o h none ec = emits_nothing w a c _ _ (λ t. no_number (procedure_named name) _ (subst (λ z. Numbered z (procedure_named name)) none h) t.0) ec
-
-  other_number : (o : Option Row) (row : StandardCode) (count : ℕ) → Numbered (Some row) o → count ≢ row.operands → StandardBuilt o count → ⊥
-  other_number None row count h other t = h
-  other_number (Some name) row count h other t = other (t.1 ∙ sym h.takes)
-
-  pub write_other_number : (a c : DraftOf) (token : TokenNo) (name : Standard) (es : List Expr) (o : Option StandardCode) (row : StandardCode) → Numbered o (procedure_named name) → o ≡ Some row → length es ≢ row.operands → c ≡ given_up a → WritesStandard b w n a c token name es
-  unfolding WritesStandard
-  write_other_number a c token name es o row h some other ec = emits_nothing w a c _ _ (λ t. other_number (procedure_named name) row _ (subst (λ z. Numbered z (procedure_named name)) some h) (λ z. other (sym (count es) ∙ z)) t.0) ec
 
   -- lists and elements
   pub lists_all : (a : DraftOf) (es : List Expr) → OwesList b w n a es n a es
@@ -532,14 +457,16 @@ module _ (b : Bound) (w : Spot) (n : ℕ) where
   pub write_Member : (a c : DraftOf) (u : Expr) (p : Box Expr Global) (t : TokenNo) (r : Membership) (x : Identifier) → u ≡ e.Member p t r x → c ≡ given_up a → Writes b w n a c u
   write_Member a c u p t r x is ec = unbuilt a c u _ (ap syntax_of is ∙ v.syntax-Member p t r x) (λ z. z) ec
 
-  pub write_Text : (a c : DraftOf) (u : Expr) (t : TokenNo) (z : List ℕ) → u ≡ e.Text t z → c ≡ given_up a → Writes b w n a c u
-  write_Text a c u t z is ec = unbuilt a c u _ (ap syntax_of is ∙ v.syntax-Text t z) (λ z. z) ec
+  pub write_Text : (a c : DraftOf) (u : Expr) (t : TokenNo) (z : List ℕ) → u ≡ e.Text t z → WritesTextAt b w n a c t → Writes b w n a c u
+  unfolding Writes Puts WritesTextAt
+  write_Text a c u t z is f = puts_as a c _ (syntax_of u) (sym (ap syntax_of is ∙ v.syntax-Text t z)) f
 
   pub write_NoObject : (a c : DraftOf) (u : Expr) (t : TokenNo) → u ≡ e.NoObject t → c ≡ given_up a → Writes b w n a c u
   write_NoObject a c u t is ec = unbuilt a c u _ (ap syntax_of is ∙ v.syntax-NoObject t) (λ z. z) ec
 
-  pub write_Notext : (a c : DraftOf) (u : Expr) (t : TokenNo) → u ≡ e.Notext t → c ≡ given_up a → Writes b w n a c u
-  write_Notext a c u t is ec = unbuilt a c u _ (ap syntax_of is ∙ v.syntax-Notext t) (λ z. z) ec
+  pub write_Notext : (a c : DraftOf) (u : Expr) (t : TokenNo) → u ≡ e.Notext t → c ≡ with_push a n i.NoText 0 → Writes b w n a c u
+  unfolding Writes Puts
+  write_Notext a c u t is ec = puts_as a c _ (syntax_of u) (sym (ap syntax_of is ∙ v.syntax-Notext t)) (emits_push w a c n i.NoText 0 ec (λ z. cc) refl)
 
   pub write_This : (a c : DraftOf) (u : Expr) (t : TokenNo) (x : Identifier) → u ≡ e.This t x → c ≡ given_up a → Writes b w n a c u
   write_This a c u t x is ec = unbuilt a c u _ (ap syntax_of is ∙ v.syntax-This t x) (λ z. z) ec
@@ -558,4 +485,4 @@ from_back xs i d le =
     let two : k ≡ length xs - 1 - i = omega arith in
     drop_more xs k d (omega arith) ∙ ap (λ n. slice_index_or xs k d ∷ drop n xs) one ∙ ap (λ n. slice_index_or xs n d ∷ drop (length xs - i) xs) two
 
-pub ruleset writes = (write_if, write_plain, write_negated, write_or, write_and, write_other, write_OrElse, write_AndThen, write_Eqv, write_Imp, write_Or, write_And, write_Concatenation, write_Power, write_product, write_sum, write_signed, write_plus, write_minus, write_related, write_not, select_none, select_some, write_postfix, write_named, write_element, write_standard, write_no_number, write_other_number, write_load, write_no_slot, write_outside, write_Integer, write_Character, write_True, write_False, write_parentheses, write_Member, write_Text, write_NoObject, write_Notext, write_This, write_New)
+pub ruleset writes = (write_if, write_plain, write_negated, write_or, write_and, write_joined, write_OrElse, write_AndThen, write_Eqv, write_Imp, write_Or, write_And, write_Concatenation, write_Power, write_product, write_sum, write_signed, write_plus, write_minus, write_related, write_not, write_postfix_alone, write_postfix_taken, write_named, write_element, write_load, write_no_slot, write_outside, write_Integer, write_Character, write_True, write_False, write_parentheses, write_Member, write_Text, write_NoObject, write_Notext, write_This, write_New)

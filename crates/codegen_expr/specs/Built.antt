@@ -1,5 +1,5 @@
--- Which expressions are built: all that speak of no object, and of no text but as the value of a variable or of a parameter by reference.
-use Rattle.std.specs.Prelude.{◌≡◌, ⊤, ℕ, zero, suc, Bool, true, false, ◌==◌, if◌then◌else◌, List, [], ◌∷◌, length, Option, Some, None}
+-- Which expressions are built: all that speak of no object, of no parameter by name and of no formal procedure.
+use Rattle.std.specs.Prelude.{◌≡◌, ◌&&◌, ⊤, ℕ, zero, suc, Bool, true, false, ◌==◌, if◌then◌else◌, List, [], ◌∷◌, length, Option, Some, None}
 use Rattle.sim_base.specs.declared.numbering.DeclNo.{DeclNo}
 use Rattle.sim_scope.specs.declared.scopes.Denotation.{Denotation}
 use Rattle.sim_scope.specs.declared.scopes.Denotation.TheVariants as denotation
@@ -16,14 +16,15 @@ use Rattle.sim_scope.specs.Tables.{Tables}
 use Rattle.sim_tree.specs.Syntax.{Expression, Expressions, Literal, NoMore, Then}
 use Rattle.sim_tree.specs.Syntax as syntax
 use Rattle.sim_values.specs.declared.standard.Standard.{Standard}
-use Rattle.sim_values.specs.Standard.{operands_of, row_of}
-use Rattle.sim_values.specs.Plain.{Plain, Integer, Truth, Character}
-use Rattle.sim_code.specs.Running.{name_runs, runs}
-use Rattle.sim_meaning.specs.Closing.{Joining, Lazily, Negated, Plainly, Sort, formals_at, is_text, is_text_type, sort_of}
+use Rattle.sim_values.specs.Standard.{is_image, moves_position, on_image, operands_of, row_of}
+use Rattle.sim_values.specs.Plain.{Plain, Integer, Truth, Character, Text}
+use Rattle.sim_code.specs.Running.{name_runs}
+use Rattle.sim_meaning.specs.Closing.{formals_at, is_variable, stream_of}
+use Rattle.sim_meaning.specs.Constants.{text_constant}
 use Rattle.sim_meaning.specs.Names.{procedure_named}
 use Rattle.sim_meaning.specs.Pending.{Declared, Held, Key, same_key}
 use Rattle.sim_meaning.specs.Texts.{constant_of, text}
-use Rattle.codegen_expr.specs.CodeExpr.{gives, operands, two_instr}
+use Rattle.codegen_expr.specs.CodeExpr.{gives, operands}
 use Rattle.codegen_expr.specs.Sites.{cells_in}
 
 -- ---- cells
@@ -69,6 +70,7 @@ abbrev pub PlainBuilt : Plain → Type 0
 PlainBuilt (Integer z) = ⊤
 PlainBuilt (Truth b) = ⊤
 PlainBuilt (Character c) = ⊤
+PlainBuilt (Text t) = ⊤
 PlainBuilt _ = ⊥
 
 abbrev pub VariableBuilt : Source → (text : ℕ) → DeclNo → Expressions → Type 0
@@ -101,51 +103,107 @@ DeclaredBuilt s text d (Some (entry.Formal f)) es Operands Actuals = FormalBuilt
 DeclaredBuilt s text d (Some (entry.Procedure result block)) es Operands Actuals = CallBuilt s text d (Actuals (formals_at s d))
 DeclaredBuilt s text d _ es Operands Actuals = ⊥
 
--- a standard name with as many operands as it takes
-abbrev pub StandardBuilt : Option Standard → (count : ℕ) → Type 0
-StandardBuilt None count = ⊥
-StandardBuilt (Some name) count = (name_runs name ≡ true) × (count ≡ length (operands_of (row_of name).function))
+-- a standard name that the machine does, with as many operands as it takes
+pub record NameBuilt (name : Standard) (count : ℕ) : Type 0 where
+  pub runs : name_runs name ≡ true
+  pub as_many : count ≡ length (operands_of (row_of name).function)
+
+abbrev pub NothingMore : Expressions → Type 0
+NothingMore NoMore = ⊤
+NothingMore (Then e es) = ⊥
+
+-- a name of both images is done on one of them
+abbrev pub ImageNameBuilt : (is_image : Bool) → (on_image : Option Standard) → Standard → Expressions → (Operands : Type 0) → Type 0
+ImageNameBuilt true other name es Operands = NothingMore es
+ImageNameBuilt false (Some of_text) name es Operands = NameBuilt of_text (suc (operands es)) × Operands
+ImageNameBuilt false None name es Operands = NameBuilt name (operands es) × Operands
+
+abbrev pub StandardBuilt : Option Standard → Expressions → (Operands : Type 0) → Type 0
+StandardBuilt None es Operands = ⊥
+StandardBuilt (Some name) es Operands = ImageNameBuilt (is_image name) (on_image name) name es Operands
 
 abbrev pub NamedBuilt : Source → (text : ℕ) → Option Denotation → Expressions → (Operands : Type 0) → (Actuals : List Formal → Type 0) → Type 0
 NamedBuilt s text None es Operands Actuals = ⊥
 NamedBuilt s text (Some (denotation.Declared d)) es Operands Actuals = DeclaredBuilt s text d (entry_of s.tables d) es Operands Actuals
-NamedBuilt s text (Some (denotation.Standard name)) es Operands Actuals = StandardBuilt (procedure_named name) (operands es) × Operands
+NamedBuilt s text (Some (denotation.Standard name)) es Operands Actuals = StandardBuilt (procedure_named name) es Operands
 
--- an actual parameter: none by name, no procedure, and no text by value
-abbrev pub ActualBuilt : Mode → FormalKind → (text : Bool) → Type 0
-ActualBuilt mode.ByValue shape.Array text = ⊤
-ActualBuilt mode.ByReference shape.Array text = ⊤
-ActualBuilt mode.ByValue shape.Simple true = ⊥
-ActualBuilt mode.ByValue shape.Simple false = ⊤
-ActualBuilt mode.ByReference shape.Simple text = ⊤
-ActualBuilt mode shape.Procedure text = ⊥
-ActualBuilt mode.ByName kind text = ⊥
+-- ---- attributes of texts, behind a dot
+
+abbrev pub ArrayPlaceBuilt : Source → (text : ℕ) → DeclNo → Expressions → (Subscripts : Type 0) → Type 0
+ArrayPlaceBuilt s text d NoMore Subscripts = ⊥
+ArrayPlaceBuilt s text d (Then e es) Subscripts = CellBuilt s text d × Subscripts
+
+abbrev pub FormalPlaceBuilt : Source → (text : ℕ) → DeclNo → Mode → FormalKind → Expressions → (Subscripts : Type 0) → Type 0
+FormalPlaceBuilt s text d mode.ByName kind es Subscripts = ⊥
+FormalPlaceBuilt s text d mode shape.Simple es Subscripts = VariableBuilt s text d es
+FormalPlaceBuilt s text d mode shape.Array es Subscripts = ArrayPlaceBuilt s text d es Subscripts
+FormalPlaceBuilt s text d mode shape.Procedure es Subscripts = ⊥
+
+abbrev pub DeclaredPlaceBuilt : Source → (text : ℕ) → DeclNo → Option Entry → Expressions → (Subscripts : Type 0) → Type 0
+DeclaredPlaceBuilt s text d (Some (entry.Variable type)) es Subscripts = VariableBuilt s text d es
+DeclaredPlaceBuilt s text d (Some (entry.Array element dimensions)) es Subscripts = ArrayPlaceBuilt s text d es Subscripts
+DeclaredPlaceBuilt s text d (Some (entry.Formal f)) es Subscripts = FormalPlaceBuilt s text d f.mode f.kind es Subscripts
+DeclaredPlaceBuilt s text d _ es Subscripts = ⊥
+
+abbrev pub NamedPlaceBuilt : Source → (text : ℕ) → Option Denotation → Expressions → (Subscripts : Type 0) → Type 0
+NamedPlaceBuilt s text (Some (denotation.Declared d)) es Subscripts = DeclaredPlaceBuilt s text d (entry_of s.tables d) es Subscripts
+NamedPlaceBuilt s text _ es Subscripts = ⊤
+
+abbrev pub StreamBuilt : (stream : Option ℕ) → Type 0
+StreamBuilt None = ⊥
+StreamBuilt (Some image) = ⊤
+
+abbrev pub ObjectBuilt : (place : Bool) → (Place Value : Type 0) → Type 0
+ObjectBuilt true Place Value = Place
+ObjectBuilt false Place Value = Value
+
+abbrev pub AttributeBuilt : Option Standard → (is_variable : Bool) → Expressions → (Place Value Operands : Type 0) → Type 0
+AttributeBuilt None is_variable es Place Value Operands = ⊥
+AttributeBuilt (Some name) is_variable es Place Value Operands = NameBuilt name (suc (operands es)) × ObjectBuilt (moves_position name && is_variable) Place Value × Operands
+
+abbrev pub BehindDotBuilt : (stream : Option ℕ) → Option Standard → (is_variable : Bool) → Expressions → (Place Value Operands : Type 0) → Type 0
+BehindDotBuilt (Some image) name is_variable es Place Value Operands = StandardBuilt name es Operands
+BehindDotBuilt None name is_variable es Place Value Operands = AttributeBuilt name is_variable es Place Value Operands
+
+abbrev pub DotBuilt : Option Denotation → (stream : Option ℕ) → (is_variable : Bool) → Expressions → (Place Value Operands : Type 0) → Type 0
+DotBuilt (Some (denotation.Standard name)) stream is_variable es Place Value Operands = BehindDotBuilt stream (procedure_named name) is_variable es Place Value Operands
+DotBuilt _ stream is_variable es Place Value Operands = ⊥
+
+-- an actual parameter: none by name, and no procedure
+abbrev pub ActualBuilt : Mode → FormalKind → Type 0
+ActualBuilt mode shape.Procedure = ⊥
+ActualBuilt mode.ByName kind = ⊥
+ActualBuilt mode.ByValue kind = ⊤
+ActualBuilt mode.ByReference kind = ⊤
 
 -- ---- expressions
 
-abbrev pub LiteralBuilt : Literal → Type 0
-LiteralBuilt (syntax.IntegerValue z) = ⊤
-LiteralBuilt (syntax.CharacterValue c) = ⊤
-LiteralBuilt (syntax.BooleanValue b) = ⊤
-LiteralBuilt _ = ⊥
-
--- An operator is built whose instruction the machine does: none on texts.
-abbrev pub SortBuilt : Sort → Type 0
-SortBuilt (Plainly op) = runs (two_instr op) ≡ true
-SortBuilt (Negated op) = runs (two_instr op) ≡ true
-SortBuilt (Lazily b) = ⊤
-SortBuilt Joining = ⊥
+abbrev pub LiteralBuilt : Source → (token : ℕ) → Literal → Type 0
+LiteralBuilt s token (syntax.IntegerValue z) = ⊤
+LiteralBuilt s token (syntax.CharacterValue c) = ⊤
+LiteralBuilt s token (syntax.TextValue bytes) = ConstantBuilt (text_constant s token) NoMore
+LiteralBuilt s token (syntax.BooleanValue b) = ⊤
+LiteralBuilt s token syntax.NoText = ⊤
+LiteralBuilt s token syntax.NoObject = ⊥
 
 abbrev mutual
   pub IsBuilt : Source → (text : ℕ) → Expression → Type 0
   IsBuilt s text (syntax.If token c a b) = IsBuilt s text c × IsBuilt s text a × IsBuilt s text b
-  IsBuilt s text (syntax.Binary op token a b) = IsBuilt s text a × SortBuilt (sort_of (is_text s a) op) × IsBuilt s text b
+  IsBuilt s text (syntax.Binary op token a b) = IsBuilt s text a × IsBuilt s text b
   IsBuilt s text (syntax.Not token a) = IsBuilt s text a
   IsBuilt s text (syntax.Signed sign token a) = IsBuilt s text a
-  IsBuilt s text (syntax.Constant literal token) = LiteralBuilt literal
+  IsBuilt s text (syntax.Constant literal token) = LiteralBuilt s token literal
   IsBuilt s text (syntax.Named name es) = (gives s (denoted s name.token.0) ≡ true) × NamedBuilt s text (denoted s name.token.0) es (AreBuilt s text es) (λ formals. ActualsBuilt s text es formals)
+  IsBuilt s text (syntax.Dot token a name es) =
+      (gives s (denoted s name.token.0) ≡ true) × DotBuilt (denoted s name.token.0) (stream_of s a) (is_variable s a) es (PlaceBuilt s text a) (IsBuilt s text a) (AreBuilt s text es)
   IsBuilt s text (syntax.Parentheses token a) = IsBuilt s text a
   IsBuilt s text _ = ⊥
+
+  -- a variable, where it lies
+  pub PlaceBuilt : Source → (text : ℕ) → Expression → Type 0
+  PlaceBuilt s text (syntax.Named name es) = NamedPlaceBuilt s text (denoted s name.token.0) es (AreBuilt s text es)
+  PlaceBuilt s text (syntax.Dot token a name es) = StreamBuilt (stream_of s a)
+  PlaceBuilt s text _ = ⊥
 
   pub AreBuilt : Source → (text : ℕ) → Expressions → Type 0
   AreBuilt s text NoMore = ⊤
@@ -156,4 +214,4 @@ abbrev mutual
   ActualsBuilt s text NoMore [] = ⊤
   ActualsBuilt s text NoMore (f ∷ fs) = ⊥
   ActualsBuilt s text (Then e es) [] = ⊥
-  ActualsBuilt s text (Then e es) (f ∷ fs) = IsBuilt s text e × ActualBuilt f.mode f.kind (is_text_type f.ty) × ActualsBuilt s text es fs
+  ActualsBuilt s text (Then e es) (f ∷ fs) = IsBuilt s text e × ActualBuilt f.mode f.kind × ActualsBuilt s text es fs

@@ -1,5 +1,5 @@
 -- Which code stands for an expression. At its beginning there are n values on the operand stack, at its end one more.
-use Rattle.std.specs.Prelude.{◌≡◌, ◌<◌, ℕ, zero, suc, Bool, true, false, ℤ, pos, List, [], ◌∷◌, length, slice_get, Option, Some, None}
+use Rattle.std.specs.Prelude.{◌≡◌, ◌≤◌, ◌<◌, ◌&&◌, ℕ, zero, suc, Bool, true, false, ℤ, pos, List, [], ◌∷◌, length, slice_get, Option, Some, None}
 use Rattle.sim_base.specs.declared.numbering.DeclNo.{DeclNo}
 use Rattle.sim_scope.specs.declared.scopes.Denotation.{Denotation}
 use Rattle.sim_scope.specs.declared.scopes.Denotation.TheVariants as denotation
@@ -28,13 +28,17 @@ use Rattle.sim_values.specs.declared.operators.Dyadic.TheVariants as dyadic
 use Rattle.sim_values.specs.declared.operators.Monadic.{Monadic}
 use Rattle.sim_values.specs.declared.operators.Monadic.TheVariants as monadic
 use Rattle.sim_values.specs.declared.standard.Standard.{Standard}
-use Rattle.sim_values.specs.Plain.{Plain, Integer, Truth, Character}
-use Rattle.sim_values.specs.Standard.{operands_of, row_of}
+use Rattle.sim_values.specs.declared.standard.Standard.TheVariants as name_of
+use Rattle.sim_values.specs.declared.value.TextVal.{TextVal}
+use Rattle.sim_values.specs.Plain.{Plain, Integer, Truth, Character, Text}
+use Rattle.sim_values.specs.Standard.{is_image, moves_position, on_image, operands_of, row_of}
 use Rattle.sim_code.specs.declared.instr.Instr.{Instr}
 use Rattle.sim_code.specs.declared.instr.Instr.TheVariants as i
 use Rattle.sim_code.specs.Code.{CodeOf}
 use Rattle.sim_code.specs.Names.{standard_names}
-use Rattle.sim_meaning.specs.Closing.{has_type, Joining, Lazily, Negated, Plainly, Sort, formals_at, is_text, is_text_type, sort_of}
+use Rattle.sim_code.specs.Rows.{text_value}
+use Rattle.sim_meaning.specs.Closing.{has_type, Joining, Lazily, Negated, Plainly, Sort, formals_at, is_text, is_text_type, is_variable, sort_of, stream_of, sysout}
+use Rattle.sim_meaning.specs.Constants.{constants_of, text_constant}
 use Rattle.sim_meaning.specs.Names.{procedure_named}
 use Rattle.sim_meaning.specs.Pending.{Declared}
 use Rattle.sim_meaning.specs.Statements.{has_value, standard_leaves}
@@ -70,34 +74,78 @@ abbrev pub one_instr : Monadic → Instr
 one_instr monadic.Negate = i.Neg
 one_instr monadic.Not = i.Not
 
+-- a text is a constant of the program
+pub record IsConstant (s : Source) (t : TextVal) : Type 0 where
+  pub bytes : List ℕ
+  pub listed : slice_get (constants_of s) t.text_frame ≡ Some bytes
+  pub whole : Text t ≡ text_value t.text_frame bytes
+
 -- a plain value
-abbrev pub PlainAt : CodeOf → Site → ℕ → Plain → ℕ → ℕ → Type 0
-PlainAt code site n (Integer z) p q = Pushes code site n (i.Int z) p q
-PlainAt code site n (Truth true) p q = Pushes code site n (i.Bool (pos 1)) p q
-PlainAt code site n (Truth false) p q = Pushes code site n (i.Bool (pos 0)) p q
-PlainAt code site n (Character c) p q = (c < 256) × Pushes code site n (i.Char (pos c)) p q
-PlainAt code site n _ p q = ⊥
+abbrev pub PlainAt : Source → CodeOf → Site → ℕ → Plain → ℕ → ℕ → Type 0
+PlainAt s code site n (Integer z) p q = Pushes code site n (i.Int z) p q
+PlainAt s code site n (Truth true) p q = Pushes code site n (i.Bool (pos 1)) p q
+PlainAt s code site n (Truth false) p q = Pushes code site n (i.Bool (pos 0)) p q
+PlainAt s code site n (Character c) p q = (c < 256) × Pushes code site n (i.Char (pos c)) p q
+PlainAt s code site n (Text t) p q = IsConstant s t × Pushes code site n (i.TextK (pos t.text_frame)) p q
+PlainAt s code site n _ p q = ⊥
 
 abbrev pub OneAt : CodeOf → Monadic → (line : ℕ) → (A : ℕ → ℕ → Type 0) → ℕ → ℕ → Type 0
 OneAt code op line A p q = (x : ℕ) × A p x × At code (one_instr op) line x q
 
+-- these instructions stand one behind another, all with this line
+abbrev pub Stand : CodeOf → (line : ℕ) → List Instr → ℕ → ℕ → Type 0
+Stand code line [] p q = q ≡ p
+Stand code line (x ∷ xs) p q = (y : ℕ) × At code x line p y × Stand code line xs y q
+
+-- What `&` does with both texts on the stack, in three temps of a level. 20 is `length`, 14 `blanks`, 27 `sub`. `==` tells that both are texts. The lengths are added; where that sum
+-- and one is no integer, that is told first. Then there is a new text of both lengths, the left one is assigned to it, and the right one to its rest.
+abbrev pub joined_in : (level left right new : ℕ) → List Instr
+joined_in l a b c =
+    i.Store (pos l) (pos b) ∷ i.Store (pos l) (pos a) ∷ i.Load (pos l) (pos a) ∷ i.Load (pos l) (pos b) ∷ i.SameT ∷ i.Pop ∷
+    i.Load (pos l) (pos a) ∷ i.Std (pos 20) ∷ i.Load (pos l) (pos b) ∷ i.Std (pos 20) ∷ i.Add ∷ i.Dup ∷ i.Int (pos 1) ∷ i.Add ∷ i.Pop ∷ i.Std (pos 14) ∷ i.Store (pos l) (pos c) ∷
+    i.Load (pos l) (pos c) ∷ i.Load (pos l) (pos a) ∷ i.AssignT ∷
+    i.Load (pos l) (pos c) ∷ i.Load (pos l) (pos a) ∷ i.Std (pos 20) ∷ i.Int (pos 1) ∷ i.Add ∷ i.Load (pos l) (pos b) ∷ i.Std (pos 20) ∷ i.Std (pos 27) ∷
+    i.Load (pos l) (pos b) ∷ i.AssignT ∷ i.Load (pos l) (pos c) ∷ []
+
+abbrev pub join_instrs : (level temp : ℕ) → List Instr
+join_instrs l t = joined_in l t (suc t) (suc (suc t))
+
+-- `&`: A is the left text on n values, C the right one on one more
+pub record JoinAt (s : Source) (code : CodeOf) (site : Site) (n line : ℕ) (A C : ℕ → ℕ → Type 0) (p q : ℕ) : Type 0 where
+  pub x : ℕ
+  pub y : ℕ
+  pub temp : ℕ
+  pub behind : site.used ≤ temp
+  pub within : suc (suc temp) < site.size
+  pub left : A p x
+  pub right : C x y
+  pub room : suc (suc n) < site.room
+  pub joins : Stand code line (join_instrs (level_of s site.text) temp) y q
+
 -- A is the first operand on n values, B the second one on n values, and C the second one on one more
-abbrev pub TwoAt : CodeOf → Site → ℕ → Sort → (line : ℕ) → (A B C : ℕ → ℕ → Type 0) → ℕ → ℕ → Type 0
-TwoAt code site n (Plainly op) line A B C p q = (x : ℕ) × (y : ℕ) × A p x × C x y × At code (two_instr op) line y q
-TwoAt code site n (Negated op) line A B C p q = (x : ℕ) × (y : ℕ) × (z : ℕ) × A p x × C x y × At code (two_instr op) line y z × At code i.Not line z q
-TwoAt code site n (Lazily true) line A B C p q = IfAt code A (PlainAt code site n (Truth true)) B p q
-TwoAt code site n (Lazily false) line A B C p q = IfAt code A B (PlainAt code site n (Truth false)) p q
-TwoAt code site n Joining line A B C p q = ⊥
+abbrev pub TwoAt : Source → CodeOf → Site → ℕ → Sort → (line : ℕ) → (A B C : ℕ → ℕ → Type 0) → ℕ → ℕ → Type 0
+TwoAt s code site n (Plainly op) line A B C p q = (x : ℕ) × (y : ℕ) × A p x × C x y × At code (two_instr op) line y q
+TwoAt s code site n (Negated op) line A B C p q = (x : ℕ) × (y : ℕ) × (z : ℕ) × A p x × C x y × At code (two_instr op) line y z × At code i.Not line z q
+TwoAt s code site n (Lazily true) line A B C p q = IfAt code A (PlainAt s code site n (Truth true)) B p q
+TwoAt s code site n (Lazily false) line A B C p q = IfAt code A B (PlainAt s code site n (Truth false)) p q
+TwoAt s code site n Joining line A B C p q = JoinAt s code site n line A C p q
 
 abbrev pub SignedAt : CodeOf → Sign → (line : ℕ) → (A : ℕ → ℕ → Type 0) → ℕ → ℕ → Type 0
 SignedAt code sign.Plus line A p q = A p q
 SignedAt code sign.Minus line A p q = OneAt code monadic.Negate line A p q
 
-abbrev pub LiteralAt : CodeOf → Site → ℕ → Literal → ℕ → ℕ → Type 0
-LiteralAt code site n (syntax.IntegerValue z) p q = PlainAt code site n (Integer z) p q
-LiteralAt code site n (syntax.CharacterValue c) p q = PlainAt code site n (Character c) p q
-LiteralAt code site n (syntax.BooleanValue b) p q = PlainAt code site n (Truth b) p q
-LiteralAt code site n _ p q = ⊥
+-- a value that is there
+abbrev pub GivenAt : Source → CodeOf → Site → ℕ → Option Plain → ℕ → ℕ → Type 0
+GivenAt s code site n None p q = ⊥
+GivenAt s code site n (Some v) p q = PlainAt s code site n v p q
+
+abbrev pub LiteralAt : Source → CodeOf → Site → ℕ → (token : ℕ) → Literal → ℕ → ℕ → Type 0
+LiteralAt s code site n token (syntax.IntegerValue z) p q = PlainAt s code site n (Integer z) p q
+LiteralAt s code site n token (syntax.CharacterValue c) p q = PlainAt s code site n (Character c) p q
+LiteralAt s code site n token (syntax.TextValue bytes) p q = GivenAt s code site n (text_constant s token) p q
+LiteralAt s code site n token (syntax.BooleanValue b) p q = PlainAt s code site n (Truth b) p q
+LiteralAt s code site n token syntax.NoText p q = Pushes code site n i.NoText p q
+LiteralAt s code site n token syntax.NoObject p q = ⊥
 
 -- ---- identifiers
 
@@ -111,9 +159,9 @@ abbrev pub VariableAt : Source → CodeOf → Site → ℕ → DeclNo → Expres
 VariableAt s code site n d NoMore p q = CellAt s code site n d p q
 VariableAt s code site n d (Then e es) p q = ⊥
 
-abbrev pub ConstantAt : CodeOf → Site → ℕ → Option Plain → Expressions → ℕ → ℕ → Type 0
-ConstantAt code site n (Some v) NoMore p q = PlainAt code site n v p q
-ConstantAt code site n _ es p q = ⊥
+abbrev pub ConstantAt : Source → CodeOf → Site → ℕ → Option Plain → Expressions → ℕ → ℕ → Type 0
+ConstantAt s code site n (Some v) NoMore p q = PlainAt s code site n v p q
+ConstantAt s code site n _ es p q = ⊥
 
 abbrev pub operands : Expressions → ℕ
 operands NoMore = 0
@@ -165,7 +213,7 @@ pub record CallAt (s : Source) (code : CodeOf) (site : Site) (n line : ℕ) (d :
 
 abbrev pub DeclaredAt : Source → CodeOf → Site → ℕ → (line : ℕ) → DeclNo → Option Entry → Expressions → (Operands : ℕ → ℕ → Type 0) → (Actuals : List Formal → ℕ → ℕ → Type 0) → ℕ → ℕ → Type 0
 DeclaredAt s code site n line d (Some (entry.Variable type)) es Operands Actuals p q = VariableAt s code site n d es p q
-DeclaredAt s code site n line d (Some (entry.Constant type)) es Operands Actuals p q = ConstantAt code site n (constant_of s d) es p q
+DeclaredAt s code site n line d (Some (entry.Constant type)) es Operands Actuals p q = ConstantAt s code site n (constant_of s d) es p q
 DeclaredAt s code site n line d (Some (entry.Array element dimensions)) es Operands Actuals p q = ArrayAt s code site n line d es Operands p q
 DeclaredAt s code site n line d (Some (entry.Formal f)) es Operands Actuals p q = FormalAt s code site n line d f.mode f.kind es Operands p q
 DeclaredAt s code site n line d (Some (entry.Procedure result text)) es Operands Actuals p q = CallAt s code site n line d text es (Actuals (formals_at s d)) p q
@@ -179,15 +227,23 @@ pub record StandardIs (code : CodeOf) (site : Site) (n line : ℕ) (name : Stand
   pub is : At code (i.Std (pos number)) line p q
   pub fits : has_value (row_of name).result ≡ true → n < site.room
 
-abbrev pub StandardAt : CodeOf → Site → ℕ → (line : ℕ) → Option Standard → Expressions → (Operands : ℕ → ℕ → Type 0) → ℕ → ℕ → Type 0
-StandardAt code site n line None es Operands p q = ⊥
-StandardAt code site n line (Some name) es Operands p q = (x : ℕ) × Operands p x × StandardIs code site n line name (operands es) x q
+-- A name of both images is done on one of them, 0 of sysin and 1 of sysout: `image` is its text, and the others are names of texts, which get
+-- its address before their operands.
+abbrev pub NameAt : CodeOf → Site → ℕ → (line image : ℕ) → (is_image : Bool) → (on_image : Option Standard) → Standard → Expressions → (Operands Inner : ℕ → ℕ → Type 0) → ℕ → ℕ → Type 0
+NameAt code site n line image true other name es Operands Inner p q = (x : ℕ) × Pushes code site n (i.AddrImg (pos image)) p x × Is code i.Fetch x q
+NameAt code site n line image false (Some of_text) name es Operands Inner p q =
+    (x : ℕ) × (y : ℕ) × Pushes code site n (i.AddrImg (pos image)) p x × Inner x y × StandardIs code site n line of_text (suc (operands es)) y q
+NameAt code site n line image false None name es Operands Inner p q = (x : ℕ) × Operands p x × StandardIs code site n line name (operands es) x q
 
--- Operands are those on n values, and Inner those on one value more, over an array or a link.
+abbrev pub StandardAt : CodeOf → Site → ℕ → (line image : ℕ) → Option Standard → Expressions → (Operands Inner : ℕ → ℕ → Type 0) → ℕ → ℕ → Type 0
+StandardAt code site n line image None es Operands Inner p q = ⊥
+StandardAt code site n line image (Some name) es Operands Inner p q = NameAt code site n line image (is_image name) (on_image name) name es Operands Inner p q
+
+-- Operands are those on n values, and Inner those on one value more, over an array, a link, or the text before a dot.
 abbrev pub NamedAt : Source → CodeOf → Site → ℕ → (line : ℕ) → Option Denotation → Expressions → (Operands Inner : ℕ → ℕ → Type 0) → (Actuals : List Formal → ℕ → ℕ → Type 0) → ℕ → ℕ → Type 0
 NamedAt s code site n line None es Operands Inner Actuals p q = ⊥
 NamedAt s code site n line (Some (denotation.Declared d)) es Operands Inner Actuals p q = DeclaredAt s code site n line d (entry_of s.tables d) es Inner Actuals p q
-NamedAt s code site n line (Some (denotation.Standard name)) es Operands Inner Actuals p q = StandardAt code site n line (procedure_named name) es Operands p q
+NamedAt s code site n line (Some (denotation.Standard name)) es Operands Inner Actuals p q = StandardAt code site n line sysout (procedure_named name) es Operands Inner p q
 
 -- An operand is no call of a procedure without a result, and no standard name without one.
 abbrev pub gives_entry : Option Entry → Bool
@@ -199,15 +255,73 @@ gives s None = true
 gives s (Some (denotation.Declared d)) = gives_entry (entry_of s.tables d)
 gives s (Some (denotation.Standard name)) = standard_leaves (procedure_named name)
 
--- an actual parameter: an array by value is copied; a text by value, which would be, is not built
-abbrev pub ActualAt : CodeOf → (line : ℕ) → Mode → FormalKind → (text : Bool) → (A : ℕ → ℕ → Type 0) → ℕ → ℕ → Type 0
-ActualAt code line mode.ByValue shape.Array text A p q = (x : ℕ) × A p x × At code i.CopyArr line x q
-ActualAt code line mode.ByReference shape.Array text A p q = A p q
-ActualAt code line mode.ByValue shape.Simple true A p q = ⊥
-ActualAt code line mode.ByValue shape.Simple false A p q = A p q
-ActualAt code line mode.ByReference shape.Simple text A p q = A p q
-ActualAt code line mode shape.Procedure text A p q = ⊥
-ActualAt code line mode.ByName kind text A p q = ⊥
+-- ---- attributes of texts, behind a dot
+
+-- the address of the cell of a declaration
+pub record CellPlaceAt (s : Source) (code : CodeOf) (site : Site) (n : ℕ) (d : DeclNo) (p q : ℕ) : Type 0 where
+  pub address : Pushes code site n (i.Addr (pos (level_of s (block_of s d))) (pos (slot_of s (block_of s d) (Declared d.0))) (pos 0)) p q
+  pub inside : Inside s.tables site.text (block_of s d)
+  pub within : HasCell s (block_of s d) (Declared d.0)
+
+abbrev pub VariablePlaceAt : Source → CodeOf → Site → ℕ → DeclNo → Expressions → ℕ → ℕ → Type 0
+VariablePlaceAt s code site n d NoMore p q = CellPlaceAt s code site n d p q
+VariablePlaceAt s code site n d (Then e es) p q = ⊥
+
+abbrev pub ArrayPlaceAt : Source → CodeOf → Site → ℕ → (line : ℕ) → DeclNo → Expressions → (Subscripts : ℕ → ℕ → Type 0) → ℕ → ℕ → Type 0
+ArrayPlaceAt s code site n line d NoMore Subscripts p q = ⊥
+ArrayPlaceAt s code site n line d (Then e es) Subscripts p q = ElementAt s code site n line d (Then e es) Subscripts p q
+
+abbrev pub FormalPlaceAt : Source → CodeOf → Site → ℕ → (line : ℕ) → DeclNo → Mode → FormalKind → Expressions → (Subscripts : ℕ → ℕ → Type 0) → ℕ → ℕ → Type 0
+FormalPlaceAt s code site n line d mode.ByName kind es Subscripts p q = ⊥
+FormalPlaceAt s code site n line d mode shape.Simple es Subscripts p q = VariablePlaceAt s code site n d es p q
+FormalPlaceAt s code site n line d mode shape.Array es Subscripts p q = ArrayPlaceAt s code site n line d es Subscripts p q
+FormalPlaceAt s code site n line d mode shape.Procedure es Subscripts p q = ⊥
+
+abbrev pub DeclaredPlaceAt : Source → CodeOf → Site → ℕ → (line : ℕ) → DeclNo → Option Entry → Expressions → (Subscripts : ℕ → ℕ → Type 0) → ℕ → ℕ → Type 0
+DeclaredPlaceAt s code site n line d (Some (entry.Variable type)) es Subscripts p q = VariablePlaceAt s code site n d es p q
+DeclaredPlaceAt s code site n line d (Some (entry.Array element dimensions)) es Subscripts p q = ArrayPlaceAt s code site n line d es Subscripts p q
+DeclaredPlaceAt s code site n line d (Some (entry.Formal f)) es Subscripts p q = FormalPlaceAt s code site n line d f.mode f.kind es Subscripts p q
+DeclaredPlaceAt s code site n line d _ es Subscripts p q = ⊥
+
+abbrev pub ImagePlaceAt : CodeOf → Site → ℕ → (image : Option ℕ) → ℕ → ℕ → Type 0
+ImagePlaceAt code site n None p q = ⊥
+ImagePlaceAt code site n (Some image) p q = Pushes code site n (i.AddrImg (pos image)) p q
+
+-- where the variable lies that an identifier with these subscripts is, or else the image of sysout
+abbrev pub NamedPlaceAt : Source → CodeOf → Site → ℕ → (line : ℕ) → Option Denotation → Expressions → (Subscripts : ℕ → ℕ → Type 0) → ℕ → ℕ → Type 0
+NamedPlaceAt s code site n line (Some (denotation.Declared d)) es Subscripts p q = DeclaredPlaceAt s code site n line d (entry_of s.tables d) es Subscripts p q
+NamedPlaceAt s code site n line _ es Subscripts p q = ImagePlaceAt code site n (Some sysout) p q
+
+-- An attribute that moves the position of a variable gets where that lies, any other the text itself.
+abbrev pub ObjectAt : (place : Bool) → (Place Value : ℕ → ℕ → Type 0) → ℕ → ℕ → Type 0
+ObjectAt true Place Value p q = Place p q
+ObjectAt false Place Value p q = Value p q
+
+abbrev pub AttributeAt : CodeOf → Site → ℕ → (line : ℕ) → Option Standard → (is_variable : Bool) → Expressions → (Place Value Inner : ℕ → ℕ → Type 0) → ℕ → ℕ → Type 0
+AttributeAt code site n line None is_variable es Place Value Inner p q = ⊥
+AttributeAt code site n line (Some name) is_variable es Place Value Inner p q =
+    (x : ℕ) × (y : ℕ) × ObjectAt (moves_position name && is_variable) Place Value p x × Inner x y × StandardIs code site n line name (suc (operands es)) y q
+
+-- Behind sysin or sysout stands a name of its image, or one of the input or the output, which is a procedure without an object.
+abbrev pub BehindDotAt : CodeOf → Site → ℕ → (line : ℕ) → (stream : Option ℕ) → Option Standard → (is_variable : Bool) → Expressions → (Place Value Operands Inner : ℕ → ℕ → Type 0) → ℕ → ℕ → Type 0
+BehindDotAt code site n line (Some image) name is_variable es Place Value Operands Inner p q = StandardAt code site n line image name es Operands Inner p q
+BehindDotAt code site n line None name is_variable es Place Value Operands Inner p q = AttributeAt code site n line name is_variable es Place Value Inner p q
+
+abbrev pub DotAt : CodeOf → Site → ℕ → (line : ℕ) → Option Denotation → (stream : Option ℕ) → (is_variable : Bool) → Expressions → (Place Value Operands Inner : ℕ → ℕ → Type 0) → ℕ → ℕ → Type 0
+DotAt code site n line (Some (denotation.Standard name)) stream is_variable es Place Value Operands Inner p q = BehindDotAt code site n line stream (procedure_named name) is_variable es Place Value Operands Inner p q
+DotAt code site n line _ stream is_variable es Place Value Operands Inner p q = ⊥
+
+-- ---- actual parameters
+
+-- an array and a text by value are copied
+abbrev pub ActualAt : CodeOf → Site → (n line : ℕ) → Mode → FormalKind → (text : Bool) → (A : ℕ → ℕ → Type 0) → ℕ → ℕ → Type 0
+ActualAt code site n line mode.ByValue shape.Array text A p q = (x : ℕ) × A p x × At code i.CopyArr line x q
+ActualAt code site n line mode.ByReference shape.Array text A p q = A p q
+ActualAt code site n line mode.ByValue shape.Simple true A p q = (x : ℕ) × A p x × StandardIs code site n line name_of.Copy 1 x q
+ActualAt code site n line mode.ByValue shape.Simple false A p q = A p q
+ActualAt code site n line mode.ByReference shape.Simple text A p q = A p q
+ActualAt code site n line mode shape.Procedure text A p q = ⊥
+ActualAt code site n line mode.ByName kind text A p q = ⊥
 
 -- ---- expressions
 
@@ -215,18 +329,25 @@ abbrev mutual
   pub ExprAt : Source → CodeOf → Site → ℕ → Expression → ℕ → ℕ → Type 0
   ExprAt s code site n (syntax.If token c a b) p q = IfAt code (ExprAt s code site n c) (ExprAt s code site n a) (ExprAt s code site n b) p q
   ExprAt s code site n (syntax.Binary op token a b) p q =
-      TwoAt code site n (sort_of (is_text s a) op) (line_at s token) (ExprAt s code site n a) (ExprAt s code site n b) (ExprAt s code site (suc n) b) p q
+      TwoAt s code site n (sort_of (is_text s a) op) (line_at s token) (ExprAt s code site n a) (ExprAt s code site n b) (ExprAt s code site (suc n) b) p q
   ExprAt s code site n (syntax.Not token a) p q = OneAt code monadic.Not (line_at s token) (ExprAt s code site n a) p q
   ExprAt s code site n (syntax.Signed sign token a) p q = SignedAt code sign (line_at s token) (ExprAt s code site n a) p q
   ExprAt s code site n (syntax.Member member token a class) p q = ⊥
-  ExprAt s code site n (syntax.Dot token a name es) p q = ⊥
+  ExprAt s code site n (syntax.Dot token a name es) p q =
+      (gives s (denoted s name.token.0) ≡ true) × DotAt code site n (line_at s name.token.0) (denoted s name.token.0) (stream_of s a) (is_variable s a) es (PlaceAt s code site n a) (ExprAt s code site n a) (ExprsAt s code site n es) (ExprsAt s code site (suc n) es) p q
   ExprAt s code site n (syntax.Qua token a class) p q = ⊥
-  ExprAt s code site n (syntax.Constant literal token) p q = LiteralAt code site n literal p q
+  ExprAt s code site n (syntax.Constant literal token) p q = LiteralAt s code site n token literal p q
   ExprAt s code site n (syntax.Named name es) p q =
       (gives s (denoted s name.token.0) ≡ true) × NamedAt s code site n (line_at s name.token.0) (denoted s name.token.0) es (ExprsAt s code site n es) (ExprsAt s code site (suc n) es) (λ formals. ActualsAt s code site (suc n) (line_at s name.token.0) es formals) p q
   ExprAt s code site n (syntax.This token class) p q = ⊥
   ExprAt s code site n (syntax.New token class es) p q = ⊥
   ExprAt s code site n (syntax.Parentheses token a) p q = ExprAt s code site n a p q
+
+  -- where a variable lies
+  pub PlaceAt : Source → CodeOf → Site → ℕ → Expression → ℕ → ℕ → Type 0
+  PlaceAt s code site n (syntax.Named name es) p q = NamedPlaceAt s code site n (line_at s name.token.0) (denoted s name.token.0) es (ExprsAt s code site (suc n) es) p q
+  PlaceAt s code site n (syntax.Dot token a name es) p q = ImagePlaceAt code site n (stream_of s a) p q
+  PlaceAt s code site n _ p q = ⊥
 
   -- one value after the other
   pub ExprsAt : Source → CodeOf → Site → ℕ → Expressions → ℕ → ℕ → Type 0
@@ -238,4 +359,4 @@ abbrev mutual
   ActualsAt s code site n line NoMore (f ∷ fs) p q = ⊥
   ActualsAt s code site n line (Then e es) [] p q = ⊥
   ActualsAt s code site n line (Then e es) (f ∷ fs) p q =
-      (x : ℕ) × ActualAt code line f.mode f.kind (is_text_type f.ty) (ExprAt s code site n e) p x × ActualsAt s code site (suc n) line es fs x q
+      (x : ℕ) × ActualAt code site n line f.mode f.kind (is_text_type f.ty) (ExprAt s code site n e) p x × ActualsAt s code site (suc n) line es fs x q

@@ -24,6 +24,10 @@ with_instr c x line = record { instrs = c.instrs ++ (lined x line ∷ []); room 
 unfoldable pub with_push : DraftOf → (n : ℕ) → Instr → (line : ℕ) → DraftOf
 with_push c n x line = record { instrs = c.instrs ++ (lined x line ∷ []); room = max c.room (suc n); size = c.size; whole = c.whole }
 
+-- the operand stack has room for a value on n others
+unfoldable pub with_room : DraftOf → (n : ℕ) → DraftOf
+with_room c n = record { instrs = c.instrs; room = max c.room (suc n); size = c.size; whole = c.whole }
+
 -- the frame has a temp of this number
 unfoldable pub with_temp : DraftOf → (temp : ℕ) → DraftOf
 with_temp c temp = record { instrs = c.instrs; room = c.room; size = max c.size (suc temp); whole = c.whole }

@@ -1,9 +1,10 @@
 -- What is written of an expression.
-use Rattle.std.specs.Prelude.{◌≡◌, ◌<◌, ⊤, ℕ, suc, pos, Bool, true, false, if◌then◌else◌, List, length, map, slice_get, Option, Some, None}
+use Rattle.std.specs.Prelude.{◌≡◌, ◌<◌, ◌≤◌, ◌-◌, ◌&&◌, not, ⊤, ℕ, suc, pos, Bool, true, false, List, [], ◌∷◌, drop, length, map, slice_get, take, Option, Some, None}
 use Rattle.sim_base.specs.declared.numbering.DeclNo.{DeclNo}
 use Rattle.sim_base.specs.declared.numbering.TokenNo.{TokenNo}
 use Rattle.sim_scope.specs.declared.bound.Bound.{Bound}
 use Rattle.sim_scope.specs.declared.scopes.Denotation.{Denotation}
+use Rattle.sim_scope.specs.declared.scopes.Denotation.TheVariants as denotation
 use Rattle.sim_scope.specs.declared.standard.Standard.{Standard as Found}
 use Rattle.sim_scope.specs.declared.types.Entry.{Entry}
 use Rattle.sim_scope.specs.declared.types.Entry.TheVariants as entry
@@ -13,28 +14,33 @@ use Rattle.sim_scope.specs.declared.types.FormalKind.TheVariants as shape
 use Rattle.sim_scope.specs.declared.types.Mode.{Mode}
 use Rattle.sim_scope.specs.declared.types.Mode.TheVariants as mode
 use Rattle.sim_scope.specs.Scopes.{formals_in}
-use Rattle.sim_scope.specs.Source.{Source, block_of, level_of, line_at, source_of}
+use Rattle.sim_scope.specs.Source.{Source, block_of, denoted, level_of, line_at, source_of}
 use Rattle.sim_tree.specs.declared.expr.Expr.{Expr}
 use Rattle.sim_tree.specs.declared.expr.Identifier.{Identifier}
 use Rattle.sim_tree.specs.declared.expr.Operand.{Operand}
 use Rattle.sim_tree.specs.declared.expr.Selector.{Selector}
 use Rattle.sim_tree.specs.declared.expr.Sign.{Sign}
 use Rattle.sim_tree.specs.declared.operator.Operator.{Operator}
-use Rattle.sim_tree.specs.Syntax.{Binary, Expression, Expressions, Named, NoMore, Signed, Then, expressions}
-use Rattle.sim_tree.specs.SyntaxOf.{Tail, chain, negated, operand_syntax, selected, selector_syntax, syntax_of, with_operator}
+use Rattle.sim_tree.specs.Syntax.{Binary, Expression, Expressions, Named, NoMore, Signed, expressions}
+use Rattle.sim_tree.specs.SyntaxOf.{Cast, Selection, Tail, Take, chain, negated, operand_syntax, selected, selector_syntax, syntax_of, with_operator}
 use Rattle.sim_values.specs.declared.standard.Standard.{Standard}
-use Rattle.sim_values.specs.Standard.{operands_of, row_of}
+use Rattle.sim_values.specs.Plain.{Plain, Integer, Truth, Character, Text as TextOf}
+use Rattle.sim_values.specs.Standard.{is_image, moves_position, on_image, operands_of, row_of}
 use Rattle.sim_code.specs.declared.instr.Instr.{Instr}
 use Rattle.sim_code.specs.declared.instr.Instr.TheVariants as i
 use Rattle.sim_code.specs.Code.{CodeOf}
 use Rattle.sim_code.specs.Names.{standard_names}
 use Rattle.sim_code.specs.Running.{name_runs, runs}
-use Rattle.sim_meaning.specs.Closing.{Joining, Lazily, Negated, Plainly, Sort, formals_from, is_text, is_text_type, sort_of}
+use Rattle.sim_meaning.specs.Closing.{Joining, Lazily, Negated, Plainly, Sort, formals_from, is_image_denoted, is_text, is_text_type, is_variable, sort_of, stream_of}
+use Rattle.sim_meaning.specs.Constants.{text_constant}
+use Rattle.sim_meaning.specs.Constants.{text_constant}
 use Rattle.sim_meaning.specs.Names.{procedure_named}
 use Rattle.sim_meaning.specs.Texts.{constant_of}
-use Rattle.codegen_expr.specs.declared.cells.ConstantValue.{ConstantValue}
-use Rattle.codegen_expr.specs.declared.cells.ConstantValue.TheVariants as constant
+use Rattle.codegen_expr.specs.declared.names.OnImage.{OnImage}
+use Rattle.codegen_expr.specs.declared.names.OnImage.TheVariants as image
 use Rattle.codegen_expr.specs.declared.names.StandardCode.{StandardCode}
+use Rattle.codegen_expr.specs.declared.operators.Object.{Object}
+use Rattle.codegen_expr.specs.declared.operators.Object.TheVariants as object
 use Rattle.codegen_expr.specs.declared.operators.Passed.{Passed}
 use Rattle.codegen_expr.specs.declared.operators.Passed.TheVariants as passed
 use Rattle.codegen_expr.specs.declared.operators.Seen.{Seen}
@@ -42,24 +48,31 @@ use Rattle.codegen_expr.specs.declared.operators.Seen.TheVariants as seen
 use Rattle.codegen_expr.specs.declared.operators.Sorted.{Sorted}
 use Rattle.codegen_expr.specs.declared.operators.Sorted.TheVariants as sorted
 use Rattle.codegen_expr.specs.declared.spot.Spot.{Spot}
-use Rattle.codegen_expr.specs.Built.{ActualBuilt, ActualsBuilt, AreBuilt, ArrayBuilt, CallBuilt, CellBuilt, ConstantBuilt, IsBuilt, NamedBuilt, StandardBuilt, StandsIn, VariableBuilt}
-use Rattle.codegen_expr.specs.CodeExpr.{ActualAt, ActualsAt, ArrayAt, CallAt, CellAt, ConstantAt, ElementAt, ExprAt, ExprsAt, NamedAt, StandardAt, VariableAt, operands, two_instr}
+use Rattle.codegen_expr.specs.Built.{ActualBuilt, ActualsBuilt, AreBuilt, ArrayBuilt, ArrayPlaceBuilt, CallBuilt, CellBuilt, ConstantBuilt, DotBuilt, IsBuilt, NameBuilt, NamedBuilt, PlaceBuilt, PlainBuilt, StandardBuilt, StandsIn, VariableBuilt}
+use Rattle.codegen_expr.specs.CodeExpr.{ActualAt, ActualsAt, ArrayAt, ArrayPlaceAt, CallAt, CellAt, CellPlaceAt, ConstantAt, DotAt, ElementAt, ExprAt, ExprsAt, GivenAt, IsConstant, NamedAt, PlaceAt, Stand, StandardAt, StandardIs, VariableAt, VariablePlaceAt, join_instrs, operands, two_instr}
 use Rattle.codegen_expr.specs.Drafts.{DraftOf, Emits}
 use Rattle.codegen_expr.specs.Sites.{Inside, Pushes, Site}
 
 -- ---- cases
 
--- the instruction that pushes the value of a constant
-abbrev pub instr_of : ConstantValue → Instr
-instr_of (constant.Integer z) = i.Int z
-instr_of (constant.Character c) = i.Char (pos c)
-instr_of (constant.Truth true) = i.Bool (pos 1)
-instr_of (constant.Truth false) = i.Bool (pos 0)
+-- the instruction that pushes a value
+abbrev pub PushesValue : Source → Plain → Instr → Type 0
+PushesValue s (Integer z) x = x ≡ i.Int z
+PushesValue s (Truth true) x = x ≡ i.Bool (pos 1)
+PushesValue s (Truth false) x = x ≡ i.Bool (pos 0)
+PushesValue s (Character c) x = (c < 256) × (x ≡ i.Char (pos c))
+PushesValue s (TextOf t) x = IsConstant s t × (x ≡ i.TextK (pos t.text_frame))
+PushesValue s _ x = ⊥
 
--- a character is a byte
-abbrev pub IsSmall : ConstantValue → Type 0
-IsSmall (constant.Character c) = c < 256
-IsSmall _ = ⊤
+-- the instruction that pushes the value of a constant, if there is one
+abbrev pub FoundInstr : Source → Option Plain → Option Instr → Type 0
+FoundInstr s None None = ⊤
+FoundInstr s None (Some x) = ⊥
+FoundInstr s (Some v) (Some x) = PushesValue s v x
+FoundInstr s (Some v) None = PlainBuilt v → ⊥
+
+unfoldable pub FindsInstr : Bound → Option Plain → Option Instr → Type 0
+FindsInstr b v r = FoundInstr (source_of b) v r
 
 -- the formal parameters of a block
 abbrev pub formals_of_block : Source → ℕ → List Formal
@@ -90,7 +103,7 @@ SeenBuilt s text d seen.Nothing es Operands Actuals = ⊥
 abbrev pub SeenAt : Source → CodeOf → Site → ℕ → (line : ℕ) → DeclNo → Seen → Expressions → (Operands : ℕ → ℕ → Type 0) → (Actuals : List Formal → ℕ → ℕ → Type 0) → ℕ → ℕ → Type 0
 SeenAt s code site n line d seen.Variable es Operands Actuals p q = VariableAt s code site n d es p q
 SeenAt s code site n line d seen.Array es Operands Actuals p q = ArrayAt s code site n line d es Operands p q
-SeenAt s code site n line d seen.Constant es Operands Actuals p q = ConstantAt code site n (constant_of s d) es p q
+SeenAt s code site n line d seen.Constant es Operands Actuals p q = ConstantAt s code site n (constant_of s d) es p q
 SeenAt s code site n line d (seen.Call block) es Operands Actuals p q = CallAt s code site n line d block es (Actuals (formals_of_block s block)) p q
 SeenAt s code site n line d seen.Nothing es Operands Actuals p q = ⊥
 
@@ -98,13 +111,13 @@ SeenAt s code site n line d seen.Nothing es Operands Actuals p q = ⊥
 abbrev pub passed_of : Mode → FormalKind → (text : Bool) → Passed
 passed_of mode.ByValue shape.Array text = passed.Copied
 passed_of mode.ByReference shape.Array text = passed.Plain
-passed_of mode.ByValue shape.Simple true = passed.Other
+passed_of mode.ByValue shape.Simple true = passed.CopiedText
 passed_of mode.ByValue shape.Simple false = passed.Plain
 passed_of mode.ByReference shape.Simple text = passed.Plain
 passed_of mode shape.Procedure text = passed.Other
 passed_of mode.ByName kind text = passed.Other
 
--- what code has of a standard name, if that is built: its number, how many operands it takes, and whether it leaves a value
+-- what code has of a standard name that is done by itself: its number, and how many operands it takes
 pub record NumberedIs (name : Standard) (row : StandardCode) : Type 0 where
   pub named : slice_get standard_names row.number ≡ Some name
   pub runs : name_runs name ≡ true
@@ -115,6 +128,23 @@ Numbered None None = ⊤
 Numbered None (Some name) = name_runs name ≡ false
 Numbered (Some row) None = ⊥
 Numbered (Some row) (Some name) = NumberedIs name row
+
+-- what a name of both images is on one of them
+abbrev pub is_named : Option Standard → Bool
+is_named None = false
+is_named (Some name) = true
+
+abbrev pub OnImageIs : OnImage → Option Standard → Type 0
+OnImageIs image.Itself None = ⊥
+OnImageIs image.Itself (Some name) = is_image name ≡ true
+OnImageIs (image.OfText other) None = ⊥
+OnImageIs (image.OfText other) (Some name) = (is_image name ≡ false) × (on_image name ≡ procedure_named other) × (is_named (procedure_named other) ≡ true)
+OnImageIs image.Nothing None = ⊤
+OnImageIs image.Nothing (Some name) = (is_image name ≡ false) × (on_image name ≡ None)
+
+abbrev pub moves_named : Option Standard → Bool
+moves_named None = false
+moves_named (Some name) = moves_position name
 
 -- ---- what is written
 
@@ -151,9 +181,6 @@ WritesOperand b w n old new texts operator token e =
 
 unfoldable pub WritesSign : Bound → Spot → (n : ℕ) → (old new : DraftOf) → Sign → TokenNo → Type 0
 WritesSign b w n old new sign token = (start : DraftOf) (x : Expression) → Puts (source_of b) w n start old x → Puts (source_of b) w n start new (Signed sign token.0 x)
-
-unfoldable pub WritesSelected : Bound → Spot → (n : ℕ) → (old new : DraftOf) → List Selector → Type 0
-WritesSelected b w n old new xs = (start : DraftOf) (x : Expression) → Puts (source_of b) w n start old x → Puts (source_of b) w n start new (selected x (map selector_syntax xs))
 
 unfoldable pub WritesNot : Bound → Spot → (n : ℕ) → (old new : DraftOf) → List TokenNo → Expr → Type 0
 WritesNot b w n old new tokens e = Puts (source_of b) w n old new (negated tokens (syntax_of e))
@@ -193,11 +220,187 @@ WritesLink b w n old new d =
     Emits w old new (StandsIn (source_of b) w.text (block_of (source_of b) d))
     (λ final site p q. Pushes final site n (i.Link (pos (level_of (source_of b) (block_of (source_of b) d)))) p q × Inside (source_of b).tables site.text (block_of (source_of b) d))
 
--- a standard name with its operands; the token is that of the identifier
-unfoldable pub WritesStandard : Bound → Spot → (n : ℕ) → (old new : DraftOf) → TokenNo → Found → List Expr → Type 0
-WritesStandard b w n old new token name es =
-    Emits w old new (StandardBuilt (procedure_named name) (operands (expressions (map syntax_of es))) × AreBuilt (source_of b) w.text (expressions (map syntax_of es)))
-    (λ final site p q. StandardAt final site n (line_at (source_of b) token.0) (procedure_named name) (expressions (map syntax_of es)) (λ x y. ExprsAt (source_of b) final site n (expressions (map syntax_of es)) x y) p q)
+-- a standard name that is done by itself, behind so many operands
+abbrev pub AloneBuilt : Option Standard → (count : ℕ) → Type 0
+AloneBuilt None count = ⊥
+AloneBuilt (Some name) count = NameBuilt name count
+
+abbrev pub AloneAt : CodeOf → Site → ℕ → (line : ℕ) → Option Standard → (count : ℕ) → ℕ → ℕ → Type 0
+AloneAt code site n line None count p q = ⊥
+AloneAt code site n line (Some name) count p q = StandardIs code site n line name count p q
+
+-- a standard name with its operands, where that of both images is done on this one; the token is that of the identifier
+unfoldable pub WritesStandard : Bound → Spot → (n : ℕ) → (old new : DraftOf) → (image : ℕ) → TokenNo → Found → List Expr → Type 0
+WritesStandard b w n old new image token name ys =
+    let s = source_of b in
+    let es = expressions (map syntax_of ys) in
+    Emits w old new (StandardBuilt (procedure_named name) es (AreBuilt s w.text es))
+    (λ final site p q. StandardAt final site n (line_at s token.0) image (procedure_named name) es (λ x y. ExprsAt s final site n es x y) (λ x y. ExprsAt s final site (suc n) es x y) p q)
+
+-- the same of one that is done by itself
+unfoldable pub WritesAlone : Bound → Spot → (n : ℕ) → (old new : DraftOf) → TokenNo → Found → List Expr → Type 0
+WritesAlone b w n old new token name ys =
+    let s = source_of b in
+    let es = expressions (map syntax_of ys) in
+    Emits w old new (AloneBuilt (procedure_named name) (operands es) × AreBuilt s w.text es)
+    (λ final site p q. (x : ℕ) × ExprsAt s final site n es p x × AloneAt final site n (line_at s token.0) (procedure_named name) (operands es) x q)
+
+-- a name of texts behind its text, which is on the stack
+unfoldable pub WritesBehind : Bound → Spot → (n : ℕ) → (old new : DraftOf) → TokenNo → Found → List Expr → Type 0
+WritesBehind b w n old new token name ys =
+    let s = source_of b in
+    let es = expressions (map syntax_of ys) in
+    Emits w old new (AloneBuilt (procedure_named name) (suc (operands es)) × AreBuilt s w.text es)
+    (λ final site p q. (x : ℕ) × ExprsAt s final site (suc n) es p x × AloneAt final site n (line_at s token.0) (procedure_named name) (suc (operands es)) x q)
+
+-- the address of an image
+unfoldable pub WritesImage : Spot → (n : ℕ) → (old new : DraftOf) → (image : ℕ) → Type 0
+WritesImage w n old new image = Emits w old new ⊤ (λ final site p q. Pushes final site n (i.AddrImg (pos image)) p q)
+
+-- ---- attributes of texts
+
+-- where a variable lies
+unfoldable pub PutsPlace : Source → Spot → (n : ℕ) → (old new : DraftOf) → Expression → Type 0
+PutsPlace s w n old new e = Emits w old new (PlaceBuilt s w.text e) (λ final site p q. PlaceAt s final site n e p q)
+
+unfoldable pub WritesPlace : Bound → Spot → (n : ℕ) → (old new : DraftOf) → Expr → Type 0
+WritesPlace b w n old new x = PutsPlace (source_of b) w n old new (syntax_of x)
+
+-- the same of an identifier with subscripts
+unfoldable pub WritesNamedPlace : Bound → Spot → (n : ℕ) → (old new : DraftOf) → Identifier → List Expr → Type 0
+WritesNamedPlace b w n old new x es = PutsPlace (source_of b) w n old new (Named x (expressions (map syntax_of es)))
+
+-- of a declared identifier, as it is seen
+abbrev pub SeenPlaceBuilt : Source → (text : ℕ) → DeclNo → Seen → Expressions → (Subscripts : Type 0) → Type 0
+SeenPlaceBuilt s text d seen.Variable es Subscripts = VariableBuilt s text d es
+SeenPlaceBuilt s text d seen.Array es Subscripts = ArrayPlaceBuilt s text d es Subscripts
+SeenPlaceBuilt s text d _ es Subscripts = ⊥
+
+abbrev pub SeenPlaceAt : Source → CodeOf → Site → ℕ → (line : ℕ) → DeclNo → Seen → Expressions → (Subscripts : ℕ → ℕ → Type 0) → ℕ → ℕ → Type 0
+SeenPlaceAt s code site n line d seen.Variable es Subscripts p q = VariablePlaceAt s code site n d es p q
+SeenPlaceAt s code site n line d seen.Array es Subscripts p q = ArrayPlaceAt s code site n line d es Subscripts p q
+SeenPlaceAt s code site n line d _ es Subscripts p q = ⊥
+
+unfoldable pub WritesSeenPlace : Bound → Spot → (n : ℕ) → (old new : DraftOf) → TokenNo → DeclNo → Seen → List Expr → Type 0
+WritesSeenPlace b w n old new token d x ys =
+    let s = source_of b in
+    let es = expressions (map syntax_of ys) in
+    Emits w old new (SeenPlaceBuilt s w.text d x es (AreBuilt s w.text es)) (λ final site p q. SeenPlaceAt s final site n (line_at s token.0) d x es (λ u v. ExprsAt s final site (suc n) es u v) p q)
+
+-- the address of the cell of a declaration
+unfoldable pub WritesCellPlace : Bound → Spot → (n : ℕ) → (old new : DraftOf) → DeclNo → Type 0
+WritesCellPlace b w n old new d = Emits w old new (CellBuilt (source_of b) w.text d) (λ final site p q. CellPlaceAt (source_of b) final site n d p q)
+
+-- What is written of an object before a dot: of sysin and sysout nothing, of a variable where it lies, or the text.
+abbrev pub PutsObject : Source → Spot → (n : ℕ) → (old new : DraftOf) → Object → Expression → Type 0
+PutsObject s w n old new (object.Stream image) e = (new ≡ old) × (stream_of s e ≡ Some image)
+PutsObject s w n old new object.Place e = PutsPlace s w n old new e × (stream_of s e ≡ None)
+PutsObject s w n old new object.Value e = Puts s w n old new e × (stream_of s e ≡ None)
+
+-- whether an attribute behind a variable gets where that lies
+abbrev pub Placed : Source → (moves : Bool) → Object → Expression → Type 0
+Placed s moves (object.Stream image) e = ⊤
+Placed s moves object.Place e = (moves && is_variable s e) ≡ true
+Placed s moves object.Value e = (moves && is_variable s e) ≡ false
+
+-- An object is written in front of an attribute, of which it is known whether it moves the position of its text.
+pub record PutsBefore (s : Source) (w : Spot) (n : ℕ) (old new : DraftOf) (moves : Bool) (o : Object) (e : Expression) : Type 0 where
+  pub puts : PutsObject s w n old new o e
+  pub placed : Placed s moves o e
+
+-- the attribute that an expression has behind it, if it is one
+abbrev pub moves_denoted : Option Denotation → Bool
+moves_denoted (Some (denotation.Standard name)) = moves_named (procedure_named name)
+moves_denoted _ = false
+
+abbrev pub moves_selection : Source → Selection → Bool
+moves_selection s (Take token name es) = moves_denoted (denoted s name.token.0)
+moves_selection s (Cast token class) = false
+
+abbrev pub takes_image : Source → Selection → Bool
+takes_image s (Take token name es) = is_image_denoted (denoted s name.token.0)
+takes_image s (Cast token class) = false
+
+-- the image of a stream that is taken of it, in front of what moves its position
+abbrev pub image_placed : (moves : Bool) → Object → (takes_image : Bool) → Option ℕ
+image_placed true (object.Stream image) true = Some image
+image_placed _ o takes = None
+
+abbrev pub moves_next : Source → List Selection → Bool
+moves_next s [] = false
+moves_next s (y ∷ ys) = moves_selection s y
+
+-- an operand in front of the first thing that is taken of it
+unfoldable pub WritesStart : Bound → Spot → (n : ℕ) → (old new : DraftOf) → (moves : Bool) → Object → Expr → Type 0
+WritesStart b w n old new moves o x = PutsBefore (source_of b) w n old new moves o (syntax_of x)
+
+-- one more thing is taken, in front of another one
+unfoldable pub WritesStep : Bound → Spot → (n : ℕ) → (old new : DraftOf) → (o : Object) → Selector → (moves : Bool) → Object → Type 0
+WritesStep b w n old new o y moves o' =
+    (start : DraftOf) (e : Expression) → PutsBefore (source_of b) w n start old (moves_selection (source_of b) (selector_syntax y)) o e
+    → PutsBefore (source_of b) w n start new moves o' (selected e (selector_syntax y ∷ []))
+
+-- what is taken of an operand but the last of it
+unfoldable pub WritesBefore : Bound → Spot → (n : ℕ) → (old new : DraftOf) → Object → Expr → List Selector → Type 0
+WritesBefore b w n old new o x ys =
+    let s = source_of b in
+    let zs = map selector_syntax ys in
+    PutsBefore s w n old new (moves_next s (drop (length ys - 1) zs)) o (selected (syntax_of x) (take (length ys - 1) zs))
+
+-- an attribute behind its object
+unfoldable pub WritesDot : Bound → Spot → (n : ℕ) → (old new : DraftOf) → Object → Identifier → List Expr → Type 0
+WritesDot b w n old new o x ys =
+    let s = source_of b in
+    let es = expressions (map syntax_of ys) in
+    (start : DraftOf) (e : Expression) → PutsBefore s w n start old (moves_denoted (denoted s x.token.0)) o e
+    → Emits w start new (DotBuilt (denoted s x.token.0) (stream_of s e) (is_variable s e) es (PlaceBuilt s w.text e) (IsBuilt s w.text e) (AreBuilt s w.text es))
+    (λ final site p q. DotAt final site n (line_at s x.token.0) (denoted s x.token.0) (stream_of s e) (is_variable s e) es (λ u v. PlaceAt s final site n e u v) (λ u v. ExprAt s final site n e u v) (λ u v. ExprsAt s final site n es u v) (λ u v. ExprsAt s final site (suc n) es u v) p q)
+
+-- the last thing that is taken of an operand, whose value is needed
+unfoldable pub WritesLast : Bound → Spot → (n : ℕ) → (old new : DraftOf) → Object → Selector → Type 0
+WritesLast b w n old new o y =
+    (start : DraftOf) (e : Expression) → PutsBefore (source_of b) w n start old (moves_selection (source_of b) (selector_syntax y)) o e
+    → Puts (source_of b) w n start new (selected e (selector_syntax y ∷ []))
+
+-- what is taken of an object but the last of it
+unfoldable pub WritesSteps : Bound → Spot → (n : ℕ) → (old new : DraftOf) → (o : Object) → List Selector → Object → Type 0
+WritesSteps b w n old new o ys o' =
+    let s = source_of b in
+    let zs = map selector_syntax ys in
+    (start : DraftOf) (e : Expression) → PutsBefore s w n start old (moves_next s zs) o e
+    → PutsBefore s w n start new (moves_next s (drop (length ys - 1) zs)) o' (selected e (take (length ys - 1) zs))
+
+-- the last of it
+unfoldable pub WritesEnd : Bound → Spot → (n : ℕ) → (old new : DraftOf) → Object → List Selector → Type 0
+WritesEnd b w n old new o ys =
+    let s = source_of b in
+    let zs = map selector_syntax ys in
+    (start : DraftOf) (e : Expression) → PutsBefore s w n start old (moves_next s (drop (length ys - 1) zs)) o (selected e (take (length ys - 1) zs))
+    → Puts s w n start new (selected e zs)
+
+-- an operand and what is taken of it
+unfoldable pub WritesTaken : Bound → Spot → (n : ℕ) → (old new : DraftOf) → Expr → List Selector → Type 0
+WritesTaken b w n old new x ys = Puts (source_of b) w n old new (selected (syntax_of x) (map selector_syntax ys))
+
+-- ---- `&`
+
+-- instructions that the machine does, none of which is a hole
+abbrev pub is_hole : Instr → Bool
+is_hole i.Halt = true
+is_hole _ = false
+
+abbrev pub all_fit : List Instr → Bool
+all_fit [] = true
+all_fit (x ∷ xs) = not (is_hole x) && runs x && all_fit xs
+
+-- instructions one behind another
+unfoldable pub WritesAll : Spot → (old new : DraftOf) → List Instr → (line : ℕ) → Type 0
+WritesAll w old new xs line = all_fit xs ≡ true → Emits w old new ⊤ (λ final site p q. Stand final line xs p q)
+
+-- what joins two texts
+unfoldable pub WritesJoin : Bound → Spot → (n : ℕ) → (old new : DraftOf) → TokenNo → Type 0
+WritesJoin b w n old new token =
+    Emits w old new ⊤ (λ final site p q. (site.used ≤ w.used) × (suc (suc w.used) < site.size) × (suc (suc n) < site.room) × Stand final (line_at (source_of b) token.0) (join_instrs (level_of (source_of b) site.text) w.used) p q)
 
 -- a declared identifier with its operands, as it is seen; the token is that of the identifier
 unfoldable pub WritesSeen : Bound → Spot → (n : ℕ) → (old new : DraftOf) → TokenNo → DeclNo → Seen → List Expr → Type 0
@@ -213,13 +416,18 @@ WritesGiving b w n old new x es = Puts (source_of b) w n old new (Named x (expre
 
 -- the value of a constant that is declared
 unfoldable pub WritesConstant : Bound → Spot → (n : ℕ) → (old new : DraftOf) → DeclNo → Type 0
-WritesConstant b w n old new d = Emits w old new (ConstantBuilt (constant_of (source_of b) d) NoMore) (λ final site p q. ConstantAt final site n (constant_of (source_of b) d) NoMore p q)
+WritesConstant b w n old new d = Emits w old new (ConstantBuilt (constant_of (source_of b) d) NoMore) (λ final site p q. ConstantAt (source_of b) final site n (constant_of (source_of b) d) NoMore p q)
+
+-- the text constant that is written at a token
+unfoldable pub WritesTextAt : Bound → Spot → (n : ℕ) → (old new : DraftOf) → TokenNo → Type 0
+WritesTextAt b w n old new token =
+    Emits w old new (ConstantBuilt (text_constant (source_of b) token.0) NoMore) (λ final site p q. GivenAt (source_of b) final site n (text_constant (source_of b) token.0) p q)
 
 -- an actual parameter for this formal
 unfoldable pub WritesActual : Bound → Spot → (n : ℕ) → (old new : DraftOf) → TokenNo → Expr → Formal → Type 0
 WritesActual b w n old new token e f =
-    Emits w old new (IsBuilt (source_of b) w.text (syntax_of e) × ActualBuilt f.mode f.kind (is_text_type f.ty))
-    (λ final site p q. ActualAt final (line_at (source_of b) token.0) f.mode f.kind (is_text_type f.ty) (λ x y. ExprAt (source_of b) final site n (syntax_of e) x y) p q)
+    Emits w old new (IsBuilt (source_of b) w.text (syntax_of e) × ActualBuilt f.mode f.kind)
+    (λ final site p q. ActualAt final site n (line_at (source_of b) token.0) f.mode f.kind (is_text_type f.ty) (λ x y. ExprAt (source_of b) final site n (syntax_of e) x y) p q)
 
 -- in a loop: what is written of the rest is written of the whole
 unfoldable pub OwesList : Bound → Spot → (n : ℕ) → (old : DraftOf) → List Expr → (m : ℕ) → (now : DraftOf) → List Expr → Type 0
@@ -231,10 +439,10 @@ OwesActuals b w n old token es fs m now rest formals = (end : DraftOf) → Write
 unfoldable pub OwesTails : Bound → Spot → (n : ℕ) → (old : DraftOf) → List Tail → (now : DraftOf) → List Tail → Type 0
 OwesTails b w n old ts now rest = (end : DraftOf) → WritesTails b w n now end rest → WritesTails b w n old end ts
 
--- how an operator is done; not, where its instruction does not run
+-- how an operator is done
 abbrev pub sorted_of : Sort → Sorted
-sorted_of (Plainly op) = if runs (two_instr op) then sorted.Plain (two_instr op) else sorted.Other
-sorted_of (Negated op) = if runs (two_instr op) then sorted.Negated (two_instr op) else sorted.Other
+sorted_of (Plainly op) = sorted.Plain (two_instr op)
+sorted_of (Negated op) = sorted.Negated (two_instr op)
 sorted_of (Lazily true) = sorted.OrElse
 sorted_of (Lazily false) = sorted.AndThen
-sorted_of Joining = sorted.Other
+sorted_of Joining = sorted.Joined

@@ -1,5 +1,5 @@
 -- What the emitter knows of the texts of a program: tables that are made once.
-use Rattle.std.specs.Prelude.{◌≡◌, ℕ, Bool, true, false, List, [], length, slice_get, Option, Some, None, option_map}
+use Rattle.std.specs.Prelude.{◌≡◌, ℕ, Bool, true, false, List, [], length, slice_get, Option, Some, None}
 use Rattle.std.specs.declared.alloc.Global.{Global}
 use Rattle.std.specs.declared.vec.Vec.{Vec}
 use Rattle.sim_base.specs.declared.numbering.DeclNo.{DeclNo}
@@ -7,9 +7,9 @@ use Rattle.sim_scope.specs.declared.bound.Bound.{Bound}
 use Rattle.sim_scope.specs.declared.types.Formal.{Formal}
 use Rattle.sim_scope.specs.Scopes.{formals_in, joined}
 use Rattle.sim_scope.specs.Source.{Source, block_of, source_of}
-use Rattle.sim_tree.specs.declared.stmt.TypeName.{TypeName}
-use Rattle.sim_values.specs.Plain.{Plain, Integer, Truth, Character}
+use Rattle.sim_values.specs.Plain.{Plain, Integer, Truth, Character, Text as TextOf}
 use Rattle.sim_meaning.specs.Closing.{formals_from}
+use Rattle.sim_meaning.specs.Constants.{text_constant}
 use Rattle.sim_meaning.specs.Pending.{Declared}
 use Rattle.sim_meaning.specs.Texts.{ProcedureText, Text, constant_of, text}
 use Rattle.codegen_expr.specs.declared.cells.Cells.{Cells}
@@ -24,11 +24,21 @@ abbrev pub has_result : Option Text → Bool
 has_result (Some (ProcedureText (Some type) h a)) = true
 has_result _ = false
 
--- the value of a constant
-abbrev pub plain_of : ConstantValue → Plain
-plain_of (constant.Integer z) = Integer z
-plain_of (constant.Character c) = Character c
-plain_of (constant.Truth b) = Truth b
+-- the value of a constant; a text is the one that is written at its token
+abbrev pub plain_of : Source → ConstantValue → Option Plain
+plain_of s (constant.Integer z) = Some (Integer z)
+plain_of s (constant.Character c) = Some (Character c)
+plain_of s (constant.Truth b) = Some (Truth b)
+plain_of s (constant.Text token) = text_constant s token.0
+
+abbrev pub plain_in : Source → Option ConstantValue → Option Plain
+plain_in s None = None
+plain_in s (Some v) = plain_of s v
+
+-- the number of a text constant
+abbrev pub number_in : Option Plain → Option ℕ
+number_in (Some (TextOf t)) = Some t.text_frame
+number_in _ = None
 
 -- ---- rows of the tables
 
@@ -48,7 +58,9 @@ formals_or_none (Some v) = v.items
 pub record KnownOf (s : Source) (w : Cells) : Type 0 where
   -- by declaration: the number of its cell; the value of a constant
   pub slots : (d : DeclNo) → joined (slice_get w.slots.items d.0) ≡ slot_in s (block_of s d) (Declared d.0)
-  pub constants : (d : DeclNo) → option_map plain_of (joined (slice_get w.constants.items d.0)) ≡ constant_of s d
+  pub constants : (d : DeclNo) → plain_in s (joined (slice_get w.constants.items d.0)) ≡ constant_of s d
+  -- by token: the number of a text constant
+  pub texts : (token : ℕ) → joined (slice_get w.texts.items token) ≡ number_in (text_constant s token)
   -- by text: whether it is a procedure with a result, and how many cells it has
   pub results : (k : ℕ) → truth_or_false (slice_get w.results.items k) ≡ has_result (text s k)
   pub counts : (k : ℕ) → number_or 0 (slice_get w.counts.items k) ≡ length (cells_in s k (text s k))

@@ -4,3 +4,4 @@ pub mod Drafts
 pub mod Built
 pub mod Known
 pub mod Emit
+pub mod Forms

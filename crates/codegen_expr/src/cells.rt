@@ -1,5 +1,6 @@
 //! Tables on the texts of a program, made once.
 
+use sim_base::TokenNo;
 use sim_scope::Formal;
 
 /// The value of a declared constant.
@@ -11,6 +12,8 @@ pub enum ConstantValue {
     Character(u8),
     /// A truth value.
     Truth(bool),
+    /// The text that is written at a token.
+    Text(TokenNo),
 }
 
 /// What is known of the texts, the blocks and the declarations of a program.
@@ -20,6 +23,8 @@ pub struct Cells {
     pub slots: Vec<Option<u32>>,
     /// For each declaration the value of a constant.
     pub constants: Vec<Option<ConstantValue>>,
+    /// For each token the number of the text constant that is written there.
+    pub texts: Vec<Option<u32>>,
     /// For each text whether it is a procedure with a result.
     pub results: Vec<bool>,
     /// For each text the number of its cells.

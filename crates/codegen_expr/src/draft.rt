@@ -1,7 +1,7 @@
 //! Code that is being written.
 ghost use Rattle.std.specs.Prelude.{◌≡◌, [], IfOk, OnOk, length, pos, suc, true};
 ghost use Rattle.sim_code.specs.declared.instr.Instr.TheVariants as i;
-ghost use Rattle.codegen_expr.specs.Drafts.{filled_in, given_up, with_hole, with_instr, with_push, with_temp};
+ghost use Rattle.codegen_expr.specs.Drafts.{filled_in, given_up, with_hole, with_instr, with_push, with_room, with_temp};
 
 use sim_base::Line;
 use sim_code::{Instr, Lined};
@@ -98,6 +98,16 @@ impl Draft {
         let room = deeper(depth)?;
         self.instrs.push(Lined { instr, line })?;
         self.room = self.room.max(room);
+        Ok(())
+    }
+
+    /// The operand stack has room for one value on so many others.
+    #[tactic(auto, unfolding(crate::specs::Drafts::with_room))]
+    pub fn make_room(&mut self, depth: u32) -> Result<(), AllocError>
+        ensures { OnOk result (self.new ≡ with_room self.old depth) }
+    {
+        let most = deeper(depth)?;
+        self.room = self.room.max(most);
         Ok(())
     }
 

@@ -1,25 +1,27 @@
 //! Expressions, from the tree to instructions.
-ghost use Rattle.std.specs.Prelude.{OnOk, map};
+ghost use Rattle.std.specs.Prelude.{◌≢◌, IfOk, OnOk, length, map};
 ghost use Rattle.sim_tree.specs.SyntaxOf.{factor_syntax, term_syntax};
 ghost use Rattle.codegen_expr.specs.Known.{Known};
-ghost use Rattle.codegen_expr.specs.Emit.{Writes, WritesActual, WritesActuals, WritesCall, WritesCell, WritesConstant, WritesElement, WritesGiving, WritesLink, WritesList, WritesNamed, WritesNot, WritesOperand, WritesOperands, WritesSeen, WritesSelected, WritesSign, WritesStandard, WritesTails};
+ghost use Rattle.codegen_expr.specs.Emit.{Writes, WritesActual, WritesActuals, WritesAlone, WritesBefore, WritesBehind, WritesCall, WritesDot, WritesElement, WritesEnd, WritesGiving, WritesLast, WritesList, WritesNamed, WritesNamedPlace, WritesNot, WritesOperand, WritesOperands, WritesPlace, WritesSeen, WritesSeenPlace, WritesStandard, WritesStart, WritesStep, WritesSteps, WritesTails};
 
 use crate::cells::Cells;
+use crate::dots::{image_placed, is_placed, moves_at, stream_of, takes_image};
 use crate::draft::{Draft, deeper};
-use crate::instructions::{
-    call_instr, character_instr, element_instr, link_instr, load_instr, standard_instr,
+use crate::forms::{Form, form_of};
+use crate::instructions::{call_instr, character_instr, element_instr, standard_instr};
+use crate::joining::emit_join;
+use crate::leaves::{
+    emit_cell, emit_cell_place, emit_constant, emit_image, emit_image_taken, emit_link, emit_sign,
+    emit_text,
 };
-use crate::lookups::{
-    block_number, block_of, constant_value, denoted, formals_of_block, gives, is_around, is_text,
-    level_of, line_at, slot_of,
-};
-use crate::names::standard_code;
-use crate::operators::{Passed, Seen, Sorted, constant_instr, passed_of, seen_of, sort_out};
+use crate::lookups::{block_number, denoted, formals_of_block, gives, is_text, line_at};
+use crate::names::{OnImage, on_image, standard_code};
+use crate::operators::{Object, Passed, Seen, Sorted, passed_of, seen_of, sort_out};
 use crate::spot::Spot;
 use sim_base::{DeclNo, Line, TokenNo};
 use sim_code::Instr;
 use sim_scope::{Bound, Denotation, Formal, Standard, entry_of};
-use sim_tree::{Expr, Factor, Identifier, Multiplication, Operand, Operator, Selector, Sign, Term};
+use sim_tree::{Expr, Factor, Identifier, Multiplication, Operand, Operator, Selector, Term};
 use std::alloc::AllocError;
 
 /// Writes the code of an expression, which stands on so many values and leaves one more. The draft stops being whole where a form is
@@ -149,8 +151,14 @@ pub fn emit_expr(
             Ok(())
         }
         Expr::Postfix { primary, rest } => {
-            emit_expr(bound, cells, spot, draft, depth, primary)?;
-            emit_selectors(bound, spot, draft, depth, rest);
+            if rest.len() == 0 {
+                emit_expr(bound, cells, spot, draft, depth, primary)?;
+                return Ok(());
+            }
+            let moves = moves_at(bound, rest, 0);
+            let object = emit_start(bound, cells, spot, draft, depth, moves, primary)?;
+            let taken = emit_steps(bound, cells, spot, draft, depth, object, rest)?;
+            emit_end(bound, cells, spot, draft, depth, taken, rest)?;
             Ok(())
         }
         Expr::Integer { value, .. } => {
@@ -181,8 +189,8 @@ pub fn emit_expr(
             draft.give_up();
             Ok(())
         }
-        Expr::Text { .. } => {
-            draft.give_up();
+        Expr::Text { token, .. } => {
+            emit_text(bound, cells, spot, draft, depth, *token)?;
             Ok(())
         }
         Expr::NoObject { .. } => {
@@ -190,7 +198,7 @@ pub fn emit_expr(
             Ok(())
         }
         Expr::Notext { .. } => {
-            draft.give_up();
+            draft.push(depth, Instr::NoText, Line(0))?;
             Ok(())
         }
         Expr::This { .. } => {
@@ -199,28 +207,6 @@ pub fn emit_expr(
         }
         Expr::New { .. } => {
             draft.give_up();
-            Ok(())
-        }
-    }
-}
-
-/// A sign behind its operand.
-#[tactic(auto, using(crate::proofs::Written::writes))]
-fn emit_sign(
-    bound: &Bound,
-    cells: &Cells,
-    spot: Spot,
-    draft: &mut Draft,
-    depth: u32,
-    sign: Sign,
-    token: TokenNo,
-) -> Result<(), AllocError>
-    ensures { OnOk result (WritesSign bound.now spot depth draft.old draft.new sign token) }
-{
-    match sign {
-        Sign::Plus => Ok(()),
-        Sign::Minus => {
-            draft.put(Instr::Neg, line_at(bound, token))?;
             Ok(())
         }
     }
@@ -283,8 +269,10 @@ fn emit_operand(
             draft.fill_in(over, Instr::Jump(end));
             Ok(())
         }
-        Sorted::Other => {
-            draft.give_up();
+        Sorted::Joined => {
+            let inside = deeper(depth)?;
+            emit_expr(bound, cells, spot, draft, inside, operand)?;
+            emit_join(bound, spot, draft, depth, token)?;
             Ok(())
         }
     }
@@ -404,42 +392,6 @@ fn emit_not(
     Ok(())
 }
 
-/// What is taken of an object: not built.
-#[tactic(auto, using(crate::proofs::Written::writes))]
-fn emit_selectors(bound: &Bound, spot: Spot, draft: &mut Draft, depth: u32, rest: &[Selector])
-    ensures { WritesSelected bound.now spot depth draft.old draft.new rest.now }
-{
-    if rest.len() != 0 {
-        draft.give_up();
-    }
-}
-
-/// The value of the cell of a declaration.
-#[tactic(auto, using(crate::proofs::Written::writes))]
-pub fn emit_cell(
-    bound: &Bound,
-    cells: &Cells,
-    spot: Spot,
-    draft: &mut Draft,
-    depth: u32,
-    declaration: DeclNo,
-) -> Result<(), AllocError>
-    requires cells { Known bound.now cells.now }
-    ensures { OnOk result (WritesCell bound.now spot depth draft.old draft.new declaration) }
-{
-    let block = block_of(bound, declaration);
-    let Some(slot) = slot_of(bound, cells, declaration) else {
-        draft.give_up();
-        return Ok(());
-    };
-    if is_around(&bound.scopes, spot.text, block) {
-        draft.push(depth, load_instr(level_of(bound, block), slot), Line(0))?;
-        return Ok(());
-    }
-    draft.give_up();
-    Ok(())
-}
-
 /// Expressions, one value after the other.
 #[cycle(emit)]
 #[tactic(auto, using(crate::proofs::Written::writes))]
@@ -485,10 +437,50 @@ pub fn emit_element(
     Ok(())
 }
 
-/// A standard name with its operands. The token is that of the identifier.
+/// A standard name with its operands, where that of both images is done on this one: 0 of sysin, 1 of sysout. The token is that of the
+/// identifier.
 #[cycle(emit)]
-#[tactic(auto, using(crate::proofs::Written::writes))]
+#[tactic(auto, using(crate::proofs::Behind::behind))]
 pub fn emit_standard(
+    bound: &Bound,
+    cells: &Cells,
+    spot: Spot,
+    draft: &mut Draft,
+    depth: u32,
+    image: u32,
+    token: TokenNo,
+    name: Standard,
+    operands: &[Expr],
+) -> Result<(), AllocError>
+    requires cells { Known bound.now cells.now }
+    ensures { OnOk result (WritesStandard bound.now spot depth draft.old draft.new image token name operands.now) }
+{
+    match on_image(name) {
+        OnImage::Itself => {
+            if operands.len() == 0 {
+                emit_image(spot, draft, depth, image)?;
+                draft.put(Instr::Fetch, Line(0))?;
+                return Ok(());
+            }
+            draft.give_up();
+            Ok(())
+        }
+        OnImage::OfText(other) => {
+            emit_image(spot, draft, depth, image)?;
+            emit_behind(bound, cells, spot, draft, depth, token, other, operands)?;
+            Ok(())
+        }
+        OnImage::Nothing => {
+            emit_alone(bound, cells, spot, draft, depth, token, name, operands)?;
+            Ok(())
+        }
+    }
+}
+
+/// A standard name that is done by itself, with its operands. The token is that of the identifier.
+#[cycle(emit)]
+#[tactic(auto, using(crate::proofs::Behind::behind))]
+fn emit_alone(
     bound: &Bound,
     cells: &Cells,
     spot: Spot,
@@ -499,7 +491,7 @@ pub fn emit_standard(
     operands: &[Expr],
 ) -> Result<(), AllocError>
     requires cells { Known bound.now cells.now }
-    ensures { OnOk result (WritesStandard bound.now spot depth draft.old draft.new token name operands.now) }
+    ensures { OnOk result (WritesAlone bound.now spot depth draft.old draft.new token name operands.now) }
 {
     let Some(row) = standard_code(name) else {
         draft.give_up();
@@ -514,45 +506,513 @@ pub fn emit_standard(
     Ok(())
 }
 
-/// The value of a declared constant.
-#[tactic(auto, using(crate::proofs::Seen::sees))]
-fn emit_constant(
+/// A name of texts behind its text, which is on the stack, with its further operands. The token is that of the identifier.
+#[cycle(emit)]
+#[tactic(auto, using(crate::proofs::Behind::behind))]
+fn emit_behind(
     bound: &Bound,
     cells: &Cells,
     spot: Spot,
     draft: &mut Draft,
     depth: u32,
-    declaration: DeclNo,
+    token: TokenNo,
+    name: Standard,
+    operands: &[Expr],
 ) -> Result<(), AllocError>
     requires cells { Known bound.now cells.now }
-    ensures { OnOk result (WritesConstant bound.now spot depth draft.old draft.new declaration) }
+    ensures { OnOk result (WritesBehind bound.now spot depth draft.old draft.new token name operands.now) }
 {
-    let Some(value) = constant_value(bound, cells, declaration) else {
+    let Some(row) = standard_code(name) else {
         draft.give_up();
         return Ok(());
     };
-    draft.push(depth, constant_instr(value), Line(0))?;
+    if row.operands == 0 {
+        draft.give_up();
+        return Ok(());
+    }
+    if operands.len() != row.operands - 1 {
+        draft.give_up();
+        return Ok(());
+    }
+    let inside = deeper(depth)?;
+    emit_list(bound, cells, spot, draft, inside, operands)?;
+    draft.push(depth, standard_instr(row.number), line_at(bound, token))?;
     Ok(())
 }
 
-/// The link to the instance in which a procedure is declared.
-#[tactic(auto, using(crate::proofs::Seen::sees))]
-fn emit_link(
+/// Where the variable lies that a declared identifier with subscripts is. The token is that of the identifier.
+#[cycle(emit)]
+#[tactic(auto, using(crate::proofs::Behind::behind))]
+fn emit_seen_place(
     bound: &Bound,
+    cells: &Cells,
     spot: Spot,
     draft: &mut Draft,
     depth: u32,
+    token: TokenNo,
     declaration: DeclNo,
+    seen: Seen,
+    subscripts: &[Expr],
 ) -> Result<(), AllocError>
-    ensures { OnOk result (WritesLink bound.now spot depth draft.old draft.new declaration) }
+    requires cells { Known bound.now cells.now }
+    ensures { OnOk result (WritesSeenPlace bound.now spot depth draft.old draft.new token declaration seen subscripts.now) }
 {
-    let block = block_of(bound, declaration);
-    if is_around(&bound.scopes, spot.text, block) {
-        draft.push(depth, link_instr(level_of(bound, block)), Line(0))?;
-        return Ok(());
+    match seen {
+        Seen::Variable => {
+            if subscripts.len() == 0 {
+                emit_cell_place(bound, cells, spot, draft, depth, declaration)?;
+                return Ok(());
+            }
+            draft.give_up();
+            Ok(())
+        }
+        Seen::Array => {
+            if subscripts.len() == 0 {
+                draft.give_up();
+                return Ok(());
+            }
+            emit_element(
+                bound,
+                cells,
+                spot,
+                draft,
+                depth,
+                token,
+                declaration,
+                subscripts,
+            )?;
+            Ok(())
+        }
+        Seen::Constant => {
+            draft.give_up();
+            Ok(())
+        }
+        Seen::Call(_) => {
+            draft.give_up();
+            Ok(())
+        }
+        Seen::Nothing => {
+            draft.give_up();
+            Ok(())
+        }
     }
-    draft.give_up();
+}
+
+/// Where the variable lies that an identifier with subscripts is.
+#[cycle(emit)]
+#[tactic(auto, using(crate::proofs::Behind::behind))]
+fn emit_named_place(
+    bound: &Bound,
+    cells: &Cells,
+    spot: Spot,
+    draft: &mut Draft,
+    depth: u32,
+    name: &Identifier,
+    subscripts: &[Expr],
+) -> Result<(), AllocError>
+    requires cells { Known bound.now cells.now }
+    ensures { OnOk result (WritesNamedPlace bound.now spot depth draft.old draft.new name.now subscripts.now) }
+{
+    match denoted(bound, name.token) {
+        Some(Denotation::Declared(declaration)) => {
+            let seen = seen_of(entry_of(&bound.scopes, declaration));
+            emit_seen_place(
+                bound,
+                cells,
+                spot,
+                draft,
+                depth,
+                name.token,
+                declaration,
+                seen,
+                subscripts,
+            )?;
+            Ok(())
+        }
+        Some(Denotation::Standard(_)) => {
+            emit_image(spot, draft, depth, 1)?;
+            Ok(())
+        }
+        None => {
+            emit_image(spot, draft, depth, 1)?;
+            Ok(())
+        }
+    }
+}
+
+/// Where a variable lies.
+#[cycle(emit)]
+#[tactic(auto, using(crate::proofs::Places::places))]
+fn emit_place(
+    bound: &Bound,
+    cells: &Cells,
+    spot: Spot,
+    draft: &mut Draft,
+    depth: u32,
+    expr: &Expr,
+) -> Result<(), AllocError>
+    requires cells { Known bound.now cells.now }
+    ensures { OnOk result (WritesPlace bound.now spot depth draft.old draft.new expr.now) }
+{
+    match expr {
+        Expr::Named { name, arguments } => {
+            emit_named_place(bound, cells, spot, draft, depth, name, arguments)?;
+            Ok(())
+        }
+        Expr::Parentheses { .. } => {
+            draft.give_up();
+            Ok(())
+        }
+        Expr::Postfix { primary, rest } => {
+            if rest.len() == 0 {
+                emit_place(bound, cells, spot, draft, depth, primary)?;
+                return Ok(());
+            }
+            emit_image_taken(bound, spot, draft, depth, primary, rest)?;
+            Ok(())
+        }
+        Expr::OrElse { first, rest } => {
+            if rest.len() == 0 {
+                emit_place(bound, cells, spot, draft, depth, first)?;
+                return Ok(());
+            }
+            draft.give_up();
+            Ok(())
+        }
+        Expr::AndThen { first, rest } => {
+            if rest.len() == 0 {
+                emit_place(bound, cells, spot, draft, depth, first)?;
+                return Ok(());
+            }
+            draft.give_up();
+            Ok(())
+        }
+        Expr::Eqv { first, rest } => {
+            if rest.len() == 0 {
+                emit_place(bound, cells, spot, draft, depth, first)?;
+                return Ok(());
+            }
+            draft.give_up();
+            Ok(())
+        }
+        Expr::Imp { first, rest } => {
+            if rest.len() == 0 {
+                emit_place(bound, cells, spot, draft, depth, first)?;
+                return Ok(());
+            }
+            draft.give_up();
+            Ok(())
+        }
+        Expr::Or { first, rest } => {
+            if rest.len() == 0 {
+                emit_place(bound, cells, spot, draft, depth, first)?;
+                return Ok(());
+            }
+            draft.give_up();
+            Ok(())
+        }
+        Expr::And { first, rest } => {
+            if rest.len() == 0 {
+                emit_place(bound, cells, spot, draft, depth, first)?;
+                return Ok(());
+            }
+            draft.give_up();
+            Ok(())
+        }
+        Expr::Not { tokens, operand } => {
+            if tokens.len() == 0 {
+                emit_place(bound, cells, spot, draft, depth, operand)?;
+                return Ok(());
+            }
+            draft.give_up();
+            Ok(())
+        }
+        Expr::Concatenation { first, rest } => {
+            if rest.len() == 0 {
+                emit_place(bound, cells, spot, draft, depth, first)?;
+                return Ok(());
+            }
+            draft.give_up();
+            Ok(())
+        }
+        Expr::Sum { sign, first, rest } => match sign {
+            Some(_) => {
+                draft.give_up();
+                Ok(())
+            }
+            None => {
+                if rest.len() == 0 {
+                    emit_place(bound, cells, spot, draft, depth, first)?;
+                    return Ok(());
+                }
+                draft.give_up();
+                Ok(())
+            }
+        },
+        Expr::Product { first, rest } => {
+            if rest.len() == 0 {
+                emit_place(bound, cells, spot, draft, depth, first)?;
+                return Ok(());
+            }
+            draft.give_up();
+            Ok(())
+        }
+        Expr::Power { first, rest } => {
+            if rest.len() == 0 {
+                emit_place(bound, cells, spot, draft, depth, first)?;
+                return Ok(());
+            }
+            draft.give_up();
+            Ok(())
+        }
+        Expr::If { .. } => {
+            draft.give_up();
+            Ok(())
+        }
+        Expr::Related { .. } => {
+            draft.give_up();
+            Ok(())
+        }
+        Expr::Member { .. } => {
+            draft.give_up();
+            Ok(())
+        }
+        Expr::Integer { .. } => {
+            draft.give_up();
+            Ok(())
+        }
+        Expr::Character { .. } => {
+            draft.give_up();
+            Ok(())
+        }
+        Expr::Text { .. } => {
+            draft.give_up();
+            Ok(())
+        }
+        Expr::True { .. } => {
+            draft.give_up();
+            Ok(())
+        }
+        Expr::False { .. } => {
+            draft.give_up();
+            Ok(())
+        }
+        Expr::NoObject { .. } => {
+            draft.give_up();
+            Ok(())
+        }
+        Expr::Notext { .. } => {
+            draft.give_up();
+            Ok(())
+        }
+        Expr::This { .. } => {
+            draft.give_up();
+            Ok(())
+        }
+        Expr::New { .. } => {
+            draft.give_up();
+            Ok(())
+        }
+    }
+}
+
+/// An operand in front of what is taken of it; whether that moves the position of a text is given.
+#[cycle(emit)]
+#[tactic(auto, using(crate::proofs::Taken::taken))]
+fn emit_start(
+    bound: &Bound,
+    cells: &Cells,
+    spot: Spot,
+    draft: &mut Draft,
+    depth: u32,
+    moves: bool,
+    primary: &Expr,
+) -> Result<Object, AllocError>
+    requires cells { Known bound.now cells.now }
+    ensures { IfOk result (λ object. WritesStart bound.now spot depth draft.old draft.new moves object primary.now) }
+{
+    if let Some(image) = stream_of(bound, primary) {
+        return Ok(Object::Stream(image));
+    }
+    if is_placed(bound, moves, primary) {
+        emit_place(bound, cells, spot, draft, depth, primary)?;
+        return Ok(Object::Place);
+    }
+    emit_expr(bound, cells, spot, draft, depth, primary)?;
+    Ok(Object::Value)
+}
+
+/// An attribute behind its object.
+#[cycle(emit)]
+#[tactic(auto, using(crate::proofs::Taken::taken))]
+pub fn emit_dot(
+    bound: &Bound,
+    cells: &Cells,
+    spot: Spot,
+    draft: &mut Draft,
+    depth: u32,
+    object: Object,
+    name: &Identifier,
+    operands: &[Expr],
+) -> Result<(), AllocError>
+    requires cells { Known bound.now cells.now }
+    ensures { OnOk result (WritesDot bound.now spot depth draft.old draft.new object name.now operands.now) }
+{
+    match denoted(bound, name.token) {
+        Some(Denotation::Standard(standard)) => match object {
+            Object::Stream(image) => {
+                emit_standard(
+                    bound, cells, spot, draft, depth, image, name.token, standard, operands,
+                )?;
+                Ok(())
+            }
+            Object::Place => {
+                emit_behind(
+                    bound, cells, spot, draft, depth, name.token, standard, operands,
+                )?;
+                Ok(())
+            }
+            Object::Value => {
+                emit_behind(
+                    bound, cells, spot, draft, depth, name.token, standard, operands,
+                )?;
+                Ok(())
+            }
+        },
+        Some(Denotation::Declared(_)) => {
+            draft.give_up();
+            Ok(())
+        }
+        None => {
+            draft.give_up();
+            Ok(())
+        }
+    }
+}
+
+/// What is taken of an object, whose value is needed.
+#[cycle(emit)]
+#[tactic(auto, using(crate::proofs::Taken::taken))]
+fn emit_last(
+    bound: &Bound,
+    cells: &Cells,
+    spot: Spot,
+    draft: &mut Draft,
+    depth: u32,
+    object: Object,
+    selector: &Selector,
+) -> Result<(), AllocError>
+    requires cells { Known bound.now cells.now }
+    ensures { OnOk result (WritesLast bound.now spot depth draft.old draft.new object selector.now) }
+{
+    match selector {
+        Selector::Dot {
+            name,
+            arguments,
+            ..
+        } => {
+            if gives(bound, denoted(bound, name.token)) {
+                emit_dot(bound, cells, spot, draft, depth, object, name, arguments)?;
+                return Ok(());
+            }
+            draft.give_up();
+            Ok(())
+        }
+        Selector::Qua { .. } => {
+            draft.give_up();
+            Ok(())
+        }
+    }
+}
+
+/// What is taken of an object, in front of something further; whether that moves the position of a text is given.
+#[cycle(emit)]
+#[tactic(auto, using(crate::proofs::Taken::taken))]
+fn emit_step(
+    bound: &Bound,
+    cells: &Cells,
+    spot: Spot,
+    draft: &mut Draft,
+    depth: u32,
+    object: Object,
+    selector: &Selector,
+    moves: bool,
+) -> Result<Object, AllocError>
+    requires cells { Known bound.now cells.now }
+    ensures { IfOk result (λ next. WritesStep bound.now spot depth draft.old draft.new object selector.now moves next) }
+{
+    if let Some(image) = image_placed(moves, object, takes_image(bound, selector)) {
+        emit_image(spot, draft, depth, image)?;
+        return Ok(Object::Place);
+    }
+    emit_last(bound, cells, spot, draft, depth, object, selector)?;
+    Ok(Object::Value)
+}
+
+/// What is taken of an object but the last thing.
+#[cycle(emit)]
+#[tactic(auto, using(crate::proofs::Taken::taken))]
+fn emit_steps(
+    bound: &Bound,
+    cells: &Cells,
+    spot: Spot,
+    draft: &mut Draft,
+    depth: u32,
+    object: Object,
+    rest: &[Selector],
+) -> Result<Object, AllocError>
+    requires cells { Known bound.now cells.now }
+    requires some { length rest.now ≢ 0 }
+    ensures { IfOk result (λ taken. WritesSteps bound.now spot depth draft.old draft.new object rest.now taken) }
+{
+    let mut taken = object;
+    for done in 0..rest.len() - 1 {
+        let moves = moves_at(bound, rest, done + 1);
+        taken = emit_step(bound, cells, spot, draft, depth, taken, &rest[done], moves)?;
+    }
+    Ok(taken)
+}
+
+/// The last thing that is taken of an object.
+#[cycle(emit)]
+#[tactic(auto, using(crate::proofs::Taken::taken))]
+fn emit_end(
+    bound: &Bound,
+    cells: &Cells,
+    spot: Spot,
+    draft: &mut Draft,
+    depth: u32,
+    object: Object,
+    rest: &[Selector],
+) -> Result<(), AllocError>
+    requires cells { Known bound.now cells.now }
+    requires some { length rest.now ≢ 0 }
+    ensures { OnOk result (WritesEnd bound.now spot depth draft.old draft.new object rest.now) }
+{
+    let last = &rest[rest.len() - 1];
+    emit_last(bound, cells, spot, draft, depth, object, last)?;
     Ok(())
+}
+
+/// An operand and what is taken of it but the last thing.
+#[tactic(auto, using(crate::proofs::Taken::taken))]
+pub fn emit_before(
+    bound: &Bound,
+    cells: &Cells,
+    spot: Spot,
+    draft: &mut Draft,
+    depth: u32,
+    primary: &Expr,
+    rest: &[Selector],
+) -> Result<Object, AllocError>
+    requires cells { Known bound.now cells.now }
+    requires some { length rest.now ≢ 0 }
+    ensures { IfOk result (λ object. WritesBefore bound.now spot depth draft.old draft.new object primary.now rest.now) }
+{
+    let moves = moves_at(bound, rest, 0);
+    let object = emit_start(bound, cells, spot, draft, depth, moves, primary)?;
+    let taken = emit_steps(bound, cells, spot, draft, depth, object, rest)?;
+    Ok(taken)
 }
 
 /// An actual parameter. The token is that of the procedure's identifier.
@@ -576,6 +1036,10 @@ fn emit_actual(
         Passed::Plain => Ok(()),
         Passed::Copied => {
             draft.put(Instr::CopyArr, line_at(bound, token))?;
+            Ok(())
+        }
+        Passed::CopiedText => {
+            draft.push(depth, standard_instr(15), line_at(bound, token))?;
             Ok(())
         }
         Passed::Other => {
@@ -746,7 +1210,7 @@ pub fn emit_named(
             Ok(())
         }
         Some(Denotation::Standard(standard)) => {
-            emit_standard(bound, cells, spot, draft, depth, token, standard, list)?;
+            emit_standard(bound, cells, spot, draft, depth, 1, token, standard, list)?;
             Ok(())
         }
         None => {

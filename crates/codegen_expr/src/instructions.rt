@@ -59,6 +59,31 @@ pub fn character_instr(value: u8) -> Instr
     Instr::Char(i64::from(value))
 }
 
+/// The instruction that pushes a text constant, by its number.
+pub fn constant_text_instr(number: u32) -> Instr
+    ensures { result ≡ i.TextK (pos number) }
+{
+    Instr::TextK(i64::from(number))
+}
+
+/// The instruction that pushes the address of a cell.
+pub fn address_instr(level: u32, cell: u32) -> Instr
+    ensures { result ≡ i.Addr (pos level) (pos cell) (pos 0) }
+{
+    Instr::Addr {
+        level: i64::from(level),
+        cell: i64::from(cell),
+        class: 0,
+    }
+}
+
+/// The instruction that pushes the address of an image: 0 of sysin, 1 of sysout.
+pub fn image_instr(image: u32) -> Instr
+    ensures { result ≡ i.AddrImg (pos image) }
+{
+    Instr::AddrImg(i64::from(image))
+}
+
 /// The instruction that takes a value into a cell.
 pub fn store_instr(level: u32, cell: u32) -> Instr
     ensures { result ≡ i.Store (pos level) (pos cell) }

@@ -2,9 +2,13 @@
 #![tactic(auto)]
 
 mod cells;
+mod dots;
 mod draft;
 mod emit;
+mod forms;
 mod instructions;
+mod joining;
+mod leaves;
 mod lookups;
 mod names;
 mod operators;
@@ -12,13 +16,18 @@ mod spot;
 
 pub use cells::{Cells, ConstantValue};
 pub use draft::{Draft, deeper};
-pub use emit::{emit_cell, emit_element, emit_expr, emit_list, emit_named, emit_standard};
+pub use emit::{
+    emit_before, emit_dot, emit_element, emit_expr, emit_list, emit_named, emit_standard,
+};
+pub use forms::{Form, form_of};
 pub use instructions::{
     call_instr, character_instr, element_instr, link_instr, load_instr, standard_instr, store_instr,
 };
+pub use leaves::emit_cell;
 pub use lookups::{
     block_number, block_of, cell_count, constant_value, denoted, formals_of_block, gives,
-    has_result, is_around, is_text, level_of, line_at, slot_of,
+    has_result, is_around, is_text, is_text_at, level_of, line_at, slot_of,
 };
 pub use names::{StandardCode, standard_leaves};
+pub use operators::Object;
 pub use spot::Spot;

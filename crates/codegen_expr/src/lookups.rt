@@ -1,22 +1,24 @@
 //! What the emitter looks up by token, declaration and block.
-ghost use Rattle.std.specs.Prelude.{◌≡◌, length, option_map};
-ghost use Rattle.sim_scope.specs.Source.{block_of, denoted as denoted_of, level_of as level_of_block, line_at as line_at_of, source_of};
+ghost use Rattle.std.specs.Prelude.{◌≡◌, length};
+ghost use Rattle.sim_scope.specs.Source.{block_of, denoted as denoted_of, level_of as level_of_block, line_at as line_at_of, source_of, type_at};
 ghost use Rattle.sim_scope.specs.Scopes.{encloser as encloser_of};
-ghost use Rattle.sim_meaning.specs.Closing.{is_text as is_text_of};
+ghost use Rattle.sim_meaning.specs.Closing.{is_text as is_text_of, is_text_type};
+ghost use Rattle.sim_meaning.specs.Constants.{text_constant};
 ghost use Rattle.sim_meaning.specs.Pending.{Declared};
 ghost use Rattle.sim_meaning.specs.Texts.{constant_of, text as text_of};
 ghost use Rattle.codegen_expr.specs.Built.{around_or, is_around as is_around_of, slot_in};
 ghost use Rattle.codegen_expr.specs.CodeExpr.{block_number as block_number_of, gives as gives_of, gives_entry as gives_entry_of};
 ghost use Rattle.codegen_expr.specs.Emit.{formals_of_block as formals_of_block_by};
-ghost use Rattle.codegen_expr.specs.Known.{Known, has_result as has_result_of, plain_of};
+ghost use Rattle.codegen_expr.specs.Known.{Known, has_result as has_result_of, number_in, plain_in};
 ghost use Rattle.codegen_expr.specs.Sites.{cells_in};
 ghost use Rattle.sim_tree.specs.SyntaxOf.{syntax_of};
 
 use crate::cells::{Cells, ConstantValue};
+use crate::forms::typed_token;
 use crate::names::standard_leaves;
 use sim_base::{DeclNo, Line, TokenNo};
 use sim_scope::{Bound, Denotation, Entry, Formal, Scopes, SimType, encloser, entry_of};
-use sim_tree::{Expr, naming_token};
+use sim_tree::Expr;
 
 /// What an identifier denotes.
 #[tactic(auto, unfolding(sim_scope::specs::Source::denoted, sim_scope::specs::Source::source_of))]
@@ -62,16 +64,23 @@ pub fn level_of(bound: &Bound, block: u32) -> u32
     }
 }
 
-/// Whether an expression is a text.
-#[tactic(auto, unfolding(sim_meaning::specs::Closing::is_text, sim_scope::specs::Source::type_at, sim_scope::specs::Source::source_of, sim_tree::specs::SyntaxOf::NamingIs))]
-pub fn is_text(bound: &Bound, expr: &Expr) -> bool
-    ensures { result ≡ is_text_of (source_of bound.now) (syntax_of expr.now) }
+/// Whether the type at a token is that of a text.
+#[tactic(auto, unfolding(sim_scope::specs::Source::type_at, sim_scope::specs::Source::source_of))]
+pub fn is_text_at(bound: &Bound, token: TokenNo) -> bool
+    ensures { result ≡ is_text_type (type_at (source_of bound.now) token.0) }
 {
-    let token = naming_token(expr);
     match bound.types.get(token.0 as usize) {
         Some(Some(SimType::Text)) => true,
         _ => false,
     }
+}
+
+/// Whether an expression is a text.
+#[tactic(auto, unfolding(sim_meaning::specs::Closing::is_text))]
+pub fn is_text(bound: &Bound, expr: &Expr) -> bool
+    ensures { result ≡ is_text_of (source_of bound.now) (syntax_of expr.now) }
+{
+    is_text_at(bound, typed_token(expr))
 }
 
 /// Whether a text is another one or stands somewhere in it.
@@ -103,14 +112,26 @@ pub fn slot_of(bound: &Bound, cells: &Cells, declaration: DeclNo) -> Option<u32>
     }
 }
 
-/// The value of a constant; none where that is a text.
+/// The value of a constant.
 #[tactic(auto, unfolding(crate::specs::Known::Known))]
 pub fn constant_value(bound: &Bound, cells: &Cells, declaration: DeclNo) -> Option<ConstantValue>
     requires cells { Known bound.now cells.now }
-    ensures { option_map plain_of result ≡ constant_of (source_of bound.now) declaration }
+    ensures { plain_in (source_of bound.now) result ≡ constant_of (source_of bound.now) declaration }
 {
     match cells.constants.get(declaration.0 as usize) {
         Some(value) => *value,
+        None => None,
+    }
+}
+
+/// The number of the text constant that is written at a token.
+#[tactic(auto, unfolding(crate::specs::Known::Known))]
+pub(crate) fn text_number(bound: &Bound, cells: &Cells, token: TokenNo) -> Option<u32>
+    requires cells { Known bound.now cells.now }
+    ensures { result ≡ number_in (text_constant (source_of bound.now) token.0) }
+{
+    match cells.texts.get(token.0 as usize) {
+        Some(number) => *number,
         None => None,
     }
 }

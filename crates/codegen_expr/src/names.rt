@@ -2,11 +2,11 @@
 ghost use Rattle.std.specs.Prelude.{◌≡◌, Some};
 ghost use Rattle.sim_meaning.specs.Names.{procedure_named};
 ghost use Rattle.sim_meaning.specs.Statements.{standard_leaves as standard_leaves_of};
-ghost use Rattle.codegen_expr.specs.Emit.{Numbered};
+ghost use Rattle.codegen_expr.specs.Emit.{Numbered, OnImageIs, moves_named};
 
 use sim_scope::Standard;
 
-/// A standard name in code.
+/// A standard name that is done by itself, in code.
 #[derive(Clone, Copy, Debug, PartialEq, Eq)]
 pub struct StandardCode {
     /// Its number.
@@ -22,7 +22,7 @@ fn built(number: u32, operands: usize) -> Option<StandardCode>
     Some(StandardCode { number, operands })
 }
 
-/// What code has of a standard name; nothing where it is not built, as for those that make or read texts or read the input.
+/// What code has of a standard name that is done by itself: not of those of both images, nor of the streams.
 #[tactic(auto, unfolding(sim_values::specs::Standard::row_of))]
 pub(crate) fn standard_code(name: Standard) -> Option<StandardCode>
     ensures { Numbered result (procedure_named name) }
@@ -42,32 +42,32 @@ pub(crate) fn standard_code(name: Standard) -> Option<StandardCode>
         Standard::Isorank => built(11, 1),
         Standard::Digit => built(12, 1),
         Standard::Letter => built(13, 1),
-        Standard::Blanks => None,
-        Standard::Copy => None,
-        Standard::Upcase => None,
-        Standard::Lowcase => None,
-        Standard::TextConstant => None,
-        Standard::TextStart => None,
-        Standard::TextLength => None,
-        Standard::TextPos => None,
-        Standard::TextMore => None,
-        Standard::TextMain => None,
-        Standard::TextSetpos => None,
-        Standard::TextGetchar => None,
-        Standard::TextPutchar => None,
-        Standard::TextSub => None,
-        Standard::TextStrip => None,
-        Standard::TextGetint => None,
-        Standard::TextPutint => None,
-        Standard::Inimage => None,
-        Standard::Inchar => None,
-        Standard::Inint => None,
-        Standard::Intext => None,
-        Standard::Lastitem => None,
-        Standard::Endfile => None,
+        Standard::Blanks => built(14, 1),
+        Standard::Copy => built(15, 1),
+        Standard::Upcase => built(16, 1),
+        Standard::Lowcase => built(17, 1),
+        Standard::TextConstant => built(18, 1),
+        Standard::TextStart => built(19, 1),
+        Standard::TextLength => built(20, 1),
+        Standard::TextPos => built(21, 1),
+        Standard::TextMore => built(22, 1),
+        Standard::TextMain => built(23, 1),
+        Standard::TextSetpos => built(24, 2),
+        Standard::TextGetchar => built(25, 1),
+        Standard::TextPutchar => built(26, 2),
+        Standard::TextSub => built(27, 3),
+        Standard::TextStrip => built(28, 1),
+        Standard::TextGetint => built(29, 1),
+        Standard::TextPutint => built(30, 2),
+        Standard::Inimage => built(31, 0),
+        Standard::Inchar => built(32, 0),
+        Standard::Inint => built(33, 0),
+        Standard::Intext => built(34, 1),
+        Standard::Lastitem => built(35, 0),
+        Standard::Endfile => built(36, 0),
         Standard::Outimage => built(37, 0),
         Standard::Outchar => built(38, 1),
-        Standard::Outtext => None,
+        Standard::Outtext => built(39, 1),
         Standard::Outint => built(40, 2),
         Standard::Image => None,
         Standard::Pos => None,
@@ -76,6 +76,129 @@ pub(crate) fn standard_code(name: Standard) -> Option<StandardCode>
         Standard::Length => None,
         Standard::Sysin => None,
         Standard::Sysout => None,
+    }
+}
+
+/// What a name of both images is on one of them.
+#[derive(Clone, Copy, Debug, PartialEq, Eq)]
+pub(crate) enum OnImage {
+    /// The image itself.
+    Itself,
+    /// A name of texts.
+    OfText(Standard),
+    /// It is none of those names.
+    Nothing,
+}
+
+/// What a standard name is on an image.
+pub(crate) fn on_image(name: Standard) -> OnImage
+    ensures { OnImageIs result (procedure_named name) }
+{
+    match name {
+        Standard::Abs => OnImage::Nothing,
+        Standard::Sign => OnImage::Nothing,
+        Standard::Min => OnImage::Nothing,
+        Standard::Max => OnImage::Nothing,
+        Standard::Mod => OnImage::Nothing,
+        Standard::Rem => OnImage::Nothing,
+        Standard::Maxint => OnImage::Nothing,
+        Standard::Minint => OnImage::Nothing,
+        Standard::Char => OnImage::Nothing,
+        Standard::Rank => OnImage::Nothing,
+        Standard::Isochar => OnImage::Nothing,
+        Standard::Isorank => OnImage::Nothing,
+        Standard::Digit => OnImage::Nothing,
+        Standard::Letter => OnImage::Nothing,
+        Standard::Blanks => OnImage::Nothing,
+        Standard::Copy => OnImage::Nothing,
+        Standard::Upcase => OnImage::Nothing,
+        Standard::Lowcase => OnImage::Nothing,
+        Standard::TextConstant => OnImage::Nothing,
+        Standard::TextStart => OnImage::Nothing,
+        Standard::TextLength => OnImage::Nothing,
+        Standard::TextPos => OnImage::Nothing,
+        Standard::TextMore => OnImage::Nothing,
+        Standard::TextMain => OnImage::Nothing,
+        Standard::TextSetpos => OnImage::Nothing,
+        Standard::TextGetchar => OnImage::Nothing,
+        Standard::TextPutchar => OnImage::Nothing,
+        Standard::TextSub => OnImage::Nothing,
+        Standard::TextStrip => OnImage::Nothing,
+        Standard::TextGetint => OnImage::Nothing,
+        Standard::TextPutint => OnImage::Nothing,
+        Standard::Inimage => OnImage::Nothing,
+        Standard::Inchar => OnImage::Nothing,
+        Standard::Inint => OnImage::Nothing,
+        Standard::Intext => OnImage::Nothing,
+        Standard::Lastitem => OnImage::Nothing,
+        Standard::Endfile => OnImage::Nothing,
+        Standard::Outimage => OnImage::Nothing,
+        Standard::Outchar => OnImage::Nothing,
+        Standard::Outtext => OnImage::Nothing,
+        Standard::Outint => OnImage::Nothing,
+        Standard::Image => OnImage::Itself,
+        Standard::Pos => OnImage::OfText(Standard::TextPos),
+        Standard::Setpos => OnImage::OfText(Standard::TextSetpos),
+        Standard::More => OnImage::OfText(Standard::TextMore),
+        Standard::Length => OnImage::OfText(Standard::TextLength),
+        Standard::Sysin => OnImage::Nothing,
+        Standard::Sysout => OnImage::Nothing,
+    }
+}
+
+/// Whether a standard name moves the position of its text.
+pub(crate) fn moves_position(name: Standard) -> bool
+    ensures { result ≡ moves_named (procedure_named name) }
+{
+    match name {
+        Standard::Abs => false,
+        Standard::Sign => false,
+        Standard::Min => false,
+        Standard::Max => false,
+        Standard::Mod => false,
+        Standard::Rem => false,
+        Standard::Maxint => false,
+        Standard::Minint => false,
+        Standard::Char => false,
+        Standard::Rank => false,
+        Standard::Isochar => false,
+        Standard::Isorank => false,
+        Standard::Digit => false,
+        Standard::Letter => false,
+        Standard::Blanks => false,
+        Standard::Copy => false,
+        Standard::Upcase => false,
+        Standard::Lowcase => false,
+        Standard::TextConstant => false,
+        Standard::TextStart => false,
+        Standard::TextLength => false,
+        Standard::TextPos => false,
+        Standard::TextMore => false,
+        Standard::TextMain => false,
+        Standard::TextSetpos => true,
+        Standard::TextGetchar => true,
+        Standard::TextPutchar => true,
+        Standard::TextSub => false,
+        Standard::TextStrip => false,
+        Standard::TextGetint => true,
+        Standard::TextPutint => true,
+        Standard::Inimage => false,
+        Standard::Inchar => false,
+        Standard::Inint => false,
+        Standard::Intext => false,
+        Standard::Lastitem => false,
+        Standard::Endfile => false,
+        Standard::Outimage => false,
+        Standard::Outchar => false,
+        Standard::Outtext => false,
+        Standard::Outint => false,
+        Standard::Image => false,
+        Standard::Pos => false,
+        Standard::Setpos => false,
+        Standard::More => false,
+        Standard::Length => false,
+        Standard::Sysin => false,
+        Standard::Sysout => false,
     }
 }
 

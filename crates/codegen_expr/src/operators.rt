@@ -1,12 +1,17 @@
 //! How operators are done, identifiers seen and actual parameters passed.
 ghost use Rattle.std.specs.Prelude.{◌≡◌};
 ghost use Rattle.sim_meaning.specs.Closing.{is_text_type, sort_of, sort_of_relation};
-ghost use Rattle.codegen_expr.specs.Emit.{IsSmall, instr_of, passed_of as passed_by, seen_of as seen_by, sorted_of};
+ghost use Rattle.sim_meaning.specs.Constants.{text_constant};
+ghost use Rattle.sim_scope.specs.Source.{source_of};
+ghost use Rattle.codegen_expr.specs.Emit.{FindsInstr, passed_of as passed_by, seen_of as seen_by, sorted_of};
+ghost use Rattle.codegen_expr.specs.Known.{Known, plain_of};
 
-use crate::cells::ConstantValue;
-use crate::instructions::character_instr;
+use crate::cells::{Cells, ConstantValue};
+use crate::instructions::{character_instr, constant_text_instr};
+use crate::lookups::text_number;
+use sim_base::TokenNo;
 use sim_code::Instr;
-use sim_scope::{Entry, Formal, FormalKind, Mode, SimType};
+use sim_scope::{Bound, Entry, Formal, FormalKind, Mode, SimType};
 use sim_tree::{Multiplication, Operator, Relation, Sign};
 
 /// How an operator is done.
@@ -20,11 +25,11 @@ pub(crate) enum Sorted {
     OrElse,
     /// The same where it is false.
     AndThen,
-    /// It is not built.
-    Other,
+    /// As `&`.
+    Joined,
 }
 
-/// How a relation is done. Those of texts are not built.
+/// How a relation is done. `texts` tells whether the operands are texts.
 fn sort_out_relation(texts: bool, relation: Relation) -> Sorted
     ensures { result ≡ sorted_of (sort_of_relation texts relation) }
 {
@@ -37,14 +42,14 @@ fn sort_out_relation(texts: bool, relation: Relation) -> Sorted
         (Relation::NotEqual, false) => Sorted::Plain(Instr::Rel(5)),
         (Relation::SameReference, false) => Sorted::Plain(Instr::Same),
         (Relation::OtherReference, false) => Sorted::Negated(Instr::Same),
-        (Relation::Less, true) => Sorted::Other,
-        (Relation::LessEqual, true) => Sorted::Other,
-        (Relation::Equal, true) => Sorted::Other,
-        (Relation::GreaterEqual, true) => Sorted::Other,
-        (Relation::Greater, true) => Sorted::Other,
-        (Relation::NotEqual, true) => Sorted::Other,
-        (Relation::SameReference, true) => Sorted::Other,
-        (Relation::OtherReference, true) => Sorted::Other,
+        (Relation::Less, true) => Sorted::Plain(Instr::RelT(0)),
+        (Relation::LessEqual, true) => Sorted::Plain(Instr::RelT(1)),
+        (Relation::Equal, true) => Sorted::Plain(Instr::RelT(2)),
+        (Relation::GreaterEqual, true) => Sorted::Plain(Instr::RelT(3)),
+        (Relation::Greater, true) => Sorted::Plain(Instr::RelT(4)),
+        (Relation::NotEqual, true) => Sorted::Plain(Instr::RelT(5)),
+        (Relation::SameReference, true) => Sorted::Plain(Instr::SameT),
+        (Relation::OtherReference, true) => Sorted::Negated(Instr::SameT),
     }
 }
 
@@ -60,7 +65,7 @@ pub(crate) fn sort_out(texts: bool, operator: Operator) -> Sorted
         Operator::Or => Sorted::Plain(Instr::Or),
         Operator::And => Sorted::Plain(Instr::And),
         Operator::Relate(relation) => sort_out_relation(texts, relation),
-        Operator::Concatenate => Sorted::Other,
+        Operator::Concatenate => Sorted::Joined,
         Operator::Add(Sign::Plus) => Sorted::Plain(Instr::Add),
         Operator::Add(Sign::Minus) => Sorted::Plain(Instr::Sub),
         Operator::Multiply(Multiplication::Times) => Sorted::Plain(Instr::Mul),
@@ -108,8 +113,10 @@ pub(crate) fn seen_of(entry: Option<Entry>) -> Seen
 pub(crate) enum Passed {
     /// As it is.
     Plain,
-    /// As a copy.
+    /// As a copy of an array.
     Copied,
+    /// As a copy of a text.
+    CopiedText,
     /// It is not built.
     Other,
 }
@@ -122,20 +129,45 @@ pub(crate) fn passed_of(formal: Formal) -> Passed
         (Mode::ByName, _, _) => Passed::Other,
         (_, FormalKind::Procedure, _) => Passed::Other,
         (Mode::ByValue, FormalKind::Array, _) => Passed::Copied,
-        (Mode::ByValue, FormalKind::Simple, Some(SimType::Text)) => Passed::Other,
+        (Mode::ByValue, FormalKind::Simple, Some(SimType::Text)) => Passed::CopiedText,
         (_, _, _) => Passed::Plain,
     }
 }
 
-/// The instruction that pushes the value of a constant.
-pub(crate) fn constant_instr(value: ConstantValue) -> Instr
-    ensures is { result ≡ instr_of value }
-    ensures small { IsSmall value }
+/// What stands on the operand stack of an object before a dot.
+#[derive(Clone, Copy, Debug, PartialEq, Eq)]
+pub enum Object {
+    /// Nothing: it is sysin (0) or sysout (1).
+    Stream(u32),
+    /// Where a variable lies.
+    Place,
+    /// The text.
+    Value,
+}
+
+/// The instruction that pushes the value of a constant, if there is one.
+#[tactic(auto, using(crate::proofs::Texts::texts))]
+pub(crate) fn constant_instr(bound: &Bound, cells: &Cells, value: ConstantValue) -> Option<Instr>
+    requires cells { Known bound.now cells.now }
+    ensures { FindsInstr bound.now (plain_of (source_of bound.now) value) result }
 {
     match value {
-        ConstantValue::Integer(value) => Instr::Int(value),
-        ConstantValue::Character(value) => character_instr(value),
-        ConstantValue::Truth(true) => Instr::Bool(1),
-        ConstantValue::Truth(false) => Instr::Bool(0),
+        ConstantValue::Integer(value) => Some(Instr::Int(value)),
+        ConstantValue::Character(value) => Some(character_instr(value)),
+        ConstantValue::Truth(true) => Some(Instr::Bool(1)),
+        ConstantValue::Truth(false) => Some(Instr::Bool(0)),
+        ConstantValue::Text(token) => text_instr(bound, cells, token),
+    }
+}
+
+/// The instruction that pushes the text constant that is written at a token, if there is one.
+#[tactic(auto, using(crate::proofs::Texts::texts))]
+pub(crate) fn text_instr(bound: &Bound, cells: &Cells, token: TokenNo) -> Option<Instr>
+    requires cells { Known bound.now cells.now }
+    ensures { FindsInstr bound.now (text_constant (source_of bound.now) token.0) result }
+{
+    match text_number(bound, cells, token) {
+        Some(number) => Some(constant_text_instr(number)),
+        None => None,
     }
 }

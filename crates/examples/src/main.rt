@@ -2,41 +2,49 @@
 //! what it writes and its status.
 //!
 //! A collection is a file of `data/` with a first line that says what is in it, and then for each source a line
-//! `== NAME` and the lines of the source.
+//! `== NAME` and the lines of the source. Lines behind `>> ` are the lines of its input.
 #![tactic(auto)]
 
 use sim_driver::{Status, simula};
-use sim_ends::{Input, Output, RealFiles};
-use sim_ports::MemFiles;
+use sim_ends::{Output, RealFiles};
+use sim_ports::{MemFiles, MemSource};
 use std::alloc::{AllocError, Global};
 use std::{fs, io};
 
-// The models of data/, in the order in which they are shown.
-const MODELS: [&str; 7] = [
-    "first.sim",
-    "arithmetic.sim",
-    "fields.sim",
-    "long_lines.sim",
-    "overflow.sim",
-    "wide_field.sim",
-    "undeclared.sim",
+// The models of data/, in the order in which they are shown, each with the file that it reads as its input, if it reads any.
+const MODELS: [(&str, Option<&str>); 14] = [
+    ("first.sim", None),
+    ("arithmetic.sim", None),
+    ("fields.sim", None),
+    ("long_lines.sim", None),
+    ("overflow.sim", None),
+    ("wide_field.sim", None),
+    ("undeclared.sim", None),
+    ("squares.sim", None),
+    ("copy.sim", Some("verse.in")),
+    ("count.sim", Some("verse.in")),
+    ("reverse.sim", Some("verse.in")),
+    ("caesar.sim", Some("verse.in")),
+    ("histogram.sim", Some("numbers.in")),
+    ("sums.sim", Some("sums.in")),
 ];
 
 // The collections of data/ whose sources are run, in the order in which they are shown.
-const COLLECTIONS: [&str; 4] = [
+const COLLECTIONS: [&str; 5] = [
     "messages.cases",
     "programs.cases",
     "grammar.cases",
     "whole_language.cases",
+    "texts.cases",
 ];
 
 // The collections of data/ whose sources are checked, not run. They come last.
 const CHECKED: [&str; 1] = ["static_rules.cases"];
 
 fn main(rt: HostRuntime) -> io::Result<()> {
-    for name in MODELS {
+    for (name, input) in MODELS {
         println!(rt; "== {name}")?;
-        let status = run_model(&rt, name)?;
+        let status = run_model(&rt, name, input)?;
         show_status(&rt, status)?;
     }
     for name in COLLECTIONS {
@@ -52,7 +60,7 @@ fn main(rt: HostRuntime) -> io::Result<()> {
 fn show_cases(rt: &HostRuntime, command: &str, name: &str) -> io::Result<()> {
     let text = fs::read_to_string(rt, name)?;
     for case in cases_of(rt.alloc(), text.as_str())? {
-        println!(rt; "== {}", case.0)?;
+        println!(rt; "== {}", case.name)?;
         let status = answer_case(rt, command, case)?;
         show_status(rt, status)?;
     }
@@ -64,49 +72,86 @@ fn show_status(rt: &HostRuntime, status: Status) -> io::Result<()> {
     println!(rt; "status {number}")
 }
 
-// The sources of a collection, each with its name.
-fn cases_of(alloc: Global, text: &str) -> Result<Vec<(String, Vec<u8>)>, AllocError> {
-    let mut cases: Vec<(String, Vec<u8>)> = Vec::new(alloc);
+// A source of a collection, with the lines of its input.
+#[derive(Drop)]
+struct Case {
+    name: String,
+    source: Vec<u8>,
+    input: Vec<u8>,
+}
+
+// The sources of a collection.
+fn cases_of(alloc: Global, text: &str) -> Result<Vec<Case>, AllocError> {
+    let mut cases: Vec<Case> = Vec::new(alloc);
     for line in text.lines() {
         if let Some(name) = line.strip_prefix("== ") {
-            cases.push((String::from_str(alloc, name)?, Vec::new(alloc)))?;
+            cases.push(Case {
+                name: String::from_str(alloc, name)?,
+                source: Vec::new(alloc),
+                input: Vec::new(alloc),
+            })?;
         } else if let Some(case) = cases.last_mut() {
-            case.1.extend_from_slice(line.as_bytes())?;
-            case.1.push(b'\n')?;
+            if let Some(input) = line.strip_prefix(">> ") {
+                case.input.extend_from_slice(input.as_bytes())?;
+                case.input.push(b'\n')?;
+            } else {
+                case.source.extend_from_slice(line.as_bytes())?;
+                case.source.push(b'\n')?;
+            }
         }
     }
     Ok(cases)
 }
 
+// The bytes of the input of a model.
+fn input_of(rt: &HostRuntime, input: Option<&str>) -> io::Result<Vec<u8>> {
+    match input {
+        Some(name) => fs::read(rt, name),
+        None => Ok(Vec::new(rt.alloc())),
+    }
+}
+
 // Runs the model of this name as the command line would, with its line for the diagnostic output in its output.
-fn run_model(rt: &HostRuntime, name: &str) -> io::Result<Status> {
+fn run_model(rt: &HostRuntime, name: &str, input: Option<&str>) -> io::Result<Status> {
     let alloc = rt.alloc();
     let words = vec![in alloc;
         String::from_str(alloc, "run")?,
         String::from_str(alloc, name)?,
     ]?;
+    let bytes = input_of(rt, input)?;
+    let Ok(mut source) = MemSource::new(alloc, &bytes, &[]) else {
+        return Ok(Status::Memory);
+    };
     Ok(simula(
         alloc,
         &words,
         &mut RealFiles::new(rt),
-        &mut Input::new(rt.stdin()),
+        &mut source,
         &mut Output::new(rt.stdout()),
         &mut Output::new(rt.stdout()),
     ))
 }
 
 // The same of a source that stands in memory, with this command.
-fn answer_case(rt: &HostRuntime, command: &str, case: (String, Vec<u8>)) -> io::Result<Status> {
+fn answer_case(rt: &HostRuntime, command: &str, case: Case) -> io::Result<Status> {
     let alloc = rt.alloc();
-    let words = vec![in alloc; String::from_str(alloc, command)?, case.0.clone()?]?;
-    let Ok(mut files) = MemFiles::new(alloc, &[case], &[]) else {
+    let Case {
+        name,
+        source,
+        input,
+    } = case;
+    let words = vec![in alloc; String::from_str(alloc, command)?, name.clone()?]?;
+    let Ok(mut files) = MemFiles::new(alloc, &[(name, source)], &[]) else {
+        return Ok(Status::Memory);
+    };
+    let Ok(mut given) = MemSource::new(alloc, &input, &[]) else {
         return Ok(Status::Memory);
     };
     Ok(simula(
         alloc,
         &words,
         &mut files,
-        &mut Input::new(rt.stdin()),
+        &mut given,
         &mut Output::new(rt.stdout()),
         &mut Output::new(rt.stdout()),
     ))

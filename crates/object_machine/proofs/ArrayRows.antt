@@ -23,7 +23,7 @@ use Rattle.object_machine.specs.declared.machine.Registers.{Registers}
 use Rattle.object_machine.specs.declared.machine.Activation as working
 use Rattle.object_machine.specs.declared.machine.Flow.TheVariants as flow
 use Rattle.object_machine.specs.Arrayed.{value_there}
-use Rattle.object_machine.specs.Standing.{Leaves, Stands}
+use Rattle.object_machine.specs.Standing.{Leaves, Outside, Stands}
 
 -- ---- stacks
 
@@ -91,7 +91,7 @@ pub all_kept : (old new : ArraysOf) (list list2 : List ArrayOf) (slots : List Sl
 all_kept old new list list2 slots keeps all at names = keeps _ (all at names)
 
 -- the parts with other arrays stand for the world with another list of arrays
-pub stands_arrays : (l : Limits) (p : Storage) (r : Registers) (stack : List Slot) (below : List working.Activation) (before now : Option (List ℕ)) (o : World) (m : Frames) (arrays : ArraysOf) (list : List ArrayOf) →
+pub stands_arrays : (l : Limits) (p : Storage) (r : Registers) (stack : List Slot) (below : List working.Activation) (before : Option (List ℕ)) (now : Outside) (o : World) (m : Frames) (arrays : ArraysOf) (list : List ArrayOf) →
     Stands l p r stack below before now o m → HoldsArrays arrays list → KeepLeading p.arrays o.arrays arrays list → ElementsLead p.frames.items m arrays.regions →
     Stands l (record p { arrays = arrays }) r stack below before now (record o { arrays = list }) m
 stands_arrays l p r stack below before now o m arrays list s holds keeps elements = record {
@@ -120,12 +120,12 @@ off e = subst truth_type e tt
     truth_type false = ⊥
 
 -- an array is kept: the world in which it is, and what stands for it; or there is none
-pub record Keeping (l : Limits) (p p2 : Storage) (r : Registers) (stack : List Slot) (below : List working.Activation) (before now : Option (List ℕ)) (o : World) (m : Frames) (n : ℕ) : Type 0 where
+pub record Keeping (l : Limits) (p p2 : Storage) (r : Registers) (stack : List Slot) (below : List working.Activation) (before : Option (List ℕ)) (now : Outside) (o : World) (m : Frames) (n : ℕ) : Type 0 where
   pub world : World
   pub there : kept_world o n ≡ Some world
   pub stands : Stands l p2 r stack below before now world m
 
-module _ (l : Limits) (p : Storage) (r : Registers) (stack : List Slot) (below : List working.Activation) (before now : Option (List ℕ)) (o : World) (m : Frames) (arrays : ArraysOf) (n : ℕ) (s : Stands l p r stack below before now o m)
+module _ (l : Limits) (p : Storage) (r : Registers) (stack : List Slot) (below : List working.Activation) (before : Option (List ℕ)) (now : Outside) (o : World) (m : Frames) (arrays : ArraysOf) (n : ℕ) (s : Stands l p r stack below before now o m)
     (elements : ElementsLead p.frames.items m arrays.regions) where
   keeping_in : (w : Option ArrayOf) → live_array o n ≡ w → ArraysAfter true arrays (kept_in o n w) → KeepLeadingAfter p.arrays o.arrays arrays (kept_in o n w) → Keeping l p (record p { arrays = arrays }) r stack below before now o m n
   keeping_in None e a k = absurd (off a)
@@ -175,7 +175,7 @@ making_words l line owner kind bounds o go wanted h =
     ap (λ w. computing line w o (λ wanted. taking l line wanted o (λ p. go (length p.arrays) (added p (made_array bounds kind owner))))) h
 
 -- words are taken
-pub stands_paid : (l : Limits) (p : Storage) (r : Registers) (stack : List Slot) (below : List working.Activation) (before now : Option (List ℕ)) (o : World) (m : Frames) (words wanted : ℕ) →
+pub stands_paid : (l : Limits) (p : Storage) (r : Registers) (stack : List Slot) (below : List working.Activation) (before : Option (List ℕ)) (now : Outside) (o : World) (m : Frames) (words wanted : ℕ) →
     Stands l p r stack below before now o m → words ≤ l.storage → Stands l (record p { words = words; wanted = wanted }) r stack below before now (record o { words = words }) m
 stands_paid l p r stack below before now o m words wanted s h = record {
   stores = record {
@@ -191,7 +191,7 @@ stands_paid l p r stack below before now o m words wanted s h = record {
   others = s.others;
 }
 
-pub exhausted : (l : Limits) (line : ℕ) (p : Storage) (r r0 : Registers) (stack stack0 : List Slot) (below : List working.Activation) (before now : Option (List ℕ)) (o : World) (m : Frames) (wanted : ℕ) →
+pub exhausted : (l : Limits) (line : ℕ) (p : Storage) (r r0 : Registers) (stack stack0 : List Slot) (below : List working.Activation) (before : Option (List ℕ)) (now : Outside) (o : World) (m : Frames) (wanted : ℕ) →
     Stands l p r0 stack0 below before now o m → Leaves flow.Exhausted l line (record p { wanted = wanted }) r stack below before now (stopping (StorageExhausted line p.words wanted) o)
 unfolding stopping Leaves
 exhausted l line p r r0 stack stack0 below before now o m wanted s =

@@ -17,7 +17,7 @@ use Rattle.object_machine.specs.declared.machine.Flow.TheVariants as flow
 use Rattle.object_machine.specs.Covering.{Covers}
 use Rattle.object_machine.specs.Calling.{OpensWith, opened_with}
 use Rattle.object_machine.specs.Entering.{Opens}
-use Rattle.object_machine.specs.Standing.{AllAtWork, AllFit, AtWork, Leaves, activation_at, activation_of, below_of}
+use Rattle.object_machine.specs.Standing.{AllAtWork, AllFit, AtWork, Leaves, Outside, activation_at, activation_of, below_of}
 use Rattle.object_machine.proofs.BlockFacts.{same_found}
 use Rattle.object_machine.proofs.Departures.{below_more}
 use Rattle.object_machine.proofs.Going.{act}
@@ -40,10 +40,10 @@ pub more_fit : (below below2 : List working.Activation) (t : working.Activation)
 more_fit below below2 t e fit one = subst (λ w. AllFit w) (sym e) (all_more (λ u. u.registers.depth ≤ length u.stack.items) below t fit one)
 
 -- a frame with its first values
-pub opens_first : (l : Limits) (p p2 : Storage) (k : ℕ) (b : BlockOf) (parent : Option FrameRef) (t : working.Activation) (before now : Option (List ℕ)) (o : World) (m : Frames) → Opens l p p2 k b parent t before now o m → OpensWith l p p2 k b parent (first_cells b) t before now o o m
+pub opens_first : (l : Limits) (p p2 : Storage) (k : ℕ) (b : BlockOf) (parent : Option FrameRef) (t : working.Activation) (before : Option (List ℕ)) (now : Outside) (o : World) (m : Frames) → Opens l p p2 k b parent t before now o m → OpensWith l p p2 k b parent (first_cells b) t before now o o m
 opens_first l p p2 k b parent t before now o m h = record { stores = h.stores; top = h.top; works = h.works; others = h.others }
 
-module _ (l : Limits) (line : ℕ) (p p2 : Storage) (k : ℕ) (b : BlockOf) (parent : Option FrameRef) (cells : Cells) (next : working.Activation) (r : Registers) (stack : List Slot) (below : List working.Activation) (top : working.Activation) (below2 : List working.Activation) (before now : Option (List ℕ)) (o o2 : World) (m : Frames) where
+module _ (l : Limits) (line : ℕ) (p p2 : Storage) (k : ℕ) (b : BlockOf) (parent : Option FrameRef) (cells : Cells) (next : working.Activation) (r : Registers) (stack : List Slot) (below : List working.Activation) (top : working.Activation) (below2 : List working.Activation) (before : Option (List ℕ)) (now : Outside) (o o2 : World) (m : Frames) where
   abbrev pub Entered : Run Machine
   Entered = in_frame o2 m k b (number_in parent) cells (waiting (activation_at r stack) (values_of r.depth stack) ∷ below_of below)
 
@@ -88,3 +88,4 @@ module _ (l : Limits) (line : ℕ) (p p2 : Storage) (k : ℕ) (b : BlockOf) (par
     covered_by (flow.Fault e) c = absurd c
     covered_by flow.Memory c = tt
     covered_by flow.WriteFault c = elim c [ ]
+    covered_by flow.InputFault c = elim c [ ]

@@ -22,7 +22,7 @@ use Rattle.object_machine.specs.declared.machine.Registers.{Registers}
 use Rattle.object_machine.specs.declared.machine.Activation as working
 use Rattle.object_machine.specs.declared.machine.Flow.TheVariants as flow
 use Rattle.object_machine.specs.FrameEnds.{Ends, ValueLeads}
-use Rattle.object_machine.specs.Standing.{AllAtWork, AllFit, AtWork, Leaves, Stands, Stores, activation_at, activation_of, below_of}
+use Rattle.object_machine.specs.Standing.{AllAtWork, AllFit, AtWork, Leaves, Outside, Stands, Stores, activation_at, activation_of, below_of, ports_of}
 use Rattle.object_machine.proofs.Filling.{none_taken}
 use Rattle.object_machine.proofs.Going.{act}
 use Rattle.object_machine.proofs.Places.{lead_later, led_array_at, led_at}
@@ -113,7 +113,7 @@ given_count_in : (m : Frames) (j : ℕ) (x : Option (Instance Cells)) → length
 given_count_in m j None = refl
 given_count_in m j (Some x) = length-set m.instances j (record x { given_back = true })
 
-module _ (l : Limits) (p p2 : Storage) (b : BlockOf) (j : ℕ) (before now : Option (List ℕ)) (o : World) (m : Frames) where
+module _ (l : Limits) (p p2 : Storage) (b : BlockOf) (j : ℕ) (before : Option (List ℕ)) (now : Outside) (o : World) (m : Frames) where
   pub ends_kept : is_given_at_end m j ≡ false → Stores l p before now o m → Ends l p p b j before now o m
   ends_kept e s = record {
     stores = subst (λ c. Stores l p before now (if c then giving_back o j (words_of_block b) else o) (if c then given m j else m)) (sym e) s;
@@ -139,7 +139,7 @@ module _ (l : Limits) (p p2 : Storage) (b : BlockOf) (j : ℕ) (before now : Opt
         ticks = s.world.ticks ∙ sym ticks;
         words = ap (λ n. n - (words_of_block b + words_with j o.arrays)) s.world.words ∙ ap (λ n. p.words - (n + words_with j o.arrays)) (sym w) ∙ sub-add-eq p.words words (words_with j o.arrays) ∙ sym used;
         texts = s.world.texts ∙ sym texts;
-        image = s.world.image ∙ sym image;
+        image = s.world.image ∙ ap (λ i. ports_of i now.source) (sym image);
         written = s.world.written;
       };
       budget = omega (arith, used, s.budget);
@@ -161,7 +161,7 @@ module _ (l : Limits) (p p2 : Storage) (b : BlockOf) (j : ℕ) (before now : Opt
 
 -- ---- the frame below becomes the top
 
-module _ (l : Limits) (line : ℕ) (p p2 : Storage) (b : BlockOf) (r : Registers) (stack : List Slot) (below rest : List working.Activation) (before now : Option (List ℕ)) (o : World) (m : Frames) (v : Option Value) (s : Stands l p r stack below before now o m) where
+module _ (l : Limits) (line : ℕ) (p p2 : Storage) (b : BlockOf) (r : Registers) (stack : List Slot) (below rest : List working.Activation) (before : Option (List ℕ)) (now : Outside) (o : World) (m : Frames) (v : Option Value) (s : Stands l p r stack below before now o m) where
   -- there is none below
   pub none_below : below ≡ [] → (r2 : Registers) (stack2 : List Slot) (rest : List working.Activation) → Leaves flow.NoRule l line p2 r2 stack2 rest before now (leaving b (below_of below) v r.home.stamp o m)
   unfolding leaving no_rule Leaves

@@ -14,7 +14,11 @@ pub mod Closings
 pub mod Starting
 pub mod Whole
 pub mod EndRows
+pub mod Having
+pub mod ReadOperands
+pub mod ImageRows
 pub mod NameRows
+pub mod PairRows
 pub mod ArrayRows
 pub mod Putting
 pub mod Covered

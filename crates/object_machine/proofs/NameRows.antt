@@ -1,28 +1,42 @@
 -- Rows of standard names.
-use Rattle.std.proofs.Common.{◌≡◌, ℕ, ◌≤◌, List, [], ◌∷◌, ◌++◌, length, sym, subst, refl, ap, ◌∙◌}
-use Rattle.std.specs.Prelude.{Option, Some, None}
+use Rattle.std.proofs.Common.{◌≡◌, ℕ, zero, suc, ◌+◌, ◌-◌, ◌<◌, ◌≤◌, List, [], ◌∷◌, ◌++◌, length, sym, subst, refl, ap, ◌∙◌, arith}
+use Rattle.std.specs.Prelude.{Bool, true, false, if◌then◌else◌, Option, Some, None}
 use Rattle.std.specs.Io.KnownBytes.{Appends}
 use Rattle.sim_base.specs.declared.limits.Limits.{Limits}
+use Rattle.sim_ports.specs.Faults.{Rose, StopsAt}
 use Rattle.sim_values.specs.declared.standard.Standard.{Standard}
 use Rattle.sim_values.specs.declared.value.TextVal.{TextVal}
+use Rattle.sim_values.specs.Plain.{Plain}
+use Rattle.sim_values.specs.Standard.{operands_of, row_of, standard_effect}
 use Rattle.sim_values.specs.Texts.{Frame as TextFrame}
-use Rattle.sim_code.specs.Events.{having, no_rule, stopping}
-use Rattle.sim_code.specs.Machine.{Frames, Machine, Value, on}
-use Rattle.sim_code.specs.Outcome.{Run, World}
+use Rattle.basic_io.specs.Input.{HeldInput}
+use Rattle.sim_code.specs.Events.{computing, having, no_rule, performing, pop_operands, putting_back, stopping, taking, when}
+use Rattle.sim_code.specs.Machine.{Activation, Frames, Machine, Value, on, operand, plain}
+use Rattle.sim_code.specs.Outcome.{Going, Run, StorageExhausted, World}
+use Rattle.sim_code.specs.Rows.{has_room, put_back, room_for, with_value}
 use Rattle.frame_arena.specs.declared.slot.Slot.{Slot}
 use Rattle.frame_arena.specs.Arrays.{AllLeadArrays}
 use Rattle.frame_arena.specs.Frames.{AllLead}
+use Rattle.frame_arena.specs.Slots.{value_of}
+use Rattle.frame_arena.specs.Stacks.{values_of}
 use Rattle.standard_calls.specs.declared.names.Performed.{Performed}
 use Rattle.standard_calls.specs.declared.names.Performed.TheVariants as performed
-use Rattle.standard_calls.specs.Performed.{Agrees, Held, Output, PerformedAs, PerformedStops, held, output, standard_row, wrote}
+use Rattle.standard_calls.specs.Performed.{Agrees, Held, IfMoved, Parts, PerformedAs, PerformedFaults, PerformedStops, does, held, parts, standard_row, wrote}
 use Rattle.object_machine.specs.declared.machine.Storage.{Storage}
 use Rattle.object_machine.specs.declared.machine.Registers.{Registers}
 use Rattle.object_machine.specs.declared.machine.Activation as working
 use Rattle.object_machine.specs.declared.machine.Flow.{Flow}
 use Rattle.object_machine.specs.declared.machine.Flow.TheVariants as flow
-use Rattle.object_machine.specs.Named.{FlowEnds, Settles}
-use Rattle.object_machine.specs.Standing.{InWorld, Leaves, Stands, activation_at, below_of}
+use Rattle.object_machine.specs.declared.placing.Placing.{Placing}
+use Rattle.object_machine.specs.declared.placing.Placing.TheVariants as placing
+use Rattle.object_machine.specs.Named.{FlowEnds, InputEnds, Still}
+use Rattle.object_machine.specs.Operands.{AllRead, OneUnread, first_slot}
+use Rattle.object_machine.specs.Placing.{LeadsFrom, PutsBack}
+use Rattle.object_machine.specs.Settled.{Follows, MovesBack, Settles}
+use Rattle.object_machine.specs.Standing.{InWorld, Leaves, Outside, Stands, activation_at, below_of, outside, ports_in, ports_of}
 use Rattle.object_machine.proofs.Going.{along, depth_goes_on}
+use Rattle.object_machine.proofs.Scalars.{off}
+use Rattle.object_machine.proofs.ReadOperands.{moved_first, not_moved, origin, reads, same_values, too_few, unread, values_count}
 
 assoc : (xs ys zs : List ℕ) → (xs ++ ys) ++ zs ≡ xs ++ (ys ++ zs)
 assoc [] ys zs = refl
@@ -34,91 +48,226 @@ added_twice (Some a) None c xs ys h h2 = absurd h
 added_twice (Some a) (Some b) None xs ys h h2 = absurd h2
 added_twice (Some a) (Some b) (Some c) xs ys h h2 = h2 ∙ ap (λ l. l ++ ys) h ∙ assoc a xs ys
 
-module _ (l : Limits) (line : ℕ) (p : Storage) (below : List working.Activation) (before now now2 : Option (List ℕ)) (r r2 : Registers) (stack stack2 : List Slot) (o : World) (m : Frames) (name : Standard)
-    (texts2 : List TextFrame) (image2 : TextVal) (s : Stands l p r stack below before now o m) where
-  abbrev later : Storage
-  later = record p { texts = texts2; image = image2 }
+-- ---- operands that are read
 
-  abbrev go : World → List Value → Run Machine
-  go w st = on w m (activation_at r stack) st (below_of below)
+when_never : (b : Bool) (o : World) (r : Run Machine) → r ≡ no_rule o → when b o r ≡ no_rule o
+unfolding when
+when_never true o r e = e
+when_never false o r e = refl
 
-  abbrev old : Output
-  old = output p.texts p.image now
+module _ (l : Limits) (line : ℕ) (name : Standard) (o : World) (m : Frames) (r : Registers) (stack new : List Slot) (below : List working.Activation) where
+  abbrev count : ℕ
+  count = length (operands_of (row_of name).function)
 
-  abbrev new : Output
-  new = output texts2 image2 now2
+  abbrev pub act : Activation
+  act = activation_at r stack
+
+  abbrev last : World → Frames → Option Plain → List Value → Run Machine
+  last w n value st = on w n act (with_value value st) (below_of below)
+
+  -- the row of the table
+  abbrev pub table_row : Run Machine
+  table_row = when (room_for name act) o (performing operand put_back l line name act.stack o m last)
+
+  abbrev behind : List Plain → Option Value → List Value → Run Machine
+  behind vs first rest =
+      having (standard_effect name vs o.store) o (λ effect. taking l line effect.wanted o (λ p. computing line effect.answer (record p { store = effect.store }) (λ value.
+      putting_back put_back first effect.moved (record p { store = effect.store }) m (λ p m. last p m value rest))))
+
+  performing_is : performing operand put_back l line name act.stack o m last ≡ pop_operands (operand o m) count None (values_of r.depth stack) o behind
+  unfolding performing
+  performing_is = refl
+
+  pub few_operands : r.depth < count → r.depth ≤ length stack → table_row ≡ no_rule o
+  few_operands h h1 = when_never (room_for name act) o _ (performing_is ∙ too_few o m stack new count r.depth None h h1 behind)
+
+  pub unread_operand : count ≤ r.depth → r.depth ≤ length stack → OneUnread o m (r.depth - count) r.depth stack → table_row ≡ no_rule o
+  unread_operand h h1 u = when_never (room_for name act) o _ (performing_is ∙ unread o m stack new count r.depth None h h1 u.place u.begins u.ends u.nothing behind)
+
+  -- the run goes on behind what the name came to, with its text put back
+  abbrev pub goes : World → Option TextVal → List Value → Run Machine
+  goes w moved values = putting_back put_back (origin count r.depth None stack) moved w m (λ w n. on w n act values (below_of below))
+
+  does_is : pop_operands plain count None (values_of r.depth new) o (λ ps f rest. behind ps (origin count r.depth None stack) rest) ≡ does l line name (values_of r.depth new) o (λ p moved value rest. goes p moved (with_value value rest))
+  unfolding does
+  does_is = refl
+
+  pub read_row : count ≤ r.depth → r.depth ≤ length stack → length new ≡ length stack → AllRead o m (r.depth - count) r.depth stack new → table_row ≡ standard_row l line name (held r.depth new) o goes
+  read_row h h1 long all =
+      let h2 : r.depth ≤ length new = subst (λ n. r.depth ≤ n) (sym long) h1 in
+      let same = same_values (r.depth - count) stack new (omega (arith, h1)) (omega (arith, h2)) all.below in
+      let e = values_count r.depth stack h1 ∙ sym (values_count r.depth new h2) in
+      ap (λ q. when (room_for name act) o q) (performing_is ∙ reads o m stack new count r.depth None None h h1 h2 all.read same behind ∙ does_is)
+      ∙ ap (λ n. when (has_room n (length (values_of r.depth stack)) count (row_of name).result) o (does l line name (values_of r.depth new) o (λ p moved value rest. goes p moved (with_value value rest)))) (sym long)
+      ∙ ap (λ n. when (has_room (length new) n count (row_of name).result) o (does l line name (values_of r.depth new) o (λ p moved value rest. goes p moved (with_value value rest)))) e
+
+pub first_led : (p : Storage) (o : World) (m : Frames) (n depth : ℕ) (stack : List Slot) → AllLead p.frames.items m stack → AllLeadArrays p.arrays.regions o.arrays stack → LeadsFrom p o m (first_slot n depth stack)
+first_led p o m zero depth stack h h2 = (λ names. absurd (off names), λ names. absurd (off names))
+first_led p o m (suc n) depth stack h h2 = (h (depth - suc n), h2 (depth - suc n))
+
+-- ---- what a name came to
+
+module _ (l : Limits) (line : ℕ) (p p2 : Storage) (below : List working.Activation) (before : Option (List ℕ)) (now now2 : Outside) (r r2 : Registers) (stack new stack2 : List Slot) (o : World) (m : Frames) (name : Standard) (budget : ℕ)
+    (texts2 : List TextFrame) (input2 : HeldInput) (image2 : TextVal) (words2 : ℕ) (s : Stands l p r stack below before now o m) (limit : l.storage ≡ budget) (long : length stack2 ≡ length stack)
+    (slots : AllLead p.frames.items m stack2) (arrays : AllLeadArrays p.arrays.regions o.arrays stack2) where
+  abbrev pub later : Storage
+  later = record p { texts = texts2; image = record { input = input2; output = image2 }; words = words2 }
+
+  abbrev n : ℕ
+  n = length (operands_of (row_of name).function)
+
+  abbrev address : Slot
+  address = first_slot n r.depth stack
+
+  abbrev old : Parts
+  old = parts p.texts p.image.input now.source p.image.output now.sink p.words
+
+  abbrev new2 : Parts
+  new2 = parts texts2 input2 now2.source image2 now2.sink words2
+
+  abbrev go : World → Option TextVal → List Value → Run Machine
+  go = goes l line name o m r stack new below
 
   agrees : Agrees l o old
   agrees = record {
     frames = s.stores.world.texts;
-    image = s.stores.world.image;
-    words = subst (λ n. n ≤ l.storage) (sym s.stores.world.words) s.stores.budget;
+    sysin = ap (λ x. x.sysin) s.stores.world.image;
+    endfile = ap (λ x. x.endfile) s.stores.world.image;
+    left = ap (λ x. x.left) s.stores.world.image;
+    image = ap (λ x. x.sysout) s.stores.world.image;
+    words = s.stores.world.words;
+    budget = s.stores.budget;
   }
 
-  stands_later : (bytes : List ℕ) → Appends now now2 bytes → Stands l later r stack below before now2 (wrote o new bytes) m
-  stands_later bytes a = record {
+  world_later : (bytes : List ℕ) → Appends now.sink now2.sink bytes → InWorld later before now2 (wrote o new2 bytes)
+  world_later bytes a = record {
+    ticks = s.stores.world.ticks;
+    words = refl;
+    texts = refl;
+    image = refl;
+    written = added_twice before now.sink now2.sink o.store.written bytes s.stores.world.written a;
+  }
+
+  stands_later : (bytes : List ℕ) → Appends now.sink now2.sink bytes → (p.words ≤ budget → words2 ≤ budget) → Stands l later r stack2 below before now2 (wrote o new2 bytes) m
+  stands_later bytes a within = record {
     stores = record {
-      world = record {
-        ticks = s.stores.world.ticks;
-        words = s.stores.world.words;
-        texts = refl;
-        image = refl;
-        written = added_twice before now now2 o.store.written bytes s.stores.world.written a;
-      };
-      budget = s.stores.budget;
+      world = world_later bytes a;
+      budget = subst (λ b. words2 ≤ b) (sym limit) (within (subst (λ b. p.words ≤ b) limit s.stores.budget));
       frames = s.stores.frames;
       entered = s.stores.entered;
       arrays = s.stores.arrays;
       cells = s.stores.cells;
       elements = s.stores.elements;
     };
-    top = s.top;
+    top = record { home = s.top.home; slots = slots; arrays_lead = arrays };
     others = s.others;
   }
 
-  in_world : new ≡ old → InWorld later before now2 o
+  in_world : new2 ≡ old → InWorld later before now2 o
   in_world e = record {
     ticks = s.stores.world.ticks;
-    words = s.stores.world.words;
+    words = s.stores.world.words ∙ sym (ap (λ x. x.words) e);
     texts = s.stores.world.texts ∙ sym (ap (λ x. x.frames) e);
-    image = s.stores.world.image ∙ sym (ap (λ x. x.image) e);
+    image = s.stores.world.image ∙ sym (ap (λ x. ports_of (record { input = x.input; output = x.image }) x.source) e);
     written = subst (λ x. Appends before x o.store.written) (sym (ap (λ x. x.sink) e)) s.stores.world.written;
   }
 
-  pub name_row : (result : Performed) (f : Flow) (faults faults2 : ℕ) → PerformedAs result name (held r.depth stack) stack2 old new faults faults2 → Settles result f r r2 →
-      length stack2 ≡ length stack → AllLead p.frames.items m stack2 → AllLeadArrays p.arrays.regions o.arrays stack2 →
-      Leaves f l line later r2 stack2 below before now2 (standard_row l line name (held r.depth stack) o go)
-  unfolding Leaves no_rule stopping
-  name_row (performed.Depth depth) f faults faults2 did settled long slots arrays =
-      let d = did.0 in
-      subst (λ f. Leaves f l line later r2 stack2 below before now2 (standard_row l line name (held r.depth stack) o go)) (sym settled.0)
-      (along l line later below before now2 flow.On r2 stack2 _ _ (d.2 l line o go agrees)
-      (depth_goes_on l line later below before now2 r r2 stack stack2 (wrote o new d.0) m depth (stands_later d.0 d.1) long (ap (λ x. x.home) settled.1) (ap (λ x. x.pc) settled.1) (ap (λ x. x.depth) settled.1) slots arrays))
-  name_row performed.NoRule f faults faults2 did settled long slots arrays =
-      subst (λ f. Leaves f l line later r2 stack2 below before now2 (standard_row l line name (held r.depth stack) o go)) (sym settled.0)
-      (along l line later below before now2 flow.NoRule r2 stack2 _ _ (did.2 l line o go agrees) (refl, (in_world did.0).written))
-  name_row (performed.Fault e) f faults faults2 did settled long slots arrays =
-      subst (λ f. Leaves f l line later r2 stack2 below before now2 (standard_row l line name (held r.depth stack) o go)) (sym settled.0)
-      (along l line later below before now2 (flow.Fault e) r2 stack2 _ _ (did.2 l line o go agrees) (refl, (o, in_world did.0, refl)))
-  name_row performed.WriteFault f faults faults2 did settled long slots arrays =
-      let cut = did.0 in
-      let c = cut.2 l line o agrees in
-      subst (λ f. Leaves f l line later r2 stack2 below before now2 (standard_row l line name (held r.depth stack) o go)) (sym settled.0)
-      (along l line later below before now2 flow.WriteFault r2 stack2 _ _ (c.4 go)
-      (o.store.written ++ cut.0, c.2, added_twice before now now2 o.store.written cut.0 s.stores.world.written cut.1, c.3 ∙ sym (assoc o.store.written cut.0 c.2)))
+  -- the same with the other stack, which is as long
+  same_room : (w : World) (n2 : Frames) (values : List Value) → on w n2 (activation_at r stack) values (below_of below) ≡ on w n2 (activation_at r stack2) values (below_of below)
+  same_room w n2 values = ap (λ k. Going w (record { chain = record { thunk = false; home = r.home.stamp; pc = suc r.pc; stack = values; room = k } ∷ below_of below; memory = n2 })) (sym long)
 
-pub having_none : {A : Type 0} (w : Option A) (o : World) (f : A → Run Machine) → None ≡ w → having w o f ≡ no_rule o
-unfolding having
-having_none w o f e = ap (λ x. having x o f) (sym e)
+  module _ (q : Run Machine) (is : q ≡ standard_row l line name (held r.depth new) o go) where
+    follows : (f : Flow) (d : ℕ) (t : TextVal) (w : World) (place : Placing) → PutsBack place l p2 r stack2 below before now2 w m address t → Follows place f d r r2 → Stands l later r stack2 below before now2 w m →
+        q ≡ put_back (value_of address) t w m (λ w n2. on w n2 (activation_at r stack) (values_of d stack2) (below_of below)) → Leaves f l line p2 r2 stack2 below before now2 q
+    unfolding Leaves no_rule
+    follows f d t w placing.Done puts fl st e =
+        subst (λ f. Leaves f l line p2 r2 stack2 below before now2 q) (sym fl.0)
+        (along l line p2 below before now2 flow.On r2 stack2 _ _ (e ∙ puts.is _ ∙ same_room puts.world puts.memory (values_of d stack2))
+        (depth_goes_on l line p2 below before now2 r r2 stack2 stack2 puts.world puts.memory d puts.stands refl (ap (λ x. x.home) fl.1) (ap (λ x. x.pc) fl.1) (ap (λ x. x.depth) fl.1) puts.stands.top.slots puts.stands.top.arrays_lead))
+    follows f d t w placing.NoRule puts fl st e =
+        subst (λ f. Leaves f l line p2 r2 stack2 below before now2 q) (sym fl) (along l line p2 below before now2 flow.NoRule r2 stack2 _ _ (e ∙ puts _) (refl, st.stores.world.written))
+    follows f d t w placing.Memory puts fl st e = subst (λ f. Leaves f l line p2 r2 stack2 below before now2 q) (sym fl) tt
 
-pub having_some : {A : Type 0} (w : Option A) (a : A) (o : World) (f : A → Run Machine) → Some a ≡ w → having w o f ≡ f a
-unfolding having
-having_some w a o f e = ap (λ x. having x o f) (sym e)
+    pub name_row : (result : Performed) (f : Flow) → PerformedAs result budget name (held r.depth new) stack2 old new2 → Settles result f address later p2 r r2 → LeadsFrom p o m address → Leaves f l line p2 r2 stack2 below before now2 q
+    unfolding Leaves no_rule stopping
+    name_row (performed.Depth d) f did settled led =
+        subst (λ f. Leaves f l line p2 r2 stack2 below before now2 q) (sym settled.0)
+        (subst (λ x. Leaves flow.On l line x r2 stack2 below before now2 q) (sym settled.1)
+        (along l line later below before now2 flow.On r2 stack2 _ _ (is ∙ did.3 l line o go limit agrees ∙ not_moved (wrote o new2 did.0) m _ _ ∙ same_room (wrote o new2 did.0) m (values_of d stack2))
+        (depth_goes_on l line later below before now2 r r2 stack2 stack2 (wrote o new2 did.0) m d (stands_later did.0 did.1 did.2) refl (ap (λ x. x.home) settled.2) (ap (λ x. x.pc) settled.2) (ap (λ x. x.depth) settled.2) slots arrays)))
+    name_row (performed.Moved d t) f did settled led =
+        let st = stands_later did.0 did.1 did.2 in
+        follows f d t (wrote o new2 did.0) settled.placing (settled.puts l r stack2 below before now2 (wrote o new2 did.0) m st led) settled.follows st
+        (is ∙ did.3 l line o go limit agrees ∙ moved_first (wrote o new2 did.0) m _ n r.depth stack t)
+    name_row performed.NoRule f did settled led =
+        subst (λ f. Leaves f l line p2 r2 stack2 below before now2 q) (sym settled.0)
+        (along l line p2 below before now2 flow.NoRule r2 stack2 _ _ (is ∙ did.1 l line o go limit agrees) (refl, (in_world did.0).written))
+    name_row (performed.Fault e) f did settled led =
+        subst (λ f. Leaves f l line p2 r2 stack2 below before now2 q) (sym settled.0)
+        (subst (λ x. Leaves (flow.Fault e) l line x r2 stack2 below before now2 q) (sym settled.1)
+        (along l line later below before now2 (flow.Fault e) r2 stack2 _ _ (is ∙ did.2 l line o go limit agrees) (refl, (wrote o new2 [], world_later [] did.0, refl))))
+    name_row (performed.Full w) f did settled led =
+        subst (λ f. Leaves f l line p2 r2 stack2 below before now2 q) (sym settled.0)
+        (subst (λ x. Leaves flow.Exhausted l line x r2 stack2 below before now2 q) (sym settled.1)
+        (along l line (record later { wanted = w }) below before now2 flow.Exhausted r2 stack2 _ _ (is ∙ did.1 l line o go limit agrees)
+        (ap (λ k. StorageExhausted line k w) (sym (ap (λ x. x.words) did.0)), (o, full did.0 w, refl))))
+      where
+        full : new2 ≡ old → (w : ℕ) → InWorld (record later { wanted = w }) before now2 o
+        full e w = let i = in_world e in record { ticks = i.ticks; words = i.words; texts = i.texts; image = i.image; written = i.written }
+    name_row performed.Memory f did settled led = subst (λ f. Leaves f l line p2 r2 stack2 below before now2 q) (sym settled) tt
+    name_row performed.WriteFault f did settled led =
+        let c = did.2 l line o limit agrees in
+        subst (λ f. Leaves f l line p2 r2 stack2 below before now2 q) (sym settled)
+        (along l line p2 below before now2 flow.WriteFault r2 stack2 _ _ (is ∙ c.4 go ∙ not_moved c.0 m _ _)
+        (o.store.written ++ did.0, c.2, added_twice before now.sink now2.sink o.store.written did.0 s.stores.world.written did.1, c.3 ∙ sym (assoc o.store.written did.0 c.2)))
+    name_row performed.InputFault f did settled led = subst (λ f. Leaves f l line p2 r2 stack2 below before now2 q) (sym settled) tt
 
--- the output ends as the call did
-pub flow_ends : {S : Type 0} (written : S → Option (List ℕ)) (faults : S → ℕ) (old new : S) (q : Performed) (f : Flow) (r r2 : Registers) (name : Standard) (h : Held) (slots : List Slot) (o1 o2 : Output) → Settles q f r r2 →
-    PerformedStops written faults old new q → PerformedAs q name h slots o1 o2 (faults old) (faults new) → FlowEnds written faults old new f
-flow_ends written faults old new (performed.Depth d) f r r2 name h slots o1 o2 s st p = subst (λ f. FlowEnds written faults old new f) (sym s.0) p.1
-flow_ends written faults old new performed.NoRule f r r2 name h slots o1 o2 s st p = subst (λ f. FlowEnds written faults old new f) (sym s.0) p.1
-flow_ends written faults old new (performed.Fault e) f r r2 name h slots o1 o2 s st p = subst (λ f. FlowEnds written faults old new f) (sym s.0) p.1
-flow_ends written faults old new performed.WriteFault f r r2 name h slots o1 o2 s st p = subst (λ f. FlowEnds written faults old new f) (sym s.0) st
+-- ---- how the ends stand
+
+follows_steady : {S : Type 0} (written : S → Option (List ℕ)) (faults : S → ℕ) (old new : S) (place : Placing) (f : Flow) (d : ℕ) (r r2 : Registers) → Follows place f d r r2 → faults new ≡ faults old → FlowEnds written faults old new f
+follows_steady written faults old new placing.Done f d r r2 fl e = subst (λ f. FlowEnds written faults old new f) (sym fl.0) e
+follows_steady written faults old new placing.NoRule f d r r2 fl e = subst (λ f. FlowEnds written faults old new f) (sym fl) e
+follows_steady written faults old new placing.Memory f d r r2 fl e = subst (λ f. FlowEnds written faults old new f) (sym fl) e
+
+follows_unread : (before now : ℕ) (place : Placing) (f : Flow) (d : ℕ) (r r2 : Registers) → Follows place f d r r2 → now ≡ before → InputEnds before now f
+follows_unread before now placing.Done f d r r2 fl e = subst (λ f. InputEnds before now f) (sym fl.0) e
+follows_unread before now placing.NoRule f d r r2 fl e = subst (λ f. InputEnds before now f) (sym fl) e
+follows_unread before now placing.Memory f d r r2 fl e = subst (λ f. InputEnds before now f) (sym fl) e
+
+module _ (address : Slot) (p p2 : Storage) (r r2 : Registers) where
+  pub flow_ends : {S : Type 0} (written : S → Option (List ℕ)) (faults : S → ℕ) (old new : S) (source source2 : ℕ) (q : Performed) (f : Flow) → Settles q f address p p2 r r2 →
+      PerformedStops written faults old new q → PerformedFaults q (faults old) (faults new) source source2 → FlowEnds written faults old new f
+  flow_ends written faults old new source source2 (performed.Depth d) f s st pf = subst (λ f. FlowEnds written faults old new f) (sym s.0) pf.0
+  flow_ends written faults old new source source2 (performed.Moved d t) f s st pf = follows_steady written faults old new s.placing f d r r2 s.follows pf.0
+  flow_ends written faults old new source source2 performed.NoRule f s st pf = subst (λ f. FlowEnds written faults old new f) (sym s.0) pf.0
+  flow_ends written faults old new source source2 (performed.Fault e) f s st pf = subst (λ f. FlowEnds written faults old new f) (sym s.0) pf.0
+  flow_ends written faults old new source source2 (performed.Full w) f s st pf = subst (λ f. FlowEnds written faults old new f) (sym s.0) pf.0
+  flow_ends written faults old new source source2 performed.Memory f s st pf = subst (λ f. FlowEnds written faults old new f) (sym s) pf.0
+  flow_ends written faults old new source source2 performed.WriteFault f s st pf = subst (λ f. FlowEnds written faults old new f) (sym s) st
+  flow_ends written faults old new source source2 performed.InputFault f s st pf = subst (λ f. FlowEnds written faults old new f) (sym s) pf.0
+
+  pub input_ends : (sink sink2 before now : ℕ) (q : Performed) (f : Flow) → Settles q f address p p2 r r2 → PerformedFaults q sink sink2 before now → InputEnds before now f
+  input_ends sink sink2 before now (performed.Depth d) f s pf = subst (λ f. InputEnds before now f) (sym s.0) pf.1
+  input_ends sink sink2 before now (performed.Moved d t) f s pf = follows_unread before now s.placing f d r r2 s.follows pf.1
+  input_ends sink sink2 before now performed.NoRule f s pf = subst (λ f. InputEnds before now f) (sym s.0) pf.1
+  input_ends sink sink2 before now (performed.Fault e) f s pf = subst (λ f. InputEnds before now f) (sym s.0) pf.1
+  input_ends sink sink2 before now (performed.Full w) f s pf = subst (λ f. InputEnds before now f) (sym s.0) pf.1
+  input_ends sink sink2 before now performed.Memory f s pf = subst (λ f. InputEnds before now f) (sym s) pf.1
+  input_ends sink sink2 before now performed.WriteFault f s pf = subst (λ f. InputEnds before now f) (sym s) pf.2
+  input_ends sink sink2 before now performed.InputFault f s pf = subst (λ f. InputEnds before now f) (sym s) (pf.1, pf.2)
+
+  follows_still : (place : Placing) (f : Flow) (d : ℕ) (old new : Option (List ℕ)) → Follows place f d r r2 → Appends old new [] → Still f old new
+  follows_still placing.Done f d old new fl a = subst (λ f. Still f old new) (sym fl.0) tt
+  follows_still placing.NoRule f d old new fl a = subst (λ f. Still f old new) (sym fl) tt
+  follows_still placing.Memory f d old new fl a = subst (λ f. Still f old new) (sym fl) a
+
+  pub name_still : (budget : ℕ) (name : Standard) (stack : Held) (slots : List Slot) (old new : Parts) (q : Performed) (f : Flow) → Settles q f address p p2 r r2 → PerformedAs q budget name stack slots old new →
+      IfMoved q (Appends old.sink new.sink []) → Still f old.sink new.sink
+  name_still budget name stack slots old new (performed.Depth d) f s did moved = subst (λ f. Still f old.sink new.sink) (sym s.0) tt
+  name_still budget name stack slots old new (performed.Moved d t) f s did moved = follows_still s.placing f d old.sink new.sink s.follows moved
+  name_still budget name stack slots old new performed.NoRule f s did moved = subst (λ f. Still f old.sink new.sink) (sym s.0) tt
+  name_still budget name stack slots old new (performed.Fault e) f s did moved = subst (λ f. Still f old.sink new.sink) (sym s.0) tt
+  name_still budget name stack slots old new (performed.Full w) f s did moved = subst (λ f. Still f old.sink new.sink) (sym s.0) tt
+  name_still budget name stack slots old new performed.Memory f s did moved = subst (λ f. Still f old.sink new.sink) (sym s) did
+  name_still budget name stack slots old new performed.WriteFault f s did moved = subst (λ f. Still f old.sink new.sink) (sym s) tt
+  name_still budget name stack slots old new performed.InputFault f s did moved = subst (λ f. Still f old.sink new.sink) (sym s) did

@@ -14,7 +14,7 @@ use Rattle.frame_arena.specs.Slots.{empty_slot}
 use Rattle.frame_arena.specs.Stacks.{slot_at, values_of}
 use Rattle.object_machine.specs.declared.machine.Storage.{Storage}
 use Rattle.object_machine.specs.declared.machine.Activation as working
-use Rattle.object_machine.specs.Standing.{Stores, Works, activation_at, activation_of}
+use Rattle.object_machine.specs.Standing.{Outside, Stores, Works, activation_at, activation_of, ports_of}
 use Rattle.object_machine.specs.Entering.{Opens, opened}
 use Rattle.object_machine.proofs.Going.{act}
 use Rattle.object_machine.proofs.Places.{lead_later}
@@ -47,7 +47,7 @@ first_activation number count region entry room stack e s =
     ∙ ap (λ v. act count entry v (length stack)) (values_none stack)
     ∙ ap (λ n. act count entry [] n) (ap length s ∙ long_replicate room)
 
-module _ (l : Limits) (p p2 : Storage) (k : ℕ) (b : BlockOf) (parent : Option FrameRef) (t : working.Activation) (before now : Option (List ℕ)) (o : World) (m : Frames) (s : Stores l p before now o m) where
+module _ (l : Limits) (p p2 : Storage) (k : ℕ) (b : BlockOf) (parent : Option FrameRef) (t : working.Activation) (before : Option (List ℕ)) (now : Outside) (o : World) (m : Frames) (s : Stores l p before now o m) where
   pub opens : p2.arrays ≡ p.arrays → p2.texts ≡ p.texts → p2.image ≡ p.image → p2.ticks ≡ p.ticks → p2.words ≡ p.words → p2.entered ≡ p.entered + 1 →
       Holds p2.frames.items p2.cells.items (opened m k b parent) → ((r : FrameRef) → Leads p.frames.items m r → Leads p2.frames.items (opened m k b parent) r) →
       AllLeadArrays p.arrays.regions o.arrays p2.cells.items →
@@ -57,7 +57,7 @@ module _ (l : Limits) (p p2 : Storage) (k : ℕ) (b : BlockOf) (parent : Option 
       let count = length-append m.instances (record { text = k; level = b.level; encloser = number_in parent; cells = first_cells b; passing = b.class_free; kept = false; given_back = false } ∷ []) in
       record {
         stores = record {
-          world = record { ticks = s.world.ticks ∙ sym ek; words = s.world.words ∙ sym ew; texts = s.world.texts ∙ sym et; image = s.world.image ∙ sym ei; written = s.world.written };
+          world = record { ticks = s.world.ticks ∙ sym ek; words = s.world.words ∙ sym ew; texts = s.world.texts ∙ sym et; image = s.world.image ∙ ap (λ i. ports_of i now.source) (sym ei); written = s.world.written };
           budget = subst (λ n. n ≤ l.storage) (sym ew) s.budget;
           frames = h;
           entered = en ∙ ap (λ n. n + 1) s.entered ∙ sym count;
@@ -86,6 +86,6 @@ module _ (l : Limits) (p p2 : Storage) (k : ℕ) (b : BlockOf) (parent : Option 
       (subst (λ f. Leads f (opened m k b parent) t.registers.home) (sym ef) home)
       (subst (λ f. AllLead f (opened m k b parent) t.stack.items) (sym ef) slots) arrays top
 
-pub for_block : (l : Limits) (p p2 : Storage) (k : ℕ) (b b2 : BlockOf) (parent : Option FrameRef) (t : working.Activation) (before now : Option (List ℕ)) (o : World) (m : Frames) → b ≡ b2 →
+pub for_block : (l : Limits) (p p2 : Storage) (k : ℕ) (b b2 : BlockOf) (parent : Option FrameRef) (t : working.Activation) (before : Option (List ℕ)) (now : Outside) (o : World) (m : Frames) → b ≡ b2 →
     Opens l p p2 k b parent t before now o m → Opens l p p2 k b2 parent t before now o m
 for_block l p p2 k b b2 parent t before now o m e h = subst (λ b. Opens l p p2 k b parent t before now o m) e h

@@ -7,11 +7,11 @@ use Rattle.sim_code.specs.Machine.{Frames, Machine}
 use Rattle.sim_code.specs.Outcome.{World, Run, StorageExhausted, TickLimit}
 use Rattle.object_machine.specs.declared.machine.Storage.{Storage}
 use Rattle.object_machine.specs.declared.machine.Flow.TheVariants as flow
-use Rattle.object_machine.specs.Standing.{InWorld, Leaves, Stores}
+use Rattle.object_machine.specs.Standing.{InWorld, Leaves, Outside, Stores}
 use Rattle.object_machine.specs.Entering.{Pays}
 use Rattle.object_machine.proofs.Going.{lt_false, lt_true}
 
-module _ (l : Limits) (line wanted : ℕ) (p : Storage) (before now : Option (List ℕ)) (o : World) (m : Frames) (s : Stores l p before now o m) where
+module _ (l : Limits) (line wanted : ℕ) (p : Storage) (before : Option (List ℕ)) (now : Outside) (o : World) (m : Frames) (s : Stores l p before now o m) where
   abbrev ticked : World
   ticked = record o { ticks = o.ticks + 1 }
 

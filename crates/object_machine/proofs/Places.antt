@@ -17,7 +17,8 @@ use Rattle.object_machine.specs.declared.machine.Storage.{Storage}
 use Rattle.object_machine.specs.declared.machine.Registers.{Registers}
 use Rattle.object_machine.specs.declared.machine.Activation as working
 use Rattle.object_machine.specs.declared.machine.Flow.TheVariants as flow
-use Rattle.object_machine.specs.Standing.{Leaves, SameBut, Stands, Works, activation_at, below_of}
+use Rattle.object_machine.specs.Placing.{IsPlaced, placed_in}
+use Rattle.object_machine.specs.Standing.{Leaves, Outside, SameBut, Stands, Works, activation_at, below_of, ports_of}
 use Rattle.object_machine.proofs.Going.{moved_behind}
 use Rattle.object_machine.proofs.Scalars.{off}
 
@@ -87,7 +88,7 @@ works_written fs m m2 regions arrays later q q2 slots e x = record {
   arrays_lead = x.arrays_lead;
 }
 
-module _ (l : Limits) (line : ℕ) (p p2 : Storage) (same : SameBut p p2) (below : List working.Activation) (before now : Option (List ℕ)) (r r2 : Registers) (stack : List Slot) (o : World) (m : Frames) where
+module _ (l : Limits) (line : ℕ) (p p2 : Storage) (same : SameBut p p2) (below : List working.Activation) (before : Option (List ℕ)) (now : Outside) (r r2 : Registers) (stack : List Slot) (o : World) (m : Frames) where
   stands_written : (m2 : Frames) → Stands l p r stack below before now o m → r2.home ≡ r.home →
       Holds p.frames.items p2.cells.items m2 → AllLeadArrays p.arrays.regions o.arrays p2.cells.items → length m2.instances ≡ length m.instances → ((f : FrameRef) → Leads p.frames.items m f → Leads p.frames.items m2 f) →
       Stands l p2 r2 stack below before now o m2
@@ -97,7 +98,7 @@ module _ (l : Limits) (line : ℕ) (p p2 : Storage) (same : SameBut p p2) (below
         ticks = s.stores.world.ticks ∙ sym same.ticks;
         words = s.stores.world.words ∙ sym same.words;
         texts = s.stores.world.texts ∙ sym same.texts;
-        image = s.stores.world.image ∙ sym same.image;
+        image = s.stores.world.image ∙ ap (λ i. ports_of i now.source) (sym same.image);
         written = s.stores.world.written;
       };
       budget = subst (λ n. n ≤ l.storage) (sym same.words) s.stores.budget;
@@ -120,6 +121,24 @@ module _ (l : Limits) (line : ℕ) (p p2 : Storage) (same : SameBut p p2) (below
   write_on j c depth v (Some m2) e h leads arrays s e1 e2 e3 =
       let t = stands_written m2 s e1 h.1 arrays (set_count m j c v m2 e) leads in
       (moved_behind r r2 stack depth below e1 e2 e3, t)
+
+  -- a value is in the cell where an address leads
+  pub cell_placed : (address value : Slot) (j c : ℕ) (v : Value) (q : Option Frames) → cell_set m j c v ≡ q → HoldsAfter true p.frames.items p2.cells.items q → ((f : FrameRef) → Leads p.frames.items m f → LeadsAfter p.frames.items q f) →
+      AllLeadArrays p.arrays.regions o.arrays p2.cells.items → Stands l p r stack below before now o m → ((go : World → Frames → Run Machine) → placed_in o m address value go ≡ having (cell_set m j c v) o (λ n. go o n)) → r2.home ≡ r.home →
+      IsPlaced l p2 r2 stack below before now o m address value
+  unfolding having
+  cell_placed address value j c v None e h leads arrays s is e1 = absurd (off (sym h))
+  cell_placed address value j c v (Some m2) e h leads arrays s is e1 = record {
+    world = o;
+    memory = m2;
+    is = λ go. is go ∙ ap (λ w. having w o (λ n. go o n)) e;
+    stands = stands_written m2 s e1 h.1 arrays (set_count m j c v m2 e) leads;
+  }
+
+  pub cell_not_placed : (cells : List Slot) (q : Option Frames) → HoldsAfter false p.frames.items cells q → (go : Frames → Run Machine) → having q o go ≡ no_rule o
+  unfolding having
+  cell_not_placed cells None h go = refl
+  cell_not_placed cells (Some m2) h go = absurd (off h.0)
 
   pub write_off : (cells : List Slot) (q : Option Frames) (go : Frames → Run Machine) → HoldsAfter false p.frames.items cells q → Stands l p r stack below before now o m → Leaves flow.NoRule l line p2 r2 stack below before now (having q o go)
   unfolding having no_rule Leaves

@@ -4,7 +4,7 @@ use Rattle.std.specs.Prelude.{true, false, Option, Some, None, slice_set}
 use Rattle.sim_base.specs.declared.limits.Limits.{Limits}
 use Rattle.sim_values.specs.Plain.{Plain}
 use Rattle.sim_code.specs.Arrays.{element, element_set, element_set_in, live_array, with_array}
-use Rattle.sim_code.specs.Events.{having, no_rule, popping}
+use Rattle.sim_code.specs.Events.{having, image_set, no_rule, popping}
 use Rattle.sim_code.specs.Instances.{CellPlace, ElementPlace, Place}
 use Rattle.sim_code.specs.Machine.{Address, ArrayValue, Frames, Link, Machine, Of, ProcedureValue, ThunkValue, Value, cell_set, place_in, plain}
 use Rattle.sim_code.specs.Outcome.{ArrayOf, Run, World}
@@ -18,7 +18,7 @@ use Rattle.frame_arena.specs.Stacks.{slot_at, values_of}
 use Rattle.object_machine.specs.declared.machine.Storage.{Storage}
 use Rattle.object_machine.specs.declared.machine.Registers.{Registers}
 use Rattle.object_machine.specs.declared.machine.Activation as working
-use Rattle.object_machine.specs.Standing.{Stands}
+use Rattle.object_machine.specs.Standing.{Outside, Stands}
 use Rattle.object_machine.proofs.ArrayRows.{none_at, off, stands_arrays, top_at}
 
 module _ (o : World) (m : Frames) (K : List Value → World → Frames → Run Machine) where
@@ -55,22 +55,22 @@ module _ (o : World) (m : Frames) (K : List Value → World → Frames → Run M
   put_few (suc zero) stack h = held_put stack
   put_few (suc (suc n)) stack h = absurd (omega (arith, h))
 
-  pub put_other : (j : SlotKind) (s : Slot) (v : Value) (rest : List Value) → (j ≡ k.Cell → ⊥) → (j ≡ k.Element → ⊥) → placed v rest (value_by j s) ≡ no_rule o
+  pub put_other : (j : SlotKind) (s : Slot) (v : Value) (rest : List Value) → (j ≡ k.Cell → ⊥) → (j ≡ k.Element → ⊥) → (j ≡ k.Image → ⊥) → placed v rest (value_by j s) ≡ no_rule o
   unfolding having putting
-  put_other k.Empty s v rest h h2 = refl
-  put_other k.Integer s v rest h h2 = refl
-  put_other k.Truth s v rest h h2 = refl
-  put_other k.Character s v rest h h2 = refl
-  put_other k.Text s v rest h h2 = refl
-  put_other k.Nothing s v rest h h2 = refl
-  put_other k.Object s v rest h h2 = refl
-  put_other k.Link s v rest h h2 = refl
-  put_other k.Cell s v rest h h2 = absurd (h refl)
-  put_other k.Element s v rest h h2 = absurd (h2 refl)
-  put_other k.Image s v rest h h2 = refl
-  put_other k.Array s v rest h h2 = refl
-  put_other k.Procedure s v rest h h2 = refl
-  put_other k.Thunk s v rest h h2 = refl
+  put_other k.Empty s v rest h h2 h3 = refl
+  put_other k.Integer s v rest h h2 h3 = refl
+  put_other k.Truth s v rest h h2 h3 = refl
+  put_other k.Character s v rest h h2 h3 = refl
+  put_other k.Text s v rest h h2 h3 = refl
+  put_other k.Nothing s v rest h h2 h3 = refl
+  put_other k.Object s v rest h h2 h3 = refl
+  put_other k.Link s v rest h h2 h3 = refl
+  put_other k.Cell s v rest h h2 h3 = absurd (h refl)
+  put_other k.Element s v rest h h2 h3 = absurd (h2 refl)
+  put_other k.Image s v rest h h2 h3 = absurd (h3 refl)
+  put_other k.Array s v rest h h2 h3 = refl
+  put_other k.Procedure s v rest h h2 h3 = refl
+  put_other k.Thunk s v rest h h2 h3 = refl
 
   class_cell : (j c n : ℕ) (v : Value) (rest : List Value) → (n ≡ 0 → ⊥) → putting (CellPlace j c n) v o m (K rest) ≡ no_rule o
   unfolding putting
@@ -86,22 +86,17 @@ module _ (o : World) (m : Frames) (K : List Value → World → Frames → Run M
   unfolding having
   having_place place f = refl
 
-  pub put_class : (j : SlotKind) (s : Slot) (v : Value) (rest : List Value) → (s.class ≡ 0 → ⊥) → placed v rest (value_by j s) ≡ no_rule o
+  pub cell_class : (s : Slot) (v : Value) (rest : List Value) → s.kind ≡ k.Cell → (s.class ≡ 0 → ⊥) → placed v rest (value_of s) ≡ no_rule o
+  unfolding having
+  cell_class s v rest e h = ap (λ j. placed v rest (value_by j s)) e ∙ class_cell (count_of s.«data») s.more s.class v rest h
+
+  pub element_class : (s : Slot) (v : Value) (rest : List Value) → s.kind ≡ k.Element → (s.class ≡ 0 → ⊥) → placed v rest (value_of s) ≡ no_rule o
+  unfolding having
+  element_class s v rest e h = ap (λ j. placed v rest (value_by j s)) e ∙ class_element (count_of s.«data») s.more s.class v rest h
+
+  pub put_image_is : (s : Slot) (v : Value) (rest : List Value) → s.kind ≡ k.Image → placed v rest (value_of s) ≡ having (plain v) o (λ p. having (image_set o s.more p) o (λ o. K rest o m))
   unfolding having putting
-  put_class k.Empty s v rest h = refl
-  put_class k.Integer s v rest h = refl
-  put_class k.Truth s v rest h = refl
-  put_class k.Character s v rest h = refl
-  put_class k.Text s v rest h = refl
-  put_class k.Nothing s v rest h = refl
-  put_class k.Object s v rest h = refl
-  put_class k.Link s v rest h = refl
-  put_class k.Cell s v rest h = class_cell (count_of s.«data») s.more s.class v rest h
-  put_class k.Element s v rest h = class_element (count_of s.«data») s.more s.class v rest h
-  put_class k.Image s v rest h = refl
-  put_class k.Array s v rest h = refl
-  put_class k.Procedure s v rest h = refl
-  put_class k.Thunk s v rest h = refl
+  put_image_is s v rest e = ap (λ j. placed v rest (value_by j s)) e
 
   pub put_cell_is : (s : Slot) (v : Value) (rest : List Value) → s.kind ≡ k.Cell → s.class ≡ 0 → placed v rest (value_of s) ≡ having (cell_set m (count_of s.«data») s.more v) o (λ m. K rest o m)
   unfolding having putting
@@ -134,12 +129,12 @@ some_plain (ProcedureValue k j) h = absurd (off (sym h))
 some_plain (ThunkValue k j) h = absurd (off (sym h))
 
 -- an element is set: the world in which it is, and what stands for it; or there is none
-pub record Setting (l : Limits) (p2 : Storage) (r : Registers) (stack : List Slot) (below : List working.Activation) (before now : Option (List ℕ)) (o : World) (m : Frames) (n i : ℕ) (v : Plain) : Type 0 where
+pub record Setting (l : Limits) (p2 : Storage) (r : Registers) (stack : List Slot) (below : List working.Activation) (before : Option (List ℕ)) (now : Outside) (o : World) (m : Frames) (n i : ℕ) (v : Plain) : Type 0 where
   pub world : World
   pub there : element_set o n i v ≡ Some world
   pub stands : Stands l p2 r stack below before now world m
 
-module _ (l : Limits) (p : Storage) (r : Registers) (stack : List Slot) (below : List working.Activation) (before now : Option (List ℕ)) (o : World) (m : Frames) (arrays : ArraysOf) (n i : ℕ) (v : Plain) (s : Stands l p r stack below before now o m)
+module _ (l : Limits) (p : Storage) (r : Registers) (stack : List Slot) (below : List working.Activation) (before : Option (List ℕ)) (now : Outside) (o : World) (m : Frames) (arrays : ArraysOf) (n i : ℕ) (v : Plain) (s : Stands l p r stack below before now o m)
     (elements : ElementsLead p.frames.items m arrays.regions) where
   setting_in : (w : Option ArrayOf) (w2 : Option Plain) → live_array o n ≡ w → element o n i ≡ w2 → ArraysAfter true arrays (element_set_in o n i v w w2) → KeepLeadingAfter p.arrays o.arrays arrays (element_set_in o n i v w w2) →
       Setting l (record p { arrays = arrays }) r stack below before now o m n i v

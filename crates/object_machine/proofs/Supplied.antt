@@ -16,14 +16,14 @@ use Rattle.object_machine.specs.declared.machine.Registers.{Registers}
 use Rattle.object_machine.specs.declared.machine.Activation as working
 use Rattle.object_machine.specs.Calling.{Filled, OpensWith, Supplied, cells_set_from, opened_with}
 use Rattle.object_machine.specs.Entering.{Opens, opened}
-use Rattle.object_machine.specs.Standing.{AtWork, InWorld, SameBut, Works}
+use Rattle.object_machine.specs.Standing.{AtWork, InWorld, Outside, SameBut, Works, ports_of}
 use Rattle.object_machine.proofs.Called.{cellular, filled_last}
 use Rattle.object_machine.proofs.Places.{lead_later}
 
 works_on : (fs : List Frame) (m m2 : Frames) (regions : List RegionOf) (arrays : List ArrayOf) → ((f : FrameRef) → Leads fs m f → Leads fs m2 f) → (r : Registers) (slots : List Slot) → Works fs m regions arrays r slots → Works fs m2 regions arrays r slots
 works_on fs m m2 regions arrays later r slots w = record { home = later r.home w.home; slots = lead_later fs fs m m2 later slots w.slots; arrays_lead = w.arrays_lead }
 
-module _ (l : Limits) (p p1 p2 : Storage) (same : SameBut p1 p2) (k : ℕ) (b : BlockOf) (parent : Option FrameRef) (t : working.Activation) (before now : Option (List ℕ)) (o : World) (m : Frames) (h : Opens l p p1 k b parent t before now o m) where
+module _ (l : Limits) (p p1 p2 : Storage) (same : SameBut p1 p2) (k : ℕ) (b : BlockOf) (parent : Option FrameRef) (t : working.Activation) (before : Option (List ℕ)) (now : Outside) (o : World) (m : Frames) (h : Opens l p p1 k b parent t before now o m) where
   with_cells : (cells : Cells) → Holds p1.frames.items p2.cells.items (opened_with m k b parent cells) → ((r : FrameRef) → Leads p1.frames.items (opened m k b parent) r → Leads p1.frames.items (opened_with m k b parent cells) r) → AllLeadArrays p1.arrays.regions o.arrays p2.cells.items →
       OpensWith l p p2 k b parent cells t before now o o m
   with_cells cells holds leads arrays =
@@ -33,7 +33,7 @@ module _ (l : Limits) (p p1 p2 : Storage) (same : SameBut p1 p2) (k : ℕ) (b : 
       subst (λ v. Works v.items m2 p2.arrays.regions o.arrays r stack) (sym same.frames) (subst (λ a. Works p1.frames.items m2 a.regions o.arrays r stack) (sym same.arrays) (works_on p1.frames.items (opened m k b parent) m2 p1.arrays.regions o.arrays leads r stack w)) in
       record {
         stores = record {
-          world = record { ticks = s.world.ticks ∙ sym same.ticks; words = s.world.words ∙ sym same.words; texts = s.world.texts ∙ sym same.texts; image = s.world.image ∙ sym same.image; written = s.world.written };
+          world = record { ticks = s.world.ticks ∙ sym same.ticks; words = s.world.words ∙ sym same.words; texts = s.world.texts ∙ sym same.texts; image = s.world.image ∙ ap (λ i. ports_of i now.source) (sym same.image); written = s.world.written };
           budget = subst (λ n. n ≤ l.storage) (sym same.words) s.budget;
           frames = subst (λ v. Holds v.items p2.cells.items m2) (sym same.frames) holds;
           entered = same.entered ∙ s.entered ∙ length-append m.instances (_ ∷ []) ∙ sym (length-append m.instances (_ ∷ []));
@@ -60,16 +60,16 @@ module _ (l : Limits) (p p1 p2 : Storage) (same : SameBut p1 p2) (k : ℕ) (b : 
 
 -- ---- arrays that go over
 
-owned_in : (p : Storage) (before now : Option (List ℕ)) (owner n : ℕ) (q : Option ArrayOf) (o : World) → InWorld p before now o → InWorld p before now (owned_by owner q o n)
+owned_in : (p : Storage) (before : Option (List ℕ)) (now : Outside) (owner n : ℕ) (q : Option ArrayOf) (o : World) → InWorld p before now o → InWorld p before now (owned_by owner q o n)
 owned_in p before now owner n None o i = i
 owned_in p before now owner n (Some a) o i = record { ticks = i.ticks; words = i.words; texts = i.texts; image = i.image; written = i.written }
 
-handed_in : (p : Storage) (before now : Option (List ℕ)) (owner : ℕ) (ns : List ℕ) (o : World) → InWorld p before now o → InWorld p before now (handed_over owner ns o)
+handed_in : (p : Storage) (before : Option (List ℕ)) (now : Outside) (owner : ℕ) (ns : List ℕ) (o : World) → InWorld p before now o → InWorld p before now (handed_over owner ns o)
 unfolding handed_over
 handed_in p before now owner [] o i = i
 handed_in p before now owner (n ∷ rest) o i = handed_in p before now owner rest (owned_by owner (slice_get o.arrays n) o n) (owned_in p before now owner n (slice_get o.arrays n) o i)
 
-module _ (l : Limits) (p p2 p3 : Storage) (k : ℕ) (b : BlockOf) (parent : Option FrameRef) (cells : Cells) (t : working.Activation) (before now : Option (List ℕ)) (o : World) (m : Frames) (h : OpensWith l p p2 k b parent cells t before now o o m) where
+module _ (l : Limits) (p p2 p3 : Storage) (k : ℕ) (b : BlockOf) (parent : Option FrameRef) (cells : Cells) (t : working.Activation) (before : Option (List ℕ)) (now : Outside) (o : World) (m : Frames) (h : OpensWith l p p2 k b parent cells t before now o o m) where
   pub handed : (owner : ℕ) (ns : List ℕ) → p3.frames ≡ p2.frames → p3.cells ≡ p2.cells → p3.entered ≡ p2.entered → p3.texts ≡ p2.texts → p3.image ≡ p2.image → p3.ticks ≡ p2.ticks → p3.words ≡ p2.words →
       HoldsArrays p3.arrays (handed_over owner ns o).arrays → KeepLeading p2.arrays o.arrays p3.arrays (handed_over owner ns o).arrays → ElementsLead p2.frames.items (opened_with m k b parent cells) p3.arrays.regions →
       OpensWith l p p3 k b parent cells t before now o (handed_over owner ns o) m
@@ -81,7 +81,7 @@ module _ (l : Limits) (p p2 p3 : Storage) (k : ℕ) (b : BlockOf) (parent : Opti
       subst (λ v. Works v.items m2 p3.arrays.regions o2.arrays r stack) (sym ef) (record { home = w.home; slots = w.slots; arrays_lead = λ at names. keeps _ (w.arrays_lead at names) }) in
       record {
         stores = record {
-          world = record { ticks = i.ticks ∙ sym ek; words = i.words ∙ sym ew; texts = i.texts ∙ sym et; image = i.image ∙ sym ei; written = i.written };
+          world = record { ticks = i.ticks ∙ sym ek; words = i.words ∙ sym ew; texts = i.texts ∙ sym et; image = i.image ∙ ap (λ i. ports_of i now.source) (sym ei); written = i.written };
           budget = subst (λ n. n ≤ l.storage) (sym ew) h.stores.budget;
           frames = subst (λ v. Holds v.items p3.cells.items m2) (sym ef) (subst (λ v. Holds p2.frames.items v.items m2) (sym ec) h.stores.frames);
           entered = en ∙ h.stores.entered;

@@ -26,6 +26,10 @@ pub append_nothing : (a : Option (List ℕ)) → Appends a a []
 append_nothing None = tt
 append_nothing (Some xs) = sym (append_none xs)
 
+-- what was written stays where nothing is added
+pub nothing_more : (before old new : Option (List ℕ)) (written : List ℕ) → Appends before old written → Appends old new [] → Appends before new written
+nothing_more before old new written h h2 = subst (λ l. Appends before new l) (append_none written) (append_two before old new written [] h h2)
+
 -- ---- the image at the end of a run
 
 -- the end of a run writes the line of the image where its position is above 1

@@ -17,7 +17,7 @@ use Rattle.object_machine.specs.declared.calling.Actuals.{Actuals}
 use Rattle.object_machine.specs.declared.machine.Storage.{Storage}
 use Rattle.object_machine.specs.declared.machine.Registers.{Registers}
 use Rattle.object_machine.specs.declared.machine.Activation as working
-use Rattle.object_machine.specs.Standing.{AtWork, Stores, activation_of}
+use Rattle.object_machine.specs.Standing.{AtWork, Outside, Stores, activation_of}
 
 -- the memory with a new frame of a block, which has these cells
 abbrev pub opened_with : Frames → (block : ℕ) → BlockOf → (parent : Option FrameRef) → Cells → Frames
@@ -25,7 +25,7 @@ opened_with m k b parent cells =
     entered m (record { text = k; level = b.level; encloser = number_in parent; cells = cells; passing = b.class_free; kept = false; given_back = false }) (NoObject None)
 
 -- A new frame with these cells stands in the parts, is at work, and all that was at work is so still.
-pub record OpensWith (l : Limits) (p p2 : Storage) (k : ℕ) (b : BlockOf) (parent : Option FrameRef) (cells : Cells) (t : working.Activation) (before now : Option (List ℕ)) (o o2 : World) (m : Frames) : Type 0 where
+pub record OpensWith (l : Limits) (p p2 : Storage) (k : ℕ) (b : BlockOf) (parent : Option FrameRef) (cells : Cells) (t : working.Activation) (before : Option (List ℕ)) (now : Outside) (o o2 : World) (m : Frames) : Type 0 where
   pub stores : Stores l p2 before now o2 (opened_with m k b parent cells)
   pub top : activation_of t ≡ record { thunk = false; home = length m.instances; pc = b.entry; stack = []; room = b.room }
   pub works : AtWork p2 o2 (opened_with m k b parent cells) t.registers t.stack.items
@@ -69,7 +69,7 @@ with_actuals None stack o go = no_rule o
 with_actuals (Some a) stack o go = go (values_from stack a.at a.count) (values_of a.under stack) a.parent.stamp
 
 -- A new frame was filled.
-pub record Supplied (l : Limits) (p p2 : Storage) (k : ℕ) (b : BlockOf) (parent : Option FrameRef) (t : working.Activation) (before now : Option (List ℕ)) (o : World) (m : Frames) (q : Option Cells) : Type 0 where
+pub record Supplied (l : Limits) (p p2 : Storage) (k : ℕ) (b : BlockOf) (parent : Option FrameRef) (t : working.Activation) (before : Option (List ℕ)) (now : Outside) (o : World) (m : Frames) (q : Option Cells) : Type 0 where
   pub cells : Cells
   pub is : q ≡ Some cells
   pub opens : OpensWith l p p2 k b parent cells t before now o o m

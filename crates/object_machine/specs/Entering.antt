@@ -17,7 +17,7 @@ use Rattle.object_machine.specs.declared.machine.Registers.{Registers}
 use Rattle.object_machine.specs.declared.machine.Activation as working
 use Rattle.object_machine.specs.declared.machine.Flow.{Flow}
 use Rattle.object_machine.specs.declared.machine.Flow.TheVariants as flow
-use Rattle.object_machine.specs.Standing.{AtWork, Leaves, Stores, activation_of}
+use Rattle.object_machine.specs.Standing.{AtWork, Leaves, Outside, Stores, activation_of}
 
 -- the number of a block that is there, of the wanted kind, and whose entry is an instruction; or there is no such block
 abbrev pub IsBlock : Option ℕ → CodeOf → BlockKind → ℤ → Type 0
@@ -29,7 +29,7 @@ abbrev pub paid : World → ℕ → World
 paid o wanted = record o { ticks = o.ticks + 1; words = o.words + wanted }
 
 -- what a tick and so many words leave
-unfoldable pub Pays : Flow → Limits → (line wanted : ℕ) → Storage → (before now : Option (List ℕ)) → World → Frames → Type 0
+unfoldable pub Pays : Flow → Limits → (line wanted : ℕ) → Storage → (before : Option (List ℕ)) (now : Outside) → World → Frames → Type 0
 Pays flow.On l line wanted p before now o m = ((go : World → Run Machine) → entering l line wanted o go ≡ go (paid o wanted)) × Stores l p before now (paid o wanted) m
 Pays f l line wanted p before now o m =
     (r : Registers) (stack : List Slot) (below : List working.Activation) (go : World → Run Machine) → Leaves f l line p r stack below before now (entering l line wanted o go)
@@ -42,7 +42,7 @@ opened m k b parent =
     entered m (record { text = k; level = b.level; encloser = number_in parent; cells = first_cells b; passing = b.class_free; kept = false; given_back = false }) (NoObject None)
 
 -- A new frame stands in the parts, is at work, and all that was at work is so still.
-pub record Opens (l : Limits) (p p2 : Storage) (k : ℕ) (b : BlockOf) (parent : Option FrameRef) (t : working.Activation) (before now : Option (List ℕ)) (o : World) (m : Frames) : Type 0 where
+pub record Opens (l : Limits) (p p2 : Storage) (k : ℕ) (b : BlockOf) (parent : Option FrameRef) (t : working.Activation) (before : Option (List ℕ)) (now : Outside) (o : World) (m : Frames) : Type 0 where
   pub stores : Stores l p2 before now o (opened m k b parent)
   pub top : activation_of t ≡ record { thunk = false; home = length m.instances; pc = b.entry; stack = []; room = b.room }
   pub works : AtWork p2 o (opened m k b parent) t.registers t.stack.items

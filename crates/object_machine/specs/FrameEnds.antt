@@ -13,7 +13,7 @@ use Rattle.frame_arena.specs.Frames.{SlotLeads, found_value}
 use Rattle.object_machine.specs.declared.machine.Storage.{Storage}
 use Rattle.object_machine.specs.declared.machine.Registers.{Registers}
 use Rattle.object_machine.specs.declared.leaving.OwnBlock.{OwnBlock}
-use Rattle.object_machine.specs.Standing.{AtWork, Stores}
+use Rattle.object_machine.specs.Standing.{AtWork, Outside, Stores}
 
 -- what the end of a frame asks of the block of a number, which is of the wanted kind; or there is no such block
 abbrev pub IsOwn : Option OwnBlock → CodeOf → BlockKind → (block : ℕ) → Type 0
@@ -32,6 +32,6 @@ ValueLeads frames m regions arrays None = Unit {0}
 ValueLeads frames m regions arrays (Some s) = SlotLeads frames m s × SlotLeadsArray regions arrays s
 
 -- A frame has ended: the parts stand for the world and the memory that are left, and all that was at work is so still.
-pub record Ends (l : Limits) (p p2 : Storage) (b : BlockOf) (frame : ℕ) (before now : Option (List ℕ)) (o : World) (m : Frames) : Type 0 where
+pub record Ends (l : Limits) (p p2 : Storage) (b : BlockOf) (frame : ℕ) (before : Option (List ℕ)) (now : Outside) (o : World) (m : Frames) : Type 0 where
   pub stores : Stores l p2 before now (world_left b frame o m) (frames_left frame m)
   pub others : (r : Registers) (stack : List Slot) → AtWork p o m r stack → AtWork p2 (world_left b frame o m) (frames_left frame m) r stack

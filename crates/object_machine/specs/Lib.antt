@@ -2,7 +2,12 @@ pub mod Standing
 pub mod Entering
 pub mod Running
 pub mod FrameEnds
+pub mod Placing
+pub mod Settled
 pub mod Named
+pub mod Images
+pub mod Operands
+pub mod Pairs
 pub mod Arrayed
 pub mod Covering
 pub mod Calling

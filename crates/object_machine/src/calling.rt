@@ -10,7 +10,7 @@ ghost use Rattle.frame_arena.specs.Slots.{value_of};
 ghost use Rattle.frame_arena.specs.Stacks.{values_from, values_of};
 ghost use Rattle.object_machine.specs.Calling.{Filled, Fills, IsParent, Supplied, called, cells_set_from, with_actuals};
 ghost use Rattle.object_machine.specs.Entering.{Opens};
-ghost use Rattle.object_machine.specs.Standing.{AllAtWork, AllFit, AtWork, Leaves, Obeys, activation_at, below_of};
+ghost use Rattle.object_machine.specs.Standing.{AllAtWork, AllFit, AtWork, Leaves, Obeys, Outside, activation_at, below_of};
 ghost use Rattle.sim_values.specs.declared.value.FrameRef.{FrameRef as Reference};
 ghost use Rattle.sim_code.specs.Arrays.{handed_over};
 ghost use Rattle.sim_code.specs.Rows.{entering_procedure};
@@ -179,7 +179,7 @@ fn supply(
     requires short { first + actuals.count < 2 ^ 64 }
     ensures texts { storage.new.texts ≡ storage.old.texts }
     ensures image { storage.new.image ≡ storage.old.image }
-    ensures row { result ≡ true → (l : LimitsOf) (before now : Option (List ℕ)) (p : Storage) (o : World) (m : Frames) (k : ℕ) (b : BlockOf) (parent : Option Reference) (t : Activation) (r : Registers) →
+    ensures row { result ≡ true → (l : LimitsOf) (before : Option (List ℕ)) (now : Outside) (p : Storage) (o : World) (m : Frames) (k : ℕ) (b : BlockOf) (parent : Option Reference) (t : Activation) (r : Registers) →
         t.registers.home ≡ home → Opens l p storage.old k b parent t before now o m → AtWork p o m r stack.now →
         Supplied l p storage.new k b parent t before now o m (filled first (values_from stack.now actuals.at actuals.count) (first_cells b)) }
 {
@@ -217,7 +217,7 @@ fn pass(
     ensures others { AllFit below.new.items }
     ensures texts { storage.new.texts ≡ storage.old.texts }
     ensures image { storage.new.image ≡ storage.old.image }
-    ensures row { (l : LimitsOf) (line : ℕ) (before now : Option (List ℕ)) (p : Storage) (o : World) (m : Frames) (k : ℕ) (b : BlockOf) (parent : Option Reference) (cells : Cells) →
+    ensures row { (l : LimitsOf) (line : ℕ) (before : Option (List ℕ)) (now : Outside) (p : Storage) (o : World) (m : Frames) (k : ℕ) (b : BlockOf) (parent : Option Reference) (cells : Cells) →
         b.formals ≡ formals.now → Opens l p storage.old k b parent next before now o m → AtWork p o m top.old.registers top.old.stack.items → AllAtWork p o m below.old.items →
         filled first (values_from top.old.stack.items actuals.at actuals.count) (first_cells b) ≡ Some cells →
         Leaves result l line storage.new top.new.registers top.new.stack.items below.new.items before now (in_frame (handed_over (length m.instances) (arrays_by_value b.formals (values_from top.old.stack.items actuals.at actuals.count)) o) m k b (number_in parent) cells (waiting (activation_at top.old.registers top.old.stack.items) (values_of actuals.under top.old.stack.items) ∷ below_of below.old.items)) }
@@ -259,7 +259,7 @@ pub fn call(
     ensures others { AllFit below.new.items }
     ensures texts { storage.new.texts ≡ storage.old.texts }
     ensures image { storage.new.image ≡ storage.old.image }
-    ensures row { (code : CodeOf) (line : ℕ) (now : Option (List ℕ)) → code.blocks ≡ blocks.now → code.instrs ≡ instrs.now →
+    ensures row { (code : CodeOf) (line : ℕ) (now : Outside) → code.blocks ≡ blocks.now → code.instrs ≡ instrs.now →
         Obeys result limits.now line (λ o m a b. entering_procedure code limits.now o m a b line block_operand count_operand) storage.old storage.new top.old.registers top.new.registers top.old.stack.items top.new.stack.items below.old.items below.new.items now now }
 {
     let depth = top.registers.depth;

@@ -9,8 +9,9 @@ ghost use Rattle.sim_code.specs.Code.{CodeOf};
 ghost use Rattle.sim_code.specs.Machine.{Machine};
 ghost use Rattle.sim_code.specs.Outcome.{Run};
 ghost use Rattle.frame_arena.specs.declared.slot.Slot.{Slot};
-ghost use Rattle.object_machine.specs.Running.{FaultsAs, IsClosing, Ran, Stops};
-ghost use Rattle.object_machine.specs.Standing.{WrotePart};
+ghost use Rattle.object_machine.specs.Named.{InputEnds};
+ghost use Rattle.object_machine.specs.Running.{FaultsAs, InputAs, IsClosing, Ran, Stops};
+ghost use Rattle.object_machine.specs.Standing.{HasImages, Outside, WrotePart, outside};
 
 use crate::begin::Stop;
 use crate::machine::{Activation, Flow, Registers, Storage};
@@ -39,12 +40,14 @@ pub fn close<O: Sink>(texts: &mut Texts, image: &mut OutImage, out: &mut O) -> b
 
 // The answer of a run that has ended, when the image of sysout is written, or a fault of the output.
 fn closed<O: Sink>(storage: &mut Storage, out: &mut O, ending: Ending) -> Ending
-    requires image { IsImage storage.old.texts storage.old.image }
+    requires images { HasImages storage.old.texts storage.old.image }
     requires other { (ending ≡ Ending.WriteFault → ⊥) }
-    ensures ran { (code : CodeOf) (l : LimitsOf) (from : Run Machine) (before : Option (List ℕ)) → IsClosing code l from ending storage.old before (O.written out.old) → Ran code l from result before (O.written out.new) }
+    requires read { (ending ≡ Ending.InputFault → ⊥) }
+    ensures ran { (code : CodeOf) (l : LimitsOf) (from : Run Machine) (before : Option (List ℕ)) → (source : List ℕ) → IsClosing code l from ending storage.old before (outside (O.written out.old) source) → Ran code l from result before (O.written out.new) }
     ensures ends { FaultsAs O.written O.faults result out.old out.new }
+    ensures input { (before now : ℕ) → now ≡ before → InputAs before now result }
 {
-    if close(&mut storage.texts, &mut storage.image, out) {
+    if close(&mut storage.texts, &mut storage.image.output, out) {
         return ending;
     }
     Ending::WriteFault
@@ -52,8 +55,9 @@ fn closed<O: Sink>(storage: &mut Storage, out: &mut O, ending: Ending) -> Ending
 
 // The answer where there is no rule.
 fn without_rule(at: usize) -> Ending
-    ensures ran { (code : CodeOf) (l : LimitsOf) (from : Run Machine) (line : ℕ) (p : Storage) (r : Registers) (stack : List Slot) (below : List Activation) (before now : Option (List ℕ)) → Stops code l from Flow.NoRule line at p r stack below before now → Ran code l from result before now }
+    ensures ran { (code : CodeOf) (l : LimitsOf) (from : Run Machine) (line : ℕ) (p : Storage) (r : Registers) (stack : List Slot) (below : List Activation) (before : Option (List ℕ)) (now : Outside) → Stops code l from Flow.NoRule line at p r stack below before now → Ran code l from result before now.sink }
     ensures other { result ≡ Ending.WriteFault → ⊥ }
+    ensures read { result ≡ Ending.InputFault → ⊥ }
 {
     match u32::try_from(at) {
         Ok(at) => Ending::BadCode { at },
@@ -63,9 +67,10 @@ fn without_rule(at: usize) -> Ending
 
 /// The answer of a run whose last step ends it.
 pub fn answer<O: Sink>(limits: &Limits, storage: &mut Storage, out: &mut O, stop: Stop) -> Ending
-    requires image { IsImage storage.old.texts storage.old.image }
-    ensures ran { (code : CodeOf) (from : Run Machine) (r : Registers) (stack : List Slot) (below : List Activation) (before : Option (List ℕ)) → Stops code limits.now from stop.flow stop.line.0 stop.at storage.old r stack below before (O.written out.old) → Ran code limits.now from result before (O.written out.new) }
+    requires images { HasImages storage.old.texts storage.old.image }
+    ensures ran { (code : CodeOf) (from : Run Machine) (r : Registers) (stack : List Slot) (below : List Activation) (before : Option (List ℕ)) (source : List ℕ) → Stops code limits.now from stop.flow stop.line.0 stop.at storage.old r stack below before (outside (O.written out.old) source) → Ran code limits.now from result before (O.written out.new) }
     ensures ends { FaultsAs O.written O.faults result out.old out.new }
+    ensures input { (before now : ℕ) → InputEnds before now stop.flow → InputAs before now result }
 {
     match stop.flow {
         Flow::Normal => closed(storage, out, Ending::Normal),
@@ -87,6 +92,7 @@ pub fn answer<O: Sink>(limits: &Limits, storage: &mut Storage, out: &mut O, stop
         }
         Flow::NoRule => without_rule(stop.at),
         Flow::Memory => Ending::Memory,
+        Flow::InputFault => Ending::InputFault,
         Flow::WriteFault => Ending::Memory,
         Flow::On => Ending::Memory,
     }

@@ -8,7 +8,7 @@ ghost use Rattle.sim_code.specs.Events.{entering};
 ghost use Rattle.sim_code.specs.Machine.{Activation as ActivationOf, Frames, block_at, first_cells, in_frame, waiting, words_of_block};
 ghost use Rattle.sim_code.specs.Outcome.{Ending, Going, Run, World};
 ghost use Rattle.object_machine.specs.Covering.{Covers};
-ghost use Rattle.object_machine.specs.Standing.{AllFit, Obeys, activation_at, below_of};
+ghost use Rattle.object_machine.specs.Standing.{AllFit, Obeys, Outside, activation_at, below_of};
 
 use crate::blocks::block_of;
 use crate::machine::{Activation, Flow, Storage};
@@ -56,7 +56,7 @@ pub fn enter(
     ensures others { AllFit below.new.items }
     ensures texts { storage.new.texts ≡ storage.old.texts }
     ensures image { storage.new.image ≡ storage.old.image }
-    ensures row { (code : CodeOf) (line : ℕ) (now : Option (List ℕ)) → code.blocks ≡ blocks.now → code.instrs ≡ instrs.now →
+    ensures row { (code : CodeOf) (line : ℕ) (now : Outside) → code.blocks ≡ blocks.now → code.instrs ≡ instrs.now →
         Obeys result limits.now line (λ o m a b. block_at code BlockKind.SubBlock operand o (λ k x y. entering limits.now line (words_of_block x) o (λ p. in_frame p m k x (Some a.home) (first_cells x) (waiting a a.stack ∷ b)))) storage.old storage.new top.old.registers top.new.registers top.old.stack.items top.new.stack.items below.old.items below.new.items now now }
 {
     let Some(number) = block_of(blocks, instrs, BlockKind::SubBlock, operand) else {

@@ -3,8 +3,8 @@ ghost use Rattle.std.specs.Prelude.{◌≡◌, ◌≤◌, ℕ, List, Option, len
 ghost use Rattle.sim_code.specs.Code.{CodeOf};
 ghost use Rattle.sim_code.specs.Outcome.{World};
 ghost use Rattle.frame_arena.specs.Frames.{empty_memory};
-ghost use Rattle.object_machine.specs.Running.{Begins, IsFit};
-ghost use Rattle.object_machine.specs.Standing.{Stores};
+ghost use Rattle.object_machine.specs.Running.{Begins, IsFit, IsUnread};
+ghost use Rattle.object_machine.specs.Standing.{Outside, Stores};
 
 use crate::begin::{Begun, Stop};
 use crate::blocks::block_of;
@@ -32,9 +32,10 @@ pub fn begin(
     storage: &mut Storage,
 ) -> Begun
     ensures fits { IsFit result }
+    ensures read { IsUnread result }
     ensures texts { storage.new.texts ≡ storage.old.texts }
     ensures image { storage.new.image ≡ storage.old.image }
-    ensures row { (code : CodeOf) (before now : Option (List ℕ)) (o : World) → code.blocks ≡ blocks.now → code.instrs ≡ instrs.now → Stores limits.now storage.old before now o empty_memory → Begins result code limits.now storage.new before now o }
+    ensures row { (code : CodeOf) (before : Option (List ℕ)) (now : Outside) (o : World) → code.blocks ≡ blocks.now → code.instrs ≡ instrs.now → Stores limits.now storage.old before now o empty_memory → Begins result code limits.now storage.new before now o }
 {
     let Some(number) = block_of(blocks, instrs, BlockKind::SubBlock, 0) else {
         return stopped(Flow::NoRule, Line(0));

@@ -9,7 +9,7 @@ ghost use Rattle.frame_arena.specs.Arrays.{AllLeadArrays, RegionOf};
 ghost use Rattle.frame_arena.specs.Frames.{AllLead, Has, Holds, Leads, found_value, frame_at};
 ghost use Rattle.frame_arena.specs.Stacks.{slot_at, values_of};
 ghost use Rattle.object_machine.specs.FrameEnds.{Ends, IsOwn, ValueLeads, handed};
-ghost use Rattle.object_machine.specs.Standing.{AllFit, Leaves, Obeys, Stands, Stores, below_of};
+ghost use Rattle.object_machine.specs.Standing.{AllFit, Leaves, Obeys, Outside, Stands, Stores, below_of};
 
 use crate::blocks::same_kind;
 use crate::machine::{Activation, Flow, Registers, Storage};
@@ -108,7 +108,7 @@ fn give(storage: &mut Storage, home: FrameRef, cells: u32)
     requires there { Has storage.old.frames.items home.frame home.stamp }
     ensures texts { storage.new.texts ≡ storage.old.texts }
     ensures image { storage.new.image ≡ storage.old.image }
-    ensures row { (l : Limits) (b : BlockOf) (before now : Option (List ℕ)) (o : World) (m : Frames) → b.cells ≡ cells → Stores l storage.old before now o m →
+    ensures row { (l : Limits) (b : BlockOf) (before : Option (List ℕ)) (now : Outside) (o : World) (m : Frames) → b.cells ≡ cells → Stores l storage.old before now o m →
         Ends l storage.old storage.new b home.stamp before now o m }
 {
     if !frames::is_given_at_end(&storage.frames, home.frame as usize) {
@@ -134,7 +134,7 @@ fn finish(
     ensures others { AllFit below.new.items }
     ensures texts { storage.new.texts ≡ storage.old.texts }
     ensures image { storage.new.image ≡ storage.old.image }
-    ensures row { (l : Limits) (line : ℕ) (b : BlockOf) (before now : Option (List ℕ)) (o : World) (m : Frames) → b.cells ≡ cells →
+    ensures row { (l : Limits) (line : ℕ) (b : BlockOf) (before : Option (List ℕ)) (now : Outside) (o : World) (m : Frames) → b.cells ≡ cells →
         Stands l storage.old top.old.registers top.old.stack.items below.old.items before now o m → ValueLeads storage.old.frames.items m storage.old.arrays.regions o.arrays value →
         Leaves result l line storage.new top.new.registers top.new.stack.items below.new.items before now (leaving b (below_of below.old.items) (found_value value) top.old.registers.home.stamp o m) }
 {
@@ -162,7 +162,7 @@ pub fn leave(
     ensures others { AllFit below.new.items }
     ensures texts { storage.new.texts ≡ storage.old.texts }
     ensures image { storage.new.image ≡ storage.old.image }
-    ensures row { (code : CodeOf) (l : Limits) (line : ℕ) (now : Option (List ℕ)) → code.blocks ≡ blocks.now →
+    ensures row { (code : CodeOf) (l : Limits) (line : ℕ) (now : Outside) → code.blocks ≡ blocks.now →
         Obeys result l line (λ o m a b. own_block_of code BlockKind.SubBlock m a o (λ x. leaving x b None a.home o m)) storage.old storage.new top.old.registers top.new.registers top.old.stack.items top.new.stack.items below.old.items below.new.items now now }
 {
     let home = top.registers.home;
@@ -190,7 +190,7 @@ pub fn give_result(
     ensures others { AllFit below.new.items }
     ensures texts { storage.new.texts ≡ storage.old.texts }
     ensures image { storage.new.image ≡ storage.old.image }
-    ensures row { (code : CodeOf) (l : Limits) (line : ℕ) (now : Option (List ℕ)) → code.blocks ≡ blocks.now →
+    ensures row { (code : CodeOf) (l : Limits) (line : ℕ) (now : Outside) → code.blocks ≡ blocks.now →
         Obeys result l line (λ o m a b. own_block_of code BlockKind.Procedure m a o (λ x. with_result x m a.home o (λ v. leaving x b v a.home o m))) storage.old storage.new top.old.registers top.new.registers top.old.stack.items top.new.stack.items below.old.items below.new.items now now }
 {
     let home = top.registers.home;

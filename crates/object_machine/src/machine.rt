@@ -1,6 +1,6 @@
 //! What the machine works on.
 
-use basic_io::OutImage;
+use basic_io::{InImage, OutImage};
 use frame_arena::frames::Frame;
 use frame_arena::{Arrays, Slot};
 use sim_base::RunError;
@@ -27,6 +27,15 @@ pub struct Activation {
     pub stack: Vec<Slot>,
 }
 
+/// The images of the input and of the output.
+#[derive(Drop)]
+pub struct Images {
+    /// That of sysin.
+    pub input: InImage,
+    /// That of sysout.
+    pub output: OutImage,
+}
+
 /// What all frames share.
 #[derive(Drop)]
 pub struct Storage {
@@ -44,8 +53,8 @@ pub struct Storage {
     pub arrays: Arrays,
     /// The texts.
     pub texts: Texts,
-    /// The image of sysout.
-    pub image: OutImage,
+    /// The images of sysin and sysout.
+    pub image: Images,
     /// The ticks taken.
     pub ticks: u64,
     /// The words in use.
@@ -73,4 +82,6 @@ pub enum Flow {
     Memory,
     /// The output failed.
     WriteFault,
+    /// The input failed.
+    InputFault,
 }

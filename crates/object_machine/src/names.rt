@@ -1,22 +1,24 @@
 //! Standard names.
 ghost use Rattle.std.specs.Prelude.{◌≡◌, ℕ, ◌+◌, ◌<◌, ◌≤◌, ◌^◌, List, Option, length, true};
-ghost use Rattle.sim_base.specs.declared.limits.Limits.{Limits};
 ghost use Rattle.sim_code.specs.Events.{having, performing, when};
-ghost use Rattle.sim_code.specs.Machine.{Frames, on, plain};
-ghost use Rattle.sim_code.specs.Outcome.{World};
-ghost use Rattle.sim_code.specs.Rows.{room_for, standard_of, with_value};
+ghost use Rattle.sim_code.specs.Machine.{Frames, on, operand as operand_of};
+ghost use Rattle.sim_code.specs.Rows.{put_back as put_back_of, room_for, standard_of, with_value};
 ghost use Rattle.sim_code.specs.Running.{standard_runs};
-ghost use Rattle.basic_io.specs.Image.{IsImage};
-ghost use Rattle.object_machine.specs.Standing.{Leaves, Obeys, Stands, activation_at, below_of};
-ghost use Rattle.object_machine.specs.Named.{FlowEnds, Settles};
-ghost use Rattle.standard_calls.specs.Performed.{PerformedAs, held, output};
+ghost use Rattle.standard_calls.specs.Performed.{IfDepth};
+ghost use Rattle.object_machine.specs.Named.{FlowEnds, InputEnds, Still};
+ghost use Rattle.object_machine.specs.Running.{Onward};
+ghost use Rattle.object_machine.specs.Settled.{Follows, Settles};
+ghost use Rattle.object_machine.specs.Standing.{HasImages, Obeys, outside};
 
 use crate::constants::index;
 use crate::machine::{Activation, Flow, Registers, Storage};
+use crate::placing::{Placing, put_back};
+use crate::reading::{first_operand, read_operands};
 use frame_arena::Slot;
-use sim_ports::Sink;
+use sim_base::Limits;
+use sim_ports::{Sink, Source};
 use sim_values::Standard;
-use standard_calls::{Performed, perform};
+use standard_calls::{Performed, operand_count, perform};
 
 // The standard name of a number.
 #[inline(always)]
@@ -29,12 +31,17 @@ fn name_of(operand: i64) -> Option<Standard>
     Standard::from_number(number)
 }
 
-// Goes on with what a standard name came to.
-#[inline(always)]
-fn settle_performed(regs: &mut Registers, performed: Performed) -> Flow
+// Goes on with what a standard name came to, of which the first operand had this address, if any.
+fn settle_performed(
+    storage: &mut Storage,
+    regs: &mut Registers,
+    performed: Performed,
+    address: Slot,
+) -> Flow
     requires short { regs.old.pc + 1 < 2 ^ 64 }
-    ensures built { result ≡ Flow.Memory → ⊥ }
-    ensures settled { Settles performed result regs.old regs.new }
+    ensures fits { (room : ℕ) → regs.old.depth ≤ room → IfDepth performed (λ n. n ≤ room) → regs.new.depth ≤ room }
+    ensures valid { HasImages storage.old.texts storage.old.image → HasImages storage.new.texts storage.new.image }
+    ensures settled { Settles performed result address storage.old storage.new regs.old regs.new }
 {
     match performed {
         Performed::Depth(depth) => {
@@ -42,15 +49,44 @@ fn settle_performed(regs: &mut Registers, performed: Performed) -> Flow
             regs.pc += 1;
             Flow::On
         }
+        Performed::Moved { depth, text } => {
+            let placing = put_back(storage, address, text);
+            follow(regs, placing, depth)
+        }
         Performed::NoRule => Flow::NoRule,
         Performed::Fault(error) => Flow::Fault(error),
+        Performed::Full { wanted } => {
+            storage.wanted = wanted;
+            Flow::Exhausted
+        }
+        Performed::Memory => Flow::Memory,
         Performed::WriteFault => Flow::WriteFault,
+        Performed::InputFault => Flow::InputFault,
+    }
+}
+
+// Goes on with so many values, where a text was put back.
+fn follow(regs: &mut Registers, placing: Placing, depth: usize) -> Flow
+    requires short { regs.old.pc + 1 < 2 ^ 64 }
+    ensures fits { (room : ℕ) → regs.old.depth ≤ room → depth ≤ room → regs.new.depth ≤ room }
+    ensures follows { Follows placing result depth regs.old regs.new }
+{
+    match placing {
+        Placing::Done => {
+            regs.depth = depth;
+            regs.pc += 1;
+            Flow::On
+        }
+        Placing::NoRule => Flow::NoRule,
+        Placing::Memory => Flow::Memory,
     }
 }
 
 /// Does what a standard name does with its operands, and puts its value in their place, if it has one.
-pub fn standard<O: Sink>(
+pub fn standard<I: Source, O: Sink>(
+    limits: &Limits,
     storage: &mut Storage,
+    input: &mut I,
     out: &mut O,
     stack: &mut [Slot],
     regs: &mut Registers,
@@ -59,24 +95,46 @@ pub fn standard<O: Sink>(
     requires fits { regs.old.depth ≤ length stack.old }
     requires short { regs.old.pc + 1 < 2 ^ 64 }
     requires runs { standard_runs (standard_of operand) ≡ true }
-    requires image { IsImage storage.old.texts storage.old.image }
+    requires images { HasImages storage.old.texts storage.old.image }
     ensures fits { regs.new.depth ≤ length stack.new }
-    ensures valid { IsImage storage.new.texts storage.new.image }
+    ensures valid { HasImages storage.new.texts storage.new.image }
     ensures ends { FlowEnds O.written O.faults out.old out.new result }
-    ensures built { result ≡ Flow.Memory → ⊥ }
-    ensures row { (l : Limits) (line : ℕ) (below : List Activation) →
-        Obeys result l line (λ o m a b. having (standard_of operand) o (λ name. when (room_for name a) o (performing plain l line name a.stack o (λ p moved value st. on p m a (with_value value st) b)))) storage.old storage.new regs.old regs.new stack.old stack.new below below (O.written out.old) (O.written out.new) }
+    ensures read { InputEnds (I.faults input.old) (I.faults input.new) result }
+    ensures row { Onward (I.left input.old) (I.left input.new) (λ s t. Still result (O.written out.old) (O.written out.new) × ((line : ℕ) (below : List Activation) →
+        Obeys result limits.now line (λ o m a b. having (standard_of operand) o (λ name. when (room_for name a) o (performing operand_of put_back_of limits.now line name a.stack o m (λ p m value st. on p m a (with_value value st) b)))) storage.old storage.new regs.old regs.new stack.old stack.new below below (outside (O.written out.old) s) (outside (O.written out.new) t))) }
 {
     let Some(name) = name_of(operand) else {
         return Flow::NoRule;
     };
+    let count = operand_count(name);
+    let depth = regs.depth;
+    if depth < count {
+        return Flow::NoRule;
+    }
+    let address = first_operand(stack, depth, count);
+    if !read_operands(
+        &storage.frames,
+        &storage.cells,
+        &storage.arrays,
+        &storage.image,
+        stack,
+        depth - count,
+        depth,
+    ) {
+        return Flow::NoRule;
+    }
+    let budget = u64::from(limits.storage);
     let performed = perform(
         name,
         stack,
-        regs.depth,
+        depth,
+        budget,
+        &mut storage.words,
         &mut storage.texts,
-        &mut storage.image,
+        &mut storage.image.input,
+        &mut storage.image.output,
+        input,
         out,
     );
-    settle_performed(regs, performed)
+    settle_performed(storage, regs, performed, address)
 }

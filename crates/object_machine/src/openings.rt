@@ -8,7 +8,7 @@ ghost use Rattle.frame_arena.specs.Arrays.{AllLeadArrays, RegionOf, names_array}
 ghost use Rattle.frame_arena.specs.Frames.{Holds, Leads, cells_at, frame_at, names_frame};
 ghost use Rattle.frame_arena.specs.Slots.{cell_value};
 ghost use Rattle.object_machine.specs.Entering.{Opens};
-ghost use Rattle.object_machine.specs.Standing.{Stores};
+ghost use Rattle.object_machine.specs.Standing.{Outside, Stores};
 
 use crate::machine::{Activation, Registers, Storage};
 use frame_arena::frames::{self, Entry, Frame};
@@ -97,7 +97,7 @@ pub fn open(
     ensures texts { storage.new.texts ≡ storage.old.texts }
     ensures image { storage.new.image ≡ storage.old.image }
     ensures fits { IfOk result (λ t. t.registers.depth ≤ length t.stack.items) }
-    ensures row { IfOk result (λ t. (l : Limits) (before now : Option (List ℕ)) (o : World) (m : Frames) → Stores l storage.old before now o m → ((r : Reference) → parent ≡ Some r → Leads storage.old.frames.items m r) →
+    ensures row { IfOk result (λ t. (l : Limits) (before : Option (List ℕ)) (now : Outside) (o : World) (m : Frames) → Stores l storage.old before now o m → ((r : Reference) → parent ≡ Some r → Leads storage.old.frames.items m r) →
         Opens l storage.old storage.new number block.now parent t before now o m) }
 {
     let Ok(count) = u32::try_from(block.types.len()) else {

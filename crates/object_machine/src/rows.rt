@@ -6,7 +6,7 @@ ghost use Rattle.sim_code.specs.Events.{no_rule as no_rule_of, stopping};
 ghost use Rattle.sim_code.specs.Outcome.{Normal};
 ghost use Rattle.sim_code.specs.Rows.{row};
 ghost use Rattle.frame_arena.specs.declared.slot.Slot.{Slot as SlotOf};
-ghost use Rattle.object_machine.specs.Standing.{Obeys, Row};
+ghost use Rattle.object_machine.specs.Standing.{HasImages, Obeys, Outside, Row};
 
 use crate::arrays::{array, copy_array, elem, fetch, keep, put};
 use crate::cells::{address, end_level, link, load, store};
@@ -16,6 +16,8 @@ use crate::operands::{
     drop_top, dup, one, push_character, push_integer, push_none, push_truth, relation, step_test,
     swap, two,
 };
+use crate::pairs::{relate, relation_of_texts};
+use crate::texts::{image_address, notext};
 use frame_arena::Slot;
 use sim_base::Limits;
 use sim_code::{Instr, Lined};
@@ -24,7 +26,7 @@ use sim_values::{Calculation, Connective, Dyadic, Monadic};
 // The end of the program.
 #[inline(always)]
 fn halt() -> Flow
-    ensures { (l : LimitsOf) (line : ℕ) (p : Storage) (r : Registers) (stack : List SlotOf) (below : List Activation) (now : Option (List ℕ)) →
+    ensures { (l : LimitsOf) (line : ℕ) (p : Storage) (r : Registers) (stack : List SlotOf) (below : List Activation) (now : Outside) →
         Obeys result l line (λ o m a b. stopping Normal o) p p r r stack stack below below now now }
 {
     Flow::Normal
@@ -33,7 +35,7 @@ fn halt() -> Flow
 // Where there is no rule.
 #[inline(always)]
 fn no_rule() -> Flow
-    ensures { (l : LimitsOf) (line : ℕ) (p : Storage) (r : Registers) (stack : List SlotOf) (below : List Activation) (now : Option (List ℕ)) →
+    ensures { (l : LimitsOf) (line : ℕ) (p : Storage) (r : Registers) (stack : List SlotOf) (below : List Activation) (now : Outside) →
         Obeys result l line (λ o m a b. no_rule_of o) p p r r stack stack below below now now }
 {
     Flow::NoRule
@@ -42,7 +44,7 @@ fn no_rule() -> Flow
 // What is not built: the machine stops as for want of memory.
 #[inline(always)]
 fn not_built() -> Flow
-    ensures { (l : LimitsOf) (line : ℕ) (does : Row) (p : Storage) (r : Registers) (stack : List SlotOf) (below : List Activation) (now : Option (List ℕ)) →
+    ensures { (l : LimitsOf) (line : ℕ) (does : Row) (p : Storage) (r : Registers) (stack : List SlotOf) (below : List Activation) (now : Outside) →
         Obeys result l line does p p r r stack stack below below now now }
 {
     Flow::Memory
@@ -60,10 +62,10 @@ pub fn obey(
 ) -> Flow
     requires fits { regs.old.depth ≤ length stack.old }
     requires short { regs.old.pc + 1 < 2 ^ 64 }
+    requires images { HasImages storage.old.texts storage.old.image }
     ensures fits { regs.new.depth ≤ length stack.new }
-    ensures texts { storage.new.texts ≡ storage.old.texts }
-    ensures image { storage.new.image ≡ storage.old.image }
-    ensures row { (code : CodeOf) (line : ℕ) (below : List Activation) (now : Option (List ℕ)) → code.instrs ≡ instrs.now →
+    ensures valid { HasImages storage.new.texts storage.new.image }
+    ensures row { (code : CodeOf) (line : ℕ) (below : List Activation) (now : Outside) → code.instrs ≡ instrs.now →
         Obeys result limits.now line (λ o m a b. row code limits.now o m a b line instr) storage.old storage.new regs.old regs.new stack.old stack.new below below now now }
 {
     match instr {
@@ -94,6 +96,7 @@ pub fn obey(
             &storage.frames,
             &storage.cells,
             &storage.arrays,
+            &storage.image,
             stack,
             regs,
         ),
@@ -114,6 +117,8 @@ pub fn obey(
         Instr::Div => two(stack, regs, Dyadic::Calculate(Calculation::Divide)),
         Instr::Pow => two(stack, regs, Dyadic::Calculate(Calculation::Power)),
         Instr::Rel(operand) => relation(stack, regs, operand),
+        Instr::RelT(operand) => relation_of_texts(&storage.texts, stack, regs, operand),
+        Instr::SameT => relate(&storage.texts, stack, regs, None),
         Instr::Same => two(stack, regs, Dyadic::SameObject),
         Instr::Not => one(stack, regs, Monadic::Not),
         Instr::And => two(stack, regs, Dyadic::Connect(Connective::And)),
@@ -127,7 +132,8 @@ pub fn obey(
         Instr::EndLevel(level) => end_level(&storage.frames, regs, level),
         Instr::This(_) => no_rule(),
         Instr::AddrR { .. } => no_rule(),
-        Instr::AddrImg(_) => no_rule(),
+        Instr::AddrImg(number) => image_address(stack, regs, number),
+        Instr::NoText => notext(stack, regs),
         Instr::Is(_) => no_rule(),
         Instr::In(_) => no_rule(),
         Instr::Qua(_) => no_rule(),
@@ -144,7 +150,6 @@ pub fn obey(
         Instr::Pref { .. } => no_rule(),
         Instr::NextDecl(_) => no_rule(),
         Instr::Inner(_) => no_rule(),
-        Instr::AssignT => no_rule(),
         Instr::Act(_) => no_rule(),
         Instr::Detach => no_rule(),
         Instr::Attach => no_rule(),

@@ -1,7 +1,7 @@
 //! Running code.
-ghost use Rattle.std.specs.Prelude.{◌≡◌, ℕ};
+ghost use Rattle.std.specs.Prelude.{◌≡◌, ℕ, List, Some};
 ghost use Rattle.sim_code.specs.Running.{AllRun};
-ghost use Rattle.object_machine.specs.Running.{FaultsAs, RanAs};
+ghost use Rattle.object_machine.specs.Running.{FaultsAs, InputAs, RanAs};
 
 use crate::begin::Begun;
 use crate::ending::answer;
@@ -11,14 +11,21 @@ use crate::start::start;
 use crate::steps::steps;
 use sim_base::Limits;
 use sim_code::{Code, Ending};
-use sim_ports::Sink;
+use sim_ports::{Sink, Source};
 use std::alloc::Global;
 
-/// Runs code from its first step to its end, and writes its output.
-pub fn run<O: Sink>(alloc: Global, code: &Code, limits: &Limits, out: &mut O) -> Ending
+/// Runs code from its first step to its end, reads its input as far as it asks for it, and writes its output.
+pub fn run<I: Source, O: Sink>(
+    alloc: Global,
+    code: &Code,
+    limits: &Limits,
+    input: &mut I,
+    out: &mut O,
+) -> Ending
     requires runs { AllRun code.now.instrs }
-    ensures ran { RanAs code.now limits.now result (O.written out.old) (O.written out.new) }
+    ensures ran { (bytes : List ℕ) → I.left input.old ≡ Some bytes → RanAs code.now limits.now bytes result (O.written out.old) (O.written out.new) }
     ensures faults { FaultsAs O.written O.faults result out.old out.new }
+    ensures input_faults { InputAs (I.faults input.old) (I.faults input.new) result }
 {
     let Ok(mut storage) = start(alloc, &code.texts, limits) else {
         return Ending::Memory;
@@ -32,8 +39,10 @@ pub fn run<O: Sink>(alloc: Global, code: &Code, limits: &Limits, out: &mut O) ->
                 alloc,
                 &code.blocks,
                 &code.instrs,
+                &code.texts,
                 limits,
                 &mut storage,
+                input,
                 out,
                 &mut top,
                 &mut below,

@@ -2,12 +2,11 @@
 ghost use Rattle.std.specs.Prelude.{◌≡◌, ◌++◌, ◌∷◌, [], ℕ, List, Option, IfOk, OnOk, length, replicate};
 ghost use Rattle.sim_code.specs.Outcome.{first_world};
 ghost use Rattle.sim_values.specs.Store.{constant_frames};
-ghost use Rattle.basic_io.specs.Image.{IsImage};
 ghost use Rattle.frame_arena.specs.Frames.{empty_memory};
-ghost use Rattle.object_machine.specs.Standing.{Stores};
+ghost use Rattle.object_machine.specs.Standing.{HasImages, Stores, outside};
 
-use crate::machine::Storage;
-use basic_io::OutImage;
+use crate::machine::{Images, Storage};
+use basic_io::{InImage, OutImage};
 use frame_arena::Arrays;
 use sim_base::{ByteString, Limits, Memory};
 use std::alloc::Global;
@@ -31,18 +30,18 @@ fn add_constants(texts: &mut Texts, constants: &[ByteString]) -> Result<(), Memo
 }
 
 /// The machine before its first step: the text constants, and then the two images. It answers want of memory also for a constant of
-/// 2^32-1 characters or more, and where sysout has no character in a line.
+/// 2^32-1 characters or more, and where sysin or sysout has no character in a line.
 pub fn start(alloc: Global, constants: &[ByteString], limits: &Limits) -> Result<Storage, Memory>
-    ensures valid { IfOk result (λ p. IsImage p.texts p.image) }
-    ensures row { IfOk result (λ p. (before : Option (List ℕ)) (input : List ℕ) → Stores limits.now p before before (first_world constants.now limits.now input) empty_memory) }
+    ensures valid { IfOk result (λ p. HasImages p.texts p.image) }
+    ensures row { IfOk result (λ p. (before : Option (List ℕ)) (input : List ℕ) → Stores limits.now p before (outside before input) (first_world constants.now limits.now input) empty_memory) }
 {
-    if limits.out_length == 0 {
+    if limits.in_length == 0 || limits.out_length == 0 {
         return Err(Memory);
     }
     let mut texts = Texts::new(alloc);
     add_constants(&mut texts, constants)?;
-    texts.image(limits.in_length)?;
-    let image = OutImage::new(&mut texts, limits.out_length)?;
+    let input = InImage::new(alloc, &mut texts, limits.in_length)?;
+    let output = OutImage::new(&mut texts, limits.out_length)?;
     Ok(Storage {
         frames: Vec::new(alloc),
         cells: Vec::new(alloc),
@@ -51,7 +50,7 @@ pub fn start(alloc: Global, constants: &[ByteString], limits: &Limits) -> Result
         entered: 0,
         arrays: Arrays::new(alloc),
         texts,
-        image,
+        image: Images { input, output },
         ticks: 0,
         words: 0,
         wanted: 0,

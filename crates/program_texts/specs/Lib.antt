@@ -1,1 +1,2 @@
 pub mod TextTrees
+pub mod ConstantTrees

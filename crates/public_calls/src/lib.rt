@@ -22,3 +22,5 @@ mod sim_lexer_calls;
 mod sim_tree_calls;
 #[cfg(test)]
 mod top_call;
+#[cfg(test)]
+mod type_calls;

@@ -3,10 +3,9 @@
 ghost use Rattle.std.specs.Prelude.{◌<◌, length};
 
 use sim_base::{Limits, Line, RunError};
-use sim_code::Ending;
-use sim_driver::bind;
-use sim_ports::MemSink;
-use sim_run::compile_and_run;
+use sim_driver::{Command, bind};
+use sim_ports::{MemSink, MemSource};
+use sim_run::{RunEnd, compile_and_run};
 use std::alloc::Global;
 use std::process::Abort;
 use std::test::Fail;
@@ -17,8 +16,9 @@ struct Row<'a> {
     source: &'a [u8],
     storage: u32,
     ticks: u64,
+    out_length: u16,
     out: &'a [u8],
-    ending: Ending,
+    ending: RunEnd,
 }
 
 // The factorials of a number too large for their storage or for the integers.
@@ -31,14 +31,23 @@ const FACTORIAL_165: &[u8] =
 const SUB_BLOCKS: &[u8] =
     b"begin integer i; for i := 1 step 1 until 50 do begin integer array a(1:900); a(i) := i end; outint(i, 4); outimage end";
 
+// A text longer than the image stands on two lines.
+const LONG_TEXT: &[u8] = b"begin outtext(\"ab\"); outtext(\"abcdefgh\") end";
+
 const ENDLESS: &[u8] = b"begin while true do; end";
 
 // How the run of a short source ends; none where it has no end of its own.
-fn run_source(alloc: Global, source: &[u8], limits: &Limits, out: &mut MemSink) -> Option<Ending>
+fn run_source(
+    alloc: Global,
+    source: &[u8],
+    limits: &Limits,
+    input: &mut MemSource,
+    out: &mut MemSink,
+) -> Option<RunEnd>
     requires { length source.now < 1000 }
 {
-    match bind(alloc, source) {
-        Ok(bound) => compile_and_run(alloc, &bound, limits, out).ok(),
+    match bind(alloc, Command::Run, source) {
+        Ok(bound) => compile_and_run(alloc, &bound, limits, input, out).ok(),
         Err(_) => None,
     }
 }
@@ -48,11 +57,12 @@ fn check_row(rt: &impl Abort, alloc: Global, number: usize, row: Row) -> Result<
         storage: row.storage,
         ticks: row.ticks,
         in_length: 80,
-        out_length: 132,
+        out_length: row.out_length,
     };
+    let mut input = MemSource::new(alloc, b"", &[])?;
     let mut out = MemSink::new(alloc, &[], 4096)?;
     let ending = if row.source.len() < 1000 {
-        run_source(alloc, row.source, &limits, &mut out)
+        run_source(alloc, row.source, &limits, &mut input, &mut out)
     } else {
         None
     };
@@ -69,8 +79,9 @@ fn limits(rt: HostRuntime) -> Result<(), Fail> {
             source: FACTORIAL_166,
             storage: 1000,
             ticks: 100_000,
+            out_length: 132,
             out: b"",
-            ending: Ending::StorageExhausted {
+            ending: RunEnd::StorageExhausted {
                 line,
                 used: 1000,
                 wanted: 6,
@@ -80,8 +91,9 @@ fn limits(rt: HostRuntime) -> Result<(), Fail> {
             source: FACTORIAL_165,
             storage: 1000,
             ticks: 100_000,
+            out_length: 132,
             out: b"",
-            ending: Ending::RunFault {
+            ending: RunEnd::RunFault {
                 error: RunError::IntegerOverflow,
                 line,
             },
@@ -90,15 +102,25 @@ fn limits(rt: HostRuntime) -> Result<(), Fail> {
             source: ENDLESS,
             storage: 1000,
             ticks: 1000,
+            out_length: 132,
             out: b"",
-            ending: Ending::TickLimit { ticks: 1000 },
+            ending: RunEnd::TickLimit { ticks: 1000 },
         },
         Row {
             source: SUB_BLOCKS,
             storage: 1000,
             ticks: 100_000,
+            out_length: 132,
             out: b"  51\n",
-            ending: Ending::Normal,
+            ending: RunEnd::Normal,
+        },
+        Row {
+            source: LONG_TEXT,
+            storage: 1000,
+            ticks: 1000,
+            out_length: 5,
+            out: b"ab\nabcde\nfgh\n",
+            ending: RunEnd::Normal,
         },
     ];
     for (number, row) in rows.into_iter().enumerate() {

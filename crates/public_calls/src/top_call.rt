@@ -1,4 +1,4 @@
-// Whole commands over files, output and diagnostic output in memory: the words, the limit of a source, and calls that fail.
+// Whole commands over files, input, output and diagnostic output in memory: the words, the limit of a source, and calls that fail.
 // Whole sources stand in the data of the crate `examples`.
 
 use sim_base::Line;
@@ -9,11 +9,13 @@ use std::alloc::{AllocError, Global};
 use std::process::Abort;
 use std::test::Fail;
 
-// What is done to a command: the source in the file `source.sim`, and the calls that fail.
+// What is done to a command: the source in the file `source.sim`, the input, and the calls that fail.
 #[derive(Clone, Copy)]
 pub struct Setting<'a> {
     pub source: &'a [u8],
     pub files_failing: &'a [u64],
+    pub input: &'a [u8],
+    pub input_failing: &'a [u64],
     pub out_failing: &'a [u64],
     pub out_room: usize,
     pub diag_failing: &'a [u64],
@@ -33,6 +35,8 @@ pub fn sound(source: &[u8]) -> Setting<'_> {
     Setting {
         source,
         files_failing: &[],
+        input: b"",
+        input_failing: &[],
         out_failing: &[],
         out_room: 4096,
         diag_failing: &[],
@@ -63,7 +67,7 @@ pub fn check(
         Vec::from_slice(alloc, setting.source)?,
     );
     let mut files = MemFiles::new(alloc, &[file], setting.files_failing)?;
-    let mut input = MemSource::new(alloc, b"", &[])?;
+    let mut input = MemSource::new(alloc, setting.input, setting.input_failing)?;
     let mut out = MemSink::new(alloc, setting.out_failing, setting.out_room)?;
     let mut diag = MemSink::new(alloc, setting.diag_failing, setting.diag_room)?;
     let status: Status = simula(alloc, &words, &mut files, &mut input, &mut out, &mut diag);
@@ -201,12 +205,11 @@ fn outputs_that_fail(rt: HostRuntime) -> Result<(), Fail> {
         .enumerate()
     {
         let setting = Setting {
-            source,
-            files_failing: &[],
             out_failing,
             out_room,
             diag_failing,
             diag_room,
+            ..sound(source)
         };
         check(
             &rt,
@@ -220,17 +223,73 @@ fn outputs_that_fail(rt: HostRuntime) -> Result<(), Fail> {
     Ok(())
 }
 
-// What the static rules refuse is named before a form that does not run, but a source that needs classes is not asked them.
+// Reads that fail: nothing more is written then. What is not read does not fail.
+#[test]
+fn inputs_that_fail(rt: HostRuntime) -> Result<(), Fail> {
+    let numbers = b"begin while not lastitem do outint(inint, 4); outimage end".as_slice();
+    let lines =
+        b"begin outtext(\"a\"); outimage; outtext(\"b\"); inimage; outtext(\"c\"); outimage; inimage end".as_slice();
+    let reads_nothing =
+        b"begin outtext(\"a\"); if endfile then outtext(\"b\"); outint(sysin.pos,3) end".as_slice();
+    let fault = b"input fault\n".as_slice();
+    let at_end = b"line 1: E32 input is at its end\n".as_slice();
+    let rows = [
+        (
+            "run",
+            numbers,
+            [9],
+            0,
+            b"  12  -5   7\n".as_slice(),
+            b"".as_slice(),
+        ),
+        ("run", numbers, [0], 7, b"", fault),
+        ("run", lines, [0], 7, b"a\n", fault),
+        ("run", lines, [9], 0, b"a\nbc\n", b""),
+        ("run", reads_nothing, [0], 0, b"a 81\n", b""),
+        ("check", numbers, [0], 0, b"", b""),
+        (
+            "run",
+            b"begin inimage; inimage; inimage; inimage end",
+            [9],
+            2,
+            b"",
+            at_end,
+        ),
+    ];
+    for (row, (command, source, failing, status, out, diag)) in rows.into_iter().enumerate() {
+        let setting = Setting {
+            input: b"12 -5\n  7",
+            input_failing: &failing,
+            ..sound(source)
+        };
+        let words = [command, "source.sim"];
+        check(
+            &rt,
+            rt.alloc(),
+            row,
+            &words,
+            setting,
+            Wanted { status, out, diag },
+        )?;
+    }
+    Ok(())
+}
+
+// A form that does not run is named before the static rules are asked: for both commands what needs classes, for a run also parameters by
+// name and procedures as parameters.
 #[test]
 fn forms_that_do_not_run(rt: HostRuntime) -> Result<(), Fail> {
-    let text = b"begin outtext(\"x\") end".as_slice();
+    let by_name = b"begin procedure p(x); name x; integer x;; end".as_slice();
+    let passed = b"begin procedure p(x); procedure x;;\ni := 1 end".as_slice();
     let with_text = b"begin outtext(\"x\");\ni := 1 end".as_slice();
     let with_class = b"begin class a;;\ni := 1 end".as_slice();
     let not_built = b"line 1: Z1 form not built\n".as_slice();
     let undeclared = b"line 2: S10 identifier not declared\n".as_slice();
     let rows = [
-        ("run", text, 1, not_built),
-        ("check", text, 0, b"".as_slice()),
+        ("run", by_name, 1, not_built),
+        ("check", by_name, 0, b"".as_slice()),
+        ("run", passed, 1, not_built),
+        ("check", passed, 1, undeclared),
         ("run", with_text, 1, undeclared),
         ("check", with_text, 1, undeclared),
         ("run", with_class, 1, not_built),
@@ -285,7 +344,6 @@ fn statuses(rt: HostRuntime) -> Result<(), Fail> {
             "line 2: storage exhausted, 5 of 4000000 words used, 4000005 wanted",
         ),
         (ticks, 4, "tick limit 1000000000 reached"),
-        (Status::NoRule, 10, "no rule"),
     ];
     for (status, number, text) in rows {
         assert_eq!(rt; status.number(), number);

@@ -15,10 +15,10 @@ use Rattle.sim_values.specs.Images.{OutputState, is_used_up, all_placed, integer
 use Rattle.sim_values.specs.Plain.{Plain, Integer, Truth, Character, Text, Object, Nothing}
 use Rattle.sim_values.specs.Standard.{Function, applied, elsewhere, of_character, of_integer, of_integers, of_nothing, of_text, of_text_and_character, of_text_and_integer, of_text_and_integers, operands_of, row_of, standard_effect, take_character, take_integer, take_nothing, take_text}
 use Rattle.sim_values.specs.Store.{Effect, Store, output_of, writes}
-use Rattle.sim_values.specs.Texts.{characters}
+use Rattle.sim_values.specs.Texts.{assign, characters}
 use Rattle.sim_values.specs.Words.{array_words, is_exhausted}
 use Rattle.sim_code.specs.Outcome.{ArrayOf, Ending, Ended, Going, Run, World, after, next}
-use Rattle.sim_code.specs.Events.{answering, applying_one, applying_two, choosing, computing, entering, having, integer_in, no_rule, performing, pop_integers, pop_many, pop_plain, pop_plains, pop_truth, popping, stopping, taking, testing_step, ticking, truth_in, when}
+use Rattle.sim_code.specs.Events.{answering, applying_one, applying_two, assigning, choosing, computing, entering, having, integer_in, no_rule, performing, pop_integers, pop_many, pop_operands, pop_plain, pop_text, pop_truth, popping, putting_back, stopping, taking, testing_step, text_val, ticking, truth_in, when, with_texts}
 use Rattle.sim_code.specs.Arrays.{copying_array, element_place, finding_element, keeping_array, live_array, making_array}
 use Rattle.sim_code.specs.Growing.{Grown, written}
 
@@ -329,10 +329,13 @@ module _ (S : Type 0) where
     grows_integers zero got vals o go h = h got vals
     grows_integers (suc n) got vals o go h = grows_plain vals o _ (λ p rest. grows_having ℤ (integer_in p) o _ (λ z _. grows_integers n (z ∷ got) rest o go h))
 
-    pub grows_plains : (n : ℕ) (vals : List V) (o : World) (go : List Plain → List V → Run S) → ((values : List Plain) (rest : List V) → Grows o.store.written (go values rest)) → Grows o.store.written (pop_plains plain n vals o go)
-    unfolding pop_plains
-    grows_plains zero vals o go h = h [] vals
-    grows_plains (suc n) vals o go h = grows_plain vals o _ (λ p rest. grows_plains n rest o _ (λ ps rest. h (p ∷ ps) rest))
+    pub grows_text : (vals : List V) (o : World) (go : TextVal → List V → Run S) → ((t : TextVal) (rest : List V) → Grows o.store.written (go t rest)) → Grows o.store.written (pop_text plain vals o go)
+    unfolding pop_text
+    grows_text vals o go h = grows_plain vals o _ (λ p rest. grows_having TextVal (text_val p) o _ (λ t _. h t rest))
+
+    pub grows_assigning : (line : ℕ) (vals : List V) (o : World) (go : World → List V → Run S) → ((p : World) (rest : List V) → Grows p.store.written (go p rest)) → Grows o.store.written (assigning plain line vals o go)
+    unfolding assigning
+    grows_assigning line vals o go h = grows_text vals o _ (λ right rest. grows_text rest o _ (λ left rest. grows_computing (Unit {0}) line (assign o.store.frames left right).answer o _ (λ done. h (with_texts o (assign o.store.frames left right).frames) rest)))
 
     pub grows_one : (op : Monadic) (line : ℕ) (vals : List V) (o : World) (go : Plain → List V → Run S) → ((p : Plain) (rest : List V) → Grows o.store.written (go p rest)) → Grows o.store.written (applying_one plain op line vals o go)
     unfolding applying_one
@@ -350,22 +353,37 @@ module _ (S : Type 0) where
     unfolding finding_element
     grows_finding array_in n line vals o go h = grows_integers n [] vals o _ (λ subscripts rest. grows_popping rest o _ (λ v rest. grows_having ℕ (array_in v) o _ (λ array _. grows_having ArrayOf (live_array o array) o _ (λ a _. grows_computing ℕ line (element_place a.bounds subscripts) o _ (λ index. h array index rest)))))
 
-    performed : (l : Limits) (line : ℕ) (o p : World) (effect : Effect) (go : World → Option TextVal → Option Plain → List V → Run S) (rest : List V) → p.store ≡ o.store → Lasting o.store effect
-        → ((p : World) (moved : Option TextVal) (value : Option Plain) (rest : List V) → Grows p.store.written (go p moved value rest))
-        → Grows p.store.written (computing line effect.answer (record p { store = effect.store }) (λ value. go (record p { store = effect.store }) effect.moved value rest))
-    performed l line o p effect go rest same lasts h =
-        let q : World = record p { store = effect.store } in
-        let run : Run S = computing line effect.answer q (λ value. go q effect.moved value rest) in
-        let first : Grown p.store.written effect.store.written = subst (λ (s : Store). Grown s.written effect.store.written) (sym same) lasts in
-        let later : Grows effect.store.written run = grows_computing (Option Plain) line effect.answer q _ (λ value. h q effect.moved value rest) in
-        record { more = grown_then p.store.written effect.store.written (written run) first later.more }
+  -- a standard name, whose operands are read in a memory, and which may put a text back there
+  module _ (V M : Type 0) (read : World → M → V → Option Plain) (put : V → TextVal → World → M → (World → M → Run S) → Run S)
+      (puts : (v : V) (t : TextVal) (o : World) (m : M) (go : World → M → Run S) → ((o : World) (m : M) → Grows o.store.written (go o m)) → Grows o.store.written (put v t o m go)) where
+    grows_operands : (tell : V → Option Plain) (n : ℕ) (first : Option V) (vals : List V) (o : World) (go : List Plain → Option V → List V → Run S) → ((values : List Plain) (first : Option V) (rest : List V) → Grows o.store.written (go values first rest)) → Grows o.store.written (pop_operands tell n first vals o go)
+    unfolding pop_operands
+    grows_operands tell zero first vals o go h = h [] first vals
+    grows_operands tell (suc n) first vals o go h = grows_popping V (λ _. None) vals o _ (λ v rest. grows_having Plain (tell v) o _ (λ p _. grows_operands tell n (Some v) rest o _ (λ ps first rest. h (p ∷ ps) first rest)))
 
-    pub grows_performing : (l : Limits) (line : ℕ) (n : Standard) (vals : List V) (o : World) (go : World → Option TextVal → Option Plain → List V → Run S)
-        → ((p : World) (moved : Option TextVal) (value : Option Plain) (rest : List V) → Grows p.store.written (go p moved value rest)) → Grows o.store.written (performing plain l line n vals o go)
+    grows_back : (first : Option V) (moved : Option TextVal) (o : World) (m : M) (go : World → M → Run S) → ((o : World) (m : M) → Grows o.store.written (go o m)) → Grows o.store.written (putting_back put first moved o m go)
+    unfolding putting_back
+    grows_back None None o m go h = h o m
+    grows_back None (Some t) o m go h = h o m
+    grows_back (Some v) None o m go h = h o m
+    grows_back (Some v) (Some t) o m go h = puts v t o m go h
+
+    performed : (line : ℕ) (o p : World) (effect : Effect) (first : Option V) (m : M) (go : World → M → Option Plain → Run S) → p.store ≡ o.store → Lasting o.store effect
+        → ((p : World) (m : M) (value : Option Plain) → Grows p.store.written (go p m value))
+        → Grows p.store.written (computing line effect.answer (record p { store = effect.store }) (λ value. putting_back put first effect.moved (record p { store = effect.store }) m (λ p m. go p m value)))
+    performed line o p effect first m go same lasts h =
+        let q : World = record p { store = effect.store } in
+        let run : Run S = computing line effect.answer q (λ value. putting_back put first effect.moved q m (λ p m. go p m value)) in
+        let start : Grown p.store.written effect.store.written = subst (λ (s : Store). Grown s.written effect.store.written) (sym same) lasts in
+        let later : Grows effect.store.written run = grows_computing (Option Plain) line effect.answer q _ (λ value. grows_back first effect.moved q m _ (λ p m. h p m value)) in
+        record { more = grown_then p.store.written effect.store.written (written run) start later.more }
+
+    pub grows_performing : (l : Limits) (line : ℕ) (n : Standard) (vals : List V) (o : World) (m : M) (go : World → M → Option Plain → List V → Run S)
+        → ((p : World) (m : M) (value : Option Plain) (rest : List V) → Grows p.store.written (go p m value rest)) → Grows o.store.written (performing read put l line n vals o m go)
     unfolding performing
-    grows_performing l line n vals o go h =
-        grows_plains (length (operands_of (row_of n).function)) vals o _ (λ ps rest. grows_having Effect (standard_effect n ps o.store) o _
-        (λ effect is. grows_taking l line effect.wanted o _ (λ p same. performed l line o p effect go rest same (subst (If o.store) is (effect_lasts n ps o.store)) h)))
+    grows_performing l line n vals o m go h =
+        grows_operands (read o m) (length (operands_of (row_of n).function)) None vals o _ (λ ps first rest. grows_having Effect (standard_effect n ps o.store) o _
+        (λ effect is. grows_taking l line effect.wanted o _ (λ p same. performed line o p effect first m (λ p m value. go p m value rest) same (subst (If o.store) is (effect_lasts n ps o.store)) (λ p m value. h p m value rest))))
 
 -- ---- steps
 

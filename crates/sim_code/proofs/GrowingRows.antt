@@ -1,5 +1,5 @@
 -- Each row of the machine's table leaves what is written.
-use Rattle.std.proofs.Common.{◌≡◌, ℕ, zero, suc, ◌+◌, List, [], ◌∷◌, length, Option, Some, None, Bool, true, false, refl, sym, subst, ap, ◌∙◌}
+use Rattle.std.proofs.Common.{◌≡◌, ℕ, zero, suc, List, [], ◌∷◌, length, Option, Some, None, Bool, true, false, refl, sym, subst, ap, ◌∙◌}
 use Rattle.std.specs.Prelude.{◌==◌, ◌*◌, ℤ, pos, negsuc, slice_get, slice_set, if◌then◌else◌}
 use Rattle.sim_base.specs.declared.limits.Limits.{Limits}
 use Rattle.sim_values.specs.declared.kind.Kind.{Kind}
@@ -7,20 +7,23 @@ use Rattle.sim_values.specs.declared.operators.Comparison.{Comparison}
 use Rattle.sim_values.specs.declared.operators.Dyadic.{Dyadic}
 use Rattle.sim_values.specs.declared.operators.Monadic.{Monadic}
 use Rattle.sim_values.specs.declared.standard.Standard.{Standard}
-use Rattle.sim_values.specs.Plain.{Plain, Truth}
+use Rattle.sim_values.specs.declared.value.TextVal.{TextVal}
+use Rattle.sim_values.specs.Plain.{Plain, Text}
+use Rattle.sim_values.specs.Store.{Store, image_at, with_image}
+use Rattle.sim_values.specs.Texts.{same_text}
 use Rattle.sim_code.specs.declared.code.BlockKind.{BlockKind}
 use Rattle.sim_code.specs.declared.instr.Instr.{Instr}
 use Rattle.sim_code.specs.declared.instr.Instr.TheVariants as i
 use Rattle.sim_code.specs.declared.instr.Lined.{Lined}
 use Rattle.sim_code.specs.Code.{BlockOf, CodeOf}
-use Rattle.sim_code.specs.Outcome.{ArrayOf, Going, Run, World, after}
-use Rattle.sim_code.specs.Events.{having, no_rule, when}
+use Rattle.sim_code.specs.Outcome.{ArrayOf, Going, Run, World}
+use Rattle.sim_code.specs.Events.{image_moved, image_set, no_rule, text_val}
 use Rattle.sim_code.specs.Arrays.{element, element_set, element_set_in, giving_back, handed_over, live_array, owned_by, with_array}
 use Rattle.sim_code.specs.Instances.{CellPlace, ElementPlace, ImagePlace, Place, at_level, is_given_at_end, is_live}
-use Rattle.sim_code.specs.Machine.{Activation, Cells, Frames, Machine, arrays_by_value, words_of_block, Value, array_in, block_at, cell, cell_at, cell_set, frame_in, index, is_there, is_tick, jumping, leaving, level, number, own_block, owner, place_in, plain, pushing, pushing_any, same_kind, text_in, value_at, with_result}
-use Rattle.sim_code.specs.Rows.{code_of, comparison_of, element_kind, entering_procedure, first_step, mstep, mrun, no_class, on_chain, on_top, one_row, opening, pushed, putting, row, standard_of, truth_of, two_row}
+use Rattle.sim_code.specs.Machine.{Activation, Address, ArrayValue, Cells, Frames, Link, Machine, Of, ProcedureValue, ThunkValue, Value, arrays_by_value, words_of_block, array_in, block_at, cell, cell_at, cell_set, frame_in, index, jumping, leaving, level, number, operand, own_block, owner, place_in, plain, pushing, pushing_any, same_kind, value_at, with_result}
+use Rattle.sim_code.specs.Rows.{code_of, comparison_of, element_kind, entering_procedure, mstep, mrun, no_class, on_chain, one_row, opening, pushed, put_back, putting, row, standard_of, truth_of, two_row}
 use Rattle.sim_code.specs.Growing.{Grown, OutputGrows, written}
-use Rattle.sim_code.proofs.Growing.{Grows, after_grows, after_more, grown_same, grows_choosing, grows_computing, grows_copying, grows_entering, grows_finding, grows_having, grows_if, grows_integers, grows_keeping, grows_making, grows_many, grows_no_rule, grows_one, grows_performing, grows_plain, grows_popping, grows_step, grows_stopping, grows_ticking, grows_truth, grows_two, grows_when}
+use Rattle.sim_code.proofs.Growing.{Grows, after_grows, after_more, grown_same, grows_assigning, grows_choosing, grows_copying, grows_entering, grows_finding, grows_having, grows_if, grows_integers, grows_keeping, grows_making, grows_many, grows_no_rule, grows_one, grows_performing, grows_popping, grows_step, grows_stopping, grows_ticking, grows_truth, grows_two, grows_when}
 
 -- going on here writes nothing
 abbrev Here : World → Run Machine → Type 0
@@ -97,13 +100,40 @@ set_same o n i v p is = by_parts (live_array o n) (element o n i) is
     by_parts (Some a) None is = absurd (cc)
     by_parts None old is = absurd (cc)
 
+image_same : (o : World) (n : ℕ) (v : Plain) (p : World) → image_set o n v ≡ Some p → p.store.written ≡ o.store.written
+image_same o n v p is = by_image (image_at o.store n) (text_val v) is
+  where
+    with_same : (s : Store) (n : ℕ) (t : TextVal) → (with_image s n t).written ≡ s.written
+    with_same s zero t = refl
+    with_same s (suc zero) t = refl
+    with_same s (suc (suc n)) t = refl
+
+    if_moved : (b : Bool) (t : TextVal) → (if b then Some (record o { store = with_image o.store n t }) else None) ≡ Some p → p.store.written ≡ o.store.written
+    if_moved true t is = let same : record o { store = with_image o.store n t } ≡ p = cc in ap (λ (w : World). w.store.written) (sym same) ∙ with_same o.store n t
+    if_moved false t is = absurd (cc)
+
+    by_image : (image moved : Option TextVal) → image_moved o n image moved ≡ Some p → p.store.written ≡ o.store.written
+    by_image (Some image) (Some t) is = if_moved (same_text image t) t is
+    by_image (Some image) None is = absurd (cc)
+    by_image None (Some t) is = absurd (cc)
+    by_image None None is = absurd (cc)
+
 putting_grows : (p : Place ℕ ℕ) (v : Value) (o : World) (m : Frames) (go : World → Frames → Run Machine) → ((o : World) (m : Frames) → Here o (go o m)) → Here o (putting p v o m go)
 unfolding putting
 putting_grows (CellPlace j c zero) v o m go h = grows_having Machine Frames (cell_set m j c v) o _ (λ m _. h o m)
 putting_grows (CellPlace j c (suc k)) v o m go h = grows_no_rule Machine o
 putting_grows (ElementPlace a n zero) v o m go h = grows_having Machine Plain (plain v) o _ (λ p _. grows_having Machine World (element_set o a n p) o _ (λ q is. subst (λ w. Grows w (go q m)) (set_same o a n p q is) (h q m)))
 putting_grows (ElementPlace a n (suc k)) v o m go h = grows_no_rule Machine o
-putting_grows (ImagePlace n) v o m go h = grows_no_rule Machine o
+putting_grows (ImagePlace n) v o m go h = grows_having Machine Plain (plain v) o _ (λ p _. grows_having Machine World (image_set o n p) o _ (λ q is. subst (λ w. Grows w (go q m)) (image_same o n p q is) (h q m)))
+
+back_grows : (v : Value) (t : TextVal) (o : World) (m : Frames) (go : World → Frames → Run Machine) → ((o : World) (m : Frames) → Here o (go o m)) → Here o (put_back v t o m go)
+unfolding put_back
+back_grows (Of p) t o m go h = h o m
+back_grows (Link j) t o m go h = h o m
+back_grows (Address p) t o m go h = putting_grows p (Of (Text t)) o m go h
+back_grows (ArrayValue a) t o m go h = h o m
+back_grows (ProcedureValue b p) t o m go h = h o m
+back_grows (ThunkValue k j) t o m go h = h o m
 
 -- ---- the rows
 
@@ -137,7 +167,7 @@ row_grows code l o m a below line (i.Link z) = level_grows m a z o _ (λ j. push
 row_grows code l o m a below line (i.This z) = none o
 row_grows code l o m a below line (i.Addr z c class) = grows_having Machine (Unit {0}) (no_class class) o _ (λ _ _. cell_grows m a z c o _ (λ j c. push_grows o m a below _))
 row_grows code l o m a below line (i.AddrR c class) = none o
-row_grows code l o m a below line (i.AddrImg z) = none o
+row_grows code l o m a below line (i.AddrImg z) = index_grows z o _ (λ n. grows_having Machine TextVal (image_at o.store n) o _ (λ _ _. push_grows o m a below _))
 row_grows code l o m a below line (i.Elem n class) = grows_having Machine (Unit {0}) (no_class class) o _ (λ _ _. index_grows n o _ (λ n. grows_finding Machine Value plain array_in n line a.stack o _ (λ array k stack. going o _)))
 row_grows code l o m a below line i.Fetch = grows_popping Machine Value plain a.stack o _ (λ v stack. grows_having Machine (Place ℕ ℕ) (place_in v) o _ (λ p _. grows_having Machine Value (value_at o m p) o _ (λ v _. going o _)))
 row_grows code l o m a below line i.Put = grows_popping Machine Value plain a.stack o _ (λ v stack. grows_popping Machine Value plain stack o _ (λ p stack. grows_having Machine (Place ℕ ℕ) (place_in p) o _ (λ p _. putting_grows p v o m _ (λ o m. going o _))))
@@ -191,8 +221,8 @@ row_grows code l o m a below line (i.EndLevel (negsuc n)) = none o
 row_grows code l o m a below line (i.Array z n) = grows_having Machine Kind (element_kind z) o _ (λ kind _. index_grows n o _ (λ n. grows_integers Machine Value plain (2 * n) [] a.stack o _ (λ bounds stack. grows_making Machine l line a.home kind _ o _ (λ array p. pushed_grows a.room stack _ p _ (λ s. going p _)))))
 row_grows code l o m a below line i.CopyArr = grows_popping Machine Value plain a.stack o _ (λ v stack. grows_having Machine ℕ (array_in v) o _ (λ array _. grows_copying Machine l line a.home array o _ (λ copy p. going p _)))
 row_grows code l o m a below line i.Keep = grows_popping Machine Value plain a.stack o _ (λ v stack. grows_having Machine ℕ (array_in v) o _ (λ array _. grows_keeping Machine array o _ (λ p. going p _)))
-row_grows code l o m a below line i.AssignT = none o
-row_grows code l o m a below line (i.Std z) = grows_having Machine Standard (standard_of z) o _ (λ name _. grows_when Machine _ o _ (grows_performing Machine Value plain l line name a.stack o _ (λ p moved value stack. going p _)))
+row_grows code l o m a below line i.AssignT = grows_assigning Machine Value plain line a.stack o _ (λ p stack. going p _)
+row_grows code l o m a below line (i.Std z) = grows_having Machine Standard (standard_of z) o _ (λ name _. grows_when Machine _ o _ (grows_performing Machine Value Frames operand put_back back_grows l line name a.stack o m _ (λ p m value stack. going p _)))
 row_grows code l o m a below line (i.Act z) = none o
 row_grows code l o m a below line i.Detach = none o
 row_grows code l o m a below line i.Attach = none o

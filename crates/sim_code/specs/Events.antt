@@ -8,9 +8,10 @@ use Rattle.sim_values.specs.declared.operators.Monadic.{Monadic}
 use Rattle.sim_values.specs.declared.standard.Standard.{Standard}
 use Rattle.sim_values.specs.declared.value.TextVal.{TextVal}
 use Rattle.sim_values.specs.Operators.{Answer, one_of, step_test, two_of}
-use Rattle.sim_values.specs.Plain.{Plain, Integer, Truth}
+use Rattle.sim_values.specs.Plain.{Plain, Integer, Truth, Text}
 use Rattle.sim_values.specs.Standard.{operands_of, row_of, standard_effect}
-use Rattle.sim_values.specs.Store.{closing_store}
+use Rattle.sim_values.specs.Store.{closing_store, image_at, with_frames, with_image}
+use Rattle.sim_values.specs.Texts.{Frame, Making, assign, concatenated, same_text}
 use Rattle.sim_values.specs.Words.{is_exhausted}
 use Rattle.sim_code.specs.Outcome.{World, Ending, RunFault, StorageExhausted, TickLimit, NoRule, Run, Ended}
 
@@ -95,10 +96,13 @@ unfoldable pub pop_integers : {V S : Type 0} → (plain : V → Option Plain) �
 pop_integers plain zero got stack o go = go got stack
 pop_integers plain (suc n) got stack o go = pop_plain plain stack o (λ v rest. having (integer_in v) o (λ z. pop_integers plain n (z ∷ got) rest o go))
 
--- as many plain values, the last one first
-unfoldable pub pop_plains : {V S : Type 0} → (plain : V → Option Plain) → ℕ → List V → World → (List Plain → List V → Run S) → Run S
-pop_plains plain zero stack o go = go [] stack
-pop_plains plain (suc n) stack o go = pop_plain plain stack o (λ v rest. pop_plains plain n rest o (λ vs rest. go (v ∷ vs) rest))
+abbrev pub text_val : Plain → Option TextVal
+text_val (Text t) = Some t
+text_val _ = None
+
+-- a text
+unfoldable pub pop_text : {V S : Type 0} → (plain : V → Option Plain) → List V → World → (TextVal → List V → Run S) → Run S
+pop_text plain stack o go = pop_plain plain stack o (λ v rest. having (text_val v) o (λ t. go t rest))
 
 -- ---- operators
 
@@ -120,12 +124,68 @@ testing_step plain line stack o go =
 
 -- ---- standard names
 
--- A standard name does what it does to the texts and images, with the words of a text that it makes. It goes on with its text operand
--- at another position, if it moves that, and with its value, if it has one.
-unfoldable pub performing : {V S : Type 0} → (plain : V → Option Plain) → Limits → (line : ℕ) → Standard → List V → World → (World → Option TextVal → Option Plain → List V → Run S) → Run S
-performing plain l line name stack o go =
-    pop_plains plain (length (operands_of (row_of name).function)) stack o (λ vs rest.
+-- A text operand may be an address, and then is the text that is there when the name is performed. So the operands are read in a memory M.
+-- They come last one first, and with them where the first one, which a name may move, came from.
+unfoldable pub pop_operands : {V S : Type 0} → (read : V → Option Plain) → ℕ → (first : Option V) → List V → World → (List Plain → Option V → List V → Run S) → Run S
+pop_operands read zero first stack o go = go [] first stack
+pop_operands read (suc n) first stack o go =
+    popping stack o (λ v rest. having (read v) o (λ p. pop_operands read n (Some v) rest o (λ ps first rest. go (p ∷ ps) first rest)))
+
+-- what an operand read at an address is: a text, or nothing
+abbrev pub only_text : Option Plain → Option Plain
+only_text (Some (Text t)) = Some (Text t)
+only_text _ = None
+
+-- a text with another position is put back to where it came from
+unfoldable pub putting_back : {V M S : Type 0} → (put : V → TextVal → World → M → (World → M → Run S) → Run S) → (first : Option V) → (moved : Option TextVal) → World → M → (World → M → Run S) → Run S
+putting_back put (Some v) (Some t) o m go = put v t o m go
+putting_back put _ _ o m go = go o m
+
+-- A standard name does what it does to the texts and images, with the words of a text that it makes, and puts its text operand back where
+-- it has moved that. It goes on with its value, if it has one.
+unfoldable pub performing : {V M S : Type 0} → (read : World → M → V → Option Plain) → (put : V → TextVal → World → M → (World → M → Run S) → Run S)
+    → Limits → (line : ℕ) → Standard → List V → World → M → (World → M → Option Plain → List V → Run S) → Run S
+performing read put l line name stack o m go =
+    pop_operands (read o m) (length (operands_of (row_of name).function)) None stack o (λ vs first rest.
     having (standard_effect name vs o.store) o (λ effect.
     taking l line effect.wanted o (λ p.
     computing line effect.answer (record p { store = effect.store }) (λ value.
-    go (record p { store = effect.store }) effect.moved value rest))))
+    putting_back put first effect.moved (record p { store = effect.store }) m (λ p m. go p m value rest)))))
+
+-- ---- texts
+
+abbrev pub with_texts : World → List Frame → World
+with_texts o frames = record o { store = with_frames o.store frames }
+
+-- `left := right`, with the right text on top
+unfoldable pub assigning : {V S : Type 0} → (plain : V → Option Plain) → (line : ℕ) → List V → World → (World → List V → Run S) → Run S
+assigning plain line stack o go =
+    pop_text plain stack o (λ right rest. pop_text plain rest o (λ left rest.
+    computing line (assign o.store.frames left right).answer o (λ done. go (with_texts o (assign o.store.frames left right).frames) rest)))
+
+-- a text is made, with its words
+unfoldable pub making_text : {S : Type 0} → Limits → (line : ℕ) → Making → World → (TextVal → World → Run S) → Run S
+making_text l line making o go = taking l line making.wanted o (λ p. computing line making.answer (with_texts p making.frames) (λ t. go t (with_texts p making.frames)))
+
+-- `a & b`: the lengths of both texts are found as `length` finds them, which asks for no words; then the new text is made
+unfoldable pub joining : {V S : Type 0} → (plain : V → Option Plain) → Limits → (line : ℕ) → List V → World → (Plain → World → List V → Run S) → Run S
+joining plain l line stack o go =
+    pop_text plain stack o (λ b rest. pop_text plain rest o (λ a rest. taking l line 0 o (λ p. making_text l line (concatenated p.store.frames a b) p (λ t p. go (Text t) p rest))))
+
+-- ---- images
+
+-- the image of sysin, 0, or of sysout, 1
+abbrev pub text_of : Option TextVal → Option Plain
+text_of None = None
+text_of (Some t) = Some (Text t)
+
+abbrev pub image_value : World → ℕ → Option Plain
+image_value o n = text_of (image_at o.store n)
+
+-- an image moved to the position of a text that is that image; none where it is another text
+abbrev pub image_moved : World → ℕ → (image moved : Option TextVal) → Option World
+image_moved o n (Some image) (Some t) = if same_text image t then Some (record o { store = with_image o.store n t }) else None
+image_moved o n _ _ = None
+
+abbrev pub image_set : World → ℕ → Plain → Option World
+image_set o n p = image_moved o n (image_at o.store n) (text_val p)

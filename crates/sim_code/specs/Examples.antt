@@ -1,7 +1,7 @@
 -- Small codes. The line of an instruction is its place, counted from 1.
 use Rattle.std.specs.Prelude.{◌≡◌, ℕ, ◌+◌, true, pos, negsuc, List, [], ◌∷◌, Option, Some, None, codes}
 use Rattle.sim_base.specs.declared.limits.Limits.{Limits}
-use Rattle.sim_base.specs.declared.run_error.RunError.TheVariants.{SubscriptOutOfBounds, ZeroDivisor}
+use Rattle.sim_base.specs.declared.run_error.RunError.TheVariants.{GetcharPastEnd, SubscriptOutOfBounds, TextTooLong, ZeroDivisor}
 use Rattle.sim_code.specs.declared.code.BlockKind.{BlockKind}
 use Rattle.sim_code.specs.declared.code.BlockKind.TheVariants as kind
 use Rattle.sim_code.specs.declared.code.CodeType.{CodeType}
@@ -42,8 +42,11 @@ inner cells types room entry = block kind.SubBlock 2 cells type.Nothing types ro
 abbrev pub procedure : CodeType → (cells : ℕ) → List CodeType → (room entry : ℕ) → BlockOf
 procedure result_type cells types room entry = block kind.Procedure 2 cells result_type types room entry
 
+abbrev pub code_with_texts : List (List ℕ) → List BlockOf → List Lined → CodeOf
+code_with_texts texts blocks instrs = record { texts = texts; blocks = blocks; classes = []; thunks = []; actual_lists = []; instrs = instrs }
+
 abbrev pub code : List BlockOf → List Lined → CodeOf
-code blocks instrs = record { texts = []; blocks = blocks; classes = []; thunks = []; actual_lists = []; instrs = instrs }
+code blocks instrs = code_with_texts [] blocks instrs
 
 -- ((10 - 2 * 3) // 2) ** 3 in a field of four places, made on the stack in all sorts of ways
 abbrev pub arithmetic : CodeOf
@@ -68,6 +71,25 @@ array_code = code (main 2 (type.Nothing ∷ type.Nothing ∷ []) 3 0 ∷ []) (at
 -- the test of a step element on unbounded numbers: the step, the variable, the limit
 abbrev pub step_code : CodeOf
 step_code = code (main 0 [] 3 0 ∷ []) (at 1 (i.Int (pos 2)) ∷ at 2 (i.Int (pos 9)) ∷ at 3 (i.Int (negsuc 8)) ∷ at 4 i.StepTest ∷ at 5 (i.JumpF (pos 6)) ∷ at 6 (i.Std (pos 37)) ∷ at 7 (i.Int (negsuc 0)) ∷ at 8 (i.Int (pos 9)) ∷ at 9 (i.Int (negsuc 8)) ∷ at 10 i.StepTest ∷ at 11 (i.JumpF (pos 12)) ∷ at 12 (i.Std (pos 37)) ∷ at 13 (i.Int (pos 1)) ∷ at 14 (i.Int (pos 0)) ∷ at 15 i.Div ∷ at 16 i.Halt ∷ [])
+
+-- a copy of a constant in a cell, of which `getchar` and `putchar` get the address: its position moves; the value alone moves none
+abbrev pub addresses : CodeOf
+addresses = code_with_texts (codes "ab" ∷ []) (main 1 (type.Text ∷ []) 3 0 ∷ []) (at 1 (i.TextK (pos 0)) ∷ at 2 (i.Std (pos 15)) ∷ at 3 (i.Store (pos 1) (pos 0)) ∷ at 4 (i.Addr (pos 1) (pos 0) (pos 0)) ∷ at 5 (i.Std (pos 25)) ∷ at 6 (i.Std (pos 38)) ∷ at 7 (i.Addr (pos 1) (pos 0) (pos 0)) ∷ at 8 (i.Char (pos 88)) ∷ at 9 (i.Std (pos 26)) ∷ at 10 (i.Load (pos 1) (pos 0)) ∷ at 11 (i.Std (pos 39)) ∷ at 12 (i.Load (pos 1) (pos 0)) ∷ at 13 (i.Std (pos 21)) ∷ at 14 (i.Int (pos 0)) ∷ at 15 (i.Std (pos 40)) ∷ at 16 (i.Load (pos 1) (pos 0)) ∷ at 17 (i.Std (pos 25)) ∷ [])
+
+-- a text of blanks that a shorter one is assigned to, which is not equal to that, and then a longer one
+abbrev pub assignment : CodeOf
+assignment = code_with_texts (codes "abc" ∷ codes "xyz12" ∷ []) (main 1 (type.Text ∷ []) 3 0 ∷ []) (at 1 (i.Int (pos 4)) ∷ at 2 (i.Std (pos 14)) ∷ at 3 (i.Store (pos 1) (pos 0)) ∷ at 4 (i.Load (pos 1) (pos 0)) ∷ at 5 (i.TextK (pos 0)) ∷ at 6 i.AssignT ∷ at 7 (i.Load (pos 1) (pos 0)) ∷ at 8 (i.Std (pos 39)) ∷ at 9 (i.Load (pos 1) (pos 0)) ∷ at 10 (i.TextK (pos 0)) ∷ at 11 (i.RelT (pos 2)) ∷ at 12 (i.JumpF (pos 13)) ∷ at 13 i.Halt ∷ at 14 (i.Load (pos 1) (pos 0)) ∷ at 15 (i.TextK (pos 1)) ∷ at 16 i.AssignT ∷ [])
+
+-- the position of the image of sysout is set, read and put back; that of sysin is behind its last character
+abbrev pub image_code : CodeOf
+image_code = code (main 0 [] 3 0 ∷ []) (at 1 (i.AddrImg (pos 1)) ∷ at 2 (i.Int (pos 3)) ∷ at 3 (i.Std (pos 24)) ∷ at 4 (i.Char (pos 99)) ∷ at 5 (i.Std (pos 38)) ∷ at 6 (i.AddrImg (pos 1)) ∷ at 7 i.Fetch ∷ at 8 (i.Std (pos 21)) ∷ at 9 (i.Int (pos 0)) ∷ at 10 (i.Std (pos 40)) ∷ at 11 (i.AddrImg (pos 0)) ∷ at 12 (i.Std (pos 21)) ∷ at 13 (i.Int (pos 3)) ∷ at 14 (i.Std (pos 40)) ∷ at 15 (i.AddrImg (pos 1)) ∷ at 16 (i.AddrImg (pos 1)) ∷ at 17 i.Fetch ∷ at 18 i.Put ∷ at 19 (i.EndLevel (pos 0)) ∷ [])
+
+-- no text is put in the place of an image, and there are two images
+abbrev pub foreign_image : CodeOf
+foreign_image = code (main 0 [] 2 0 ∷ []) (at 1 (i.AddrImg (pos 1)) ∷ at 2 i.NoText ∷ at 3 i.Put ∷ [])
+
+abbrev pub third_image : CodeOf
+third_image = code (main 0 [] 2 0 ∷ []) (at 1 (i.AddrImg (pos 2)) ∷ [])
 
 -- nothing to drop
 abbrev pub empty_stack : CodeOf
@@ -115,6 +137,11 @@ pub record Worked : Type 0 where
   pub result_given : seen procedure_code (limits 1000 100) 100 ≡ shows (codes " 4\n") 2 4 Normal
   pub copy_apart : seen array_code (limits 1000 100) 100 ≡ shows (codes "80\n") 1 22 (RunFault SubscriptOutOfBounds 28)
   pub step_tested : seen step_code (limits 1000 100) 100 ≡ shows (codes "\n") 1 4 (RunFault ZeroDivisor 15)
+  pub address_moved : seen addresses (limits 1000 100) 100 ≡ shows (codes "aaX3\n") 1 8 (RunFault GetcharPastEnd 17)
+  pub text_assigned : seen assignment (limits 1000 100) 100 ≡ shows (codes "abc\n") 1 8 (RunFault TextTooLong 16)
+  pub image_moved : seen image_code (limits 1000 100) 100 ≡ shows (codes "  c4 81\n") 1 4 Normal
+  pub not_an_image : stops_at foreign_image 3 ≡ Some 2
+  pub no_third_image : stops_at third_image 1 ≡ Some 0
   pub without_value : stops_at empty_stack 1 ≡ Some 0
   pub without_room : stops_at no_room 2 ≡ Some 1
   pub without_tick : stops_at wild_jump 3 ≡ Some 2

@@ -1,4 +1,5 @@
--- What of the table the machine that is built does: all but what makes or reads texts and what reads the input.
+-- What of the table the machine that is built does: all but what is of classes, names of components, sets and simulations, and names of
+-- both images, which have no row.
 use Rattle.std.specs.Prelude.{◌≡◌, ℕ, Bool, true, false, List, slice_get, Option, Some, None}
 use Rattle.sim_values.specs.declared.standard.Standard.{Standard}
 use Rattle.sim_values.specs.declared.standard.Standard.TheVariants as name
@@ -7,7 +8,7 @@ use Rattle.sim_code.specs.declared.instr.Instr.TheVariants as i
 use Rattle.sim_code.specs.declared.instr.Lined.{Lined}
 use Rattle.sim_code.specs.Rows.{standard_of}
 
--- the functions of integers and characters, and the output of numbers, characters and lines
+-- the names of numbers, characters, texts, the input and the output
 abbrev pub name_runs : Standard → Bool
 name_runs name.Abs = true
 name_runs name.Sign = true
@@ -23,8 +24,32 @@ name_runs name.Isochar = true
 name_runs name.Isorank = true
 name_runs name.Digit = true
 name_runs name.Letter = true
+name_runs name.Blanks = true
+name_runs name.Copy = true
+name_runs name.Upcase = true
+name_runs name.Lowcase = true
+name_runs name.TextConstant = true
+name_runs name.TextStart = true
+name_runs name.TextLength = true
+name_runs name.TextPos = true
+name_runs name.TextMore = true
+name_runs name.TextMain = true
+name_runs name.TextSetpos = true
+name_runs name.TextGetchar = true
+name_runs name.TextPutchar = true
+name_runs name.TextSub = true
+name_runs name.TextStrip = true
+name_runs name.TextGetint = true
+name_runs name.TextPutint = true
+name_runs name.Inimage = true
+name_runs name.Inchar = true
+name_runs name.Inint = true
+name_runs name.Intext = true
+name_runs name.Lastitem = true
+name_runs name.Endfile = true
 name_runs name.Outimage = true
 name_runs name.Outchar = true
+name_runs name.Outtext = true
 name_runs name.Outint = true
 name_runs _ = false
 
@@ -33,10 +58,6 @@ standard_runs None = true
 standard_runs (Some name) = name_runs name
 
 abbrev pub runs : Instr → Bool
-runs (i.TextK z) = false
-runs i.NoText = false
-runs (i.RelT z) = false
-runs i.SameT = false
 runs (i.Std z) = standard_runs (standard_of z)
 runs _ = true
 

@@ -11,14 +11,14 @@ use Rattle.sim_driver.specs.declared.words.Command.{Command}
 use Rattle.sim_driver.proofs.Prefixes.{AddsPrefix-whole}
 
 -- what means something has an answer
-pub answered : (command : Command) (source : List ℕ) → (meaning : Meaning) × SourceMeans command source meaning → (answer : Answer) × IsSourceAnswer command source answer
-answered command source (meaning, means) = (meant meaning, record { meaning = meaning; means = means; same = refl })
+pub answered : (command : Command) (source input : List ℕ) → (meaning : Meaning) × SourceMeans command source input meaning → (answer : Answer) × IsSourceAnswer command source input answer
+answered command source input (meaning, means) = (meant meaning, record { meaning = meaning; means = means; same = refl })
 
 -- what ended and wrote as each meaning says gave the answer
-pub given : (command : Command) (source : List ℕ) (ending : Ending) (status : Status) (old new : Option (List ℕ)) (answer : Answer) → status ≡ status_of ending
-    → ((meaning : Meaning) → SourceMeans command source meaning → (ending ≡ meaning.ending) × Appends old new meaning.output)
-    → IsSourceAnswer command source answer → Gives answer status old new
-given command source ending status old new answer is does means =
+pub given : (command : Command) (source input : List ℕ) (ending : Ending) (status : Status) (old new : Option (List ℕ)) (answer : Answer) → status ≡ status_of ending
+    → ((meaning : Meaning) → SourceMeans command source input meaning → (ending ≡ meaning.ending) × Appends old new meaning.output)
+    → IsSourceAnswer command source input answer → Gives answer status old new
+given command source input ending status old new answer is does means =
     let done = does means.meaning means.means in
     record {
       ends = is ∙ ap status_of done.0 ∙ sym (ap (λ (a : Answer). a.status) means.same);
@@ -26,15 +26,15 @@ given command source ending status old new answer is does means =
     }
 
 -- what begins the output of each meaning begins that of the answer
-pub begun : (command : Command) (source : List ℕ) (old new : Option (List ℕ)) (answer : Answer)
-    → ((meaning : Meaning) → SourceMeans command source meaning → AddsPrefix old new meaning.output)
-    → IsSourceAnswer command source answer → AddsPrefix old new answer.output
-begun command source old new answer part means =
+pub begun : (command : Command) (source input : List ℕ) (old new : Option (List ℕ)) (answer : Answer)
+    → ((meaning : Meaning) → SourceMeans command source input meaning → AddsPrefix old new meaning.output)
+    → IsSourceAnswer command source input answer → AddsPrefix old new answer.output
+begun command source input old new answer part means =
     subst (λ (a : Answer). AddsPrefix old new a.output) (sym means.same) (part means.meaning means.means)
 
 -- what was written whole begins itself
-pub begun_whole : (command : Command) (source : List ℕ) (ending : Ending) (old new : Option (List ℕ)) (answer : Answer)
-    → ((meaning : Meaning) → SourceMeans command source meaning → (ending ≡ meaning.ending) × Appends old new meaning.output)
-    → IsSourceAnswer command source answer → AddsPrefix old new answer.output
-begun_whole command source ending old new answer does means =
-    begun command source old new answer (λ meaning is. AddsPrefix-whole old new meaning.output (does meaning is).1) means
+pub begun_whole : (command : Command) (source input : List ℕ) (ending : Ending) (old new : Option (List ℕ)) (answer : Answer)
+    → ((meaning : Meaning) → SourceMeans command source input meaning → (ending ≡ meaning.ending) × Appends old new meaning.output)
+    → IsSourceAnswer command source input answer → AddsPrefix old new answer.output
+begun_whole command source input ending old new answer does means =
+    begun command source input old new answer (λ meaning is. AddsPrefix-whole old new meaning.output (does meaning is).1) means

@@ -1,5 +1,5 @@
 -- What a command makes of a source, step by step, and that it is one thing at most.
-use Rattle.std.proofs.Common.{◌≡◌, ℕ, Bool, true, false, List, length, Option, Result, OnOk, Ok, Err, subst, refl, sym, ap, ◌∙◌}
+use Rattle.std.proofs.Common.{◌≡◌, ℕ, Bool, true, false, ◌||◌, List, refl, length, Option, Result, OnOk, Ok, Err, subst, sym, ap, ◌∙◌}
 use Rattle.sim_base.specs.Place.{line_at}
 use Rattle.sim_base.specs.declared.numbering.Line.{Line}
 use Rattle.sim_base.specs.declared.numbering.TokenNo.{TokenNo}
@@ -22,12 +22,15 @@ use Rattle.sim_scope.specs.declared.types.SimType.{SimType}
 use Rattle.sim_scope.specs.Source.{Source, source_of}
 use Rattle.sim_scope.specs.Tables.{Tables}
 use Rattle.sim_static.specs.Check.{Allowed, Checked, Refused, answer, check_of}
-use Rattle.sim_static.specs.NeedsClasses.{NeedsClasses, needs_from}
-use Rattle.sim_driver.specs.Compiling.{Answers, Bad, BoundCompiles, CheckBinds, CheckRejects, CheckedCompiles, Compiled, Deep, IsBad, IsDeep, IsParsed, LexedCompiles, Parsed, ParsedCompiles, Rejected, Same, SourceBinds, SourceCompiles, SourceRejects, TokensCompile, TokensReject, TreeBinds, TreeCompiles, TreeCompilesIf, TreeRejects, Whole, source_with, token_line}
+use Rattle.sim_static.specs.CodeParameters.{passes_code}
+use Rattle.sim_static.specs.NeedsClasses.{needs_from}
+use Rattle.sim_built.specs.Allowed.{IsAllowed}
+use Rattle.sim_run.specs.RunEnds.{IsRunnable}
+use Rattle.sim_driver.specs.Compiling.{Answers, Bad, BindsAs, BoundCompiles, CheckBinds, CheckRejects, ChecksAs, CheckedCompiles, Compiled, Deep, IsBad, IsDeep, IsParsed, LexedCompiles, Parsed, ParsedCompiles, Rejected, Same, SourceBinds, SourceCompiles, SourceRejects, TokensCompile, TokensReject, TreeBinds, TreeCompiles, TreeCompilesIf, TreeRejects, Whole, lacks_form, source_with, token_line}
 use Rattle.sim_driver.specs.declared.compiling.Refusal.{Refusal}
 use Rattle.sim_driver.specs.declared.compiling.Refusal.TheVariants as refusal
 use Rattle.sim_driver.specs.declared.words.Command.{Command}
-use Rattle.sim_driver.specs.declared.words.Command.TheVariants.{Run, Check}
+use Rattle.sim_driver.specs.declared.words.Command.TheVariants.{Check, Run}
 
 -- what holds, holds of an Ok
 pub holds_on_ok : {T E P : Type 0} (r : Result T E) → P → OnOk r P
@@ -88,7 +91,9 @@ move_if false command tokens p q same checked c is = subst (λ k. CheckedCompile
 
 -- a command makes the same of two trees of the same tokens
 move_tree : OneSyntax → (command : Command) (tokens : List Token) (p q : Tree) → IsTree tokens p → IsTree tokens q → (c : Compiled) → TreeCompiles command tokens p c → TreeCompiles command tokens q c
-move_tree one command tokens p q x y c is = move_if (needs_from false tokens) command tokens p q (same_source one tokens p q x y) (same_checked one tokens p q x y) c is
+move_tree one command tokens p q x y c is =
+    subst (λ b. TreeCompilesIf b command tokens q c) (ap (λ z. lacks_form command tokens z) (one tokens p q x y))
+    (move_if (lacks_form command tokens (program_syntax p)) command tokens p q (same_source one tokens p q x y) (same_checked one tokens p q x y) c is)
 
 -- The steps.
 
@@ -115,7 +120,7 @@ of_deep command tokens deep is (Whole p) c x gives = absurd (never_both limit to
 of_deep command tokens deep is (Bad m) c x gives = absurd (not_both m deep (one_fault limit tokens x.comes is.comes))
 of_deep command tokens deep is (Deep m) c x gives = gives ∙ ap (λ n. Rejected rule.NestedTooDeeply (token_line tokens n)) (same_deep m deep (one_fault limit tokens x.comes is.comes))
 
-pub refused_tokens : (tokens : List Token) (r : Rule) (token : TokenNo) → Parses tokens (Err (syntax_refusal.Broken r token)) → TokensReject tokens r (token_line tokens token.0)
+pub refused_tokens : (tokens : List Token) (r : Rule) (token : TokenNo) → Parses tokens (Err (syntax_refusal.Broken r token)) → (command : Command) → TokensReject command tokens r (token_line tokens token.0)
 refused_tokens tokens rule.UnexpectedToken token says command c =
     let is : IsBad tokens token.0 = record { comes = says.0; first = says.1 } in
     record { there = λ t. of_bad command tokens token.0 is t.parsed c t.parses t.gives; back = λ gives. record { parsed = Bad token.0; parses = is; gives = gives } }
@@ -135,7 +140,7 @@ pub spelled_source : (command : Command) (source : List ℕ) (tokens : List Toke
 spelled_source command source tokens c spells = lexed_source command source (Spelled tokens) c spells
 
 -- a source that breaks a rule of its spelling
-pub broken_source : (source : List ℕ) (r : Rule) (place : ℕ) → Reads source (Broken r place) → SourceRejects source r (record { 0 = line_at source place })
+pub broken_source : (source : List ℕ) (r : Rule) (place : ℕ) → Reads source (Broken r place) → (command : Command) → SourceRejects command source r (record { 0 = line_at source place })
 broken_source source r place breaks command c = lexed_source command source (Broken r place) c breaks
 
 -- the refusal of a step is one of the whole
@@ -150,15 +155,13 @@ pub answers_of : {A : Type 0} (r : Result A Refusal) (accepts also : A → Type 
 answers_of (Ok x) accepts also rejects whole good bad is = good x is
 answers_of (Err why) accepts also rejects whole good bad is = refusal_of why accepts also rejects whole bad is
 
--- whether the source needs classes
+-- whether the source has a form that is not built
 
-pub needed : (tokens : List Token) (tree : Tree) (needs : Bool) → NeedsClasses tokens needs → needs ≡ true → TreeRejects tokens tree rule.FormNotBuilt (record { 0 = 1 })
-unfolding NeedsClasses
-needed tokens tree needs is so command c = by_equation (λ b. TreeCompilesIf b command tokens tree c) (needs_from false tokens) true (sym is ∙ so)
+pub lacking : (command : Command) (tokens : List Token) (tree : Tree) (lacks : Bool) → lacks ≡ lacks_form command tokens (program_syntax tree) → lacks ≡ true → TreeRejects command tokens tree rule.FormNotBuilt (record { 0 = 1 })
+lacking command tokens tree lacks is so c = by_equation (λ b. TreeCompilesIf b command tokens tree c) (lacks_form command tokens (program_syntax tree)) true (sym is ∙ so)
 
-pub not_needed : (tokens : List Token) (tree : Tree) (needs : Bool) → NeedsClasses tokens needs → needs ≡ false → (command : Command) (c : Compiled) → Same (TreeCompiles command tokens tree c) (CheckedCompiles command tokens tree (check_of tree) c)
-unfolding NeedsClasses
-not_needed tokens tree needs is so command c = by_equation (λ b. TreeCompilesIf b command tokens tree c) (needs_from false tokens) false (sym is ∙ so)
+pub lacking_none : (command : Command) (tokens : List Token) (tree : Tree) (lacks : Bool) → lacks ≡ lacks_form command tokens (program_syntax tree) → lacks ≡ false → (c : Compiled) → Same (TreeCompiles command tokens tree c) (CheckedCompiles command tokens tree (check_of tree) c)
+lacking_none command tokens tree lacks is so c = by_equation (λ b. TreeCompilesIf b command tokens tree c) (lacks_form command tokens (program_syntax tree)) false (sym is ∙ so)
 
 -- the program that the static rules allow
 pub bound_checked : (tokens : List Token) (p : Tree) (b : Bound) → b.program ≡ p → check_of p ≡ Allowed b.scopes b.uses.items b.types.items → CheckBinds tokens p (source_of b)
@@ -168,6 +171,13 @@ bound_checked tokens p b same allowed command c =
     (by_equation (λ k. CheckedCompiles command tokens p k c) (check_of p) (Allowed b.scopes b.uses.items b.types.items) allowed)
     (by_equation (λ (q : Tree). BoundCompiles command (source_with q b.scopes b.uses.items b.types.items) c) p b.program (sym same))
 
+pub checks_as : (tokens : List Token) (p : Tree) (b : Bound) → b.program ≡ p → check_of p ≡ Allowed b.scopes b.uses.items b.types.items → ChecksAs tokens p (source_of b)
+unfolding source_of
+checks_as tokens p b same allowed = (
+  bound_checked tokens p b same allowed,
+  record { allowed = allowed; program = ap program_syntax same; lines = ap (λ (t : Tree). t.lines.items) same },
+)
+
 -- the rule that they say it breaks
 pub refused_checked : (tokens : List Token) (p : Tree) (r : Rule) (token : TokenNo) → check_of p ≡ Refused (record { token = token; rule = r }) → CheckRejects tokens p r (token_line tokens token.0)
 refused_checked tokens p r token refused command c = by_equation (λ k. CheckedCompiles command tokens p k c) (check_of p) (Refused (record { token = token; rule = r })) refused
@@ -175,28 +185,48 @@ refused_checked tokens p r token refused command c = by_equation (λ k. CheckedC
 -- ---- the steps together
 
 -- tokens that are refused, of a source
-pub refused_source : (source : List ℕ) (tokens : List Token) (r : Rule) (line : Line) → Reads source (Spelled tokens) → TokensReject tokens r line → SourceRejects source r line
-refused_source source tokens r line spells rejects command c =
-    same_then (SourceCompiles command source c) (TokensCompile command tokens c) (c ≡ Rejected r line) (spelled_source command source tokens c spells) (rejects command c)
+pub refused_source : (command : Command) (source : List ℕ) (tokens : List Token) (r : Rule) (line : Line) → Reads source (Spelled tokens) → TokensReject command tokens r line → SourceRejects command source r line
+refused_source command source tokens r line spells rejects c =
+    same_then (SourceCompiles command source c) (TokensCompile command tokens c) (c ≡ Rejected r line) (spelled_source command source tokens c spells) (rejects c)
 
 whole_source_is : OneSyntax → (source : List ℕ) (tokens : List Token) (tree : Tree) → Reads source (Spelled tokens) → IsTree tokens tree → (command : Command) (c : Compiled) → Same (SourceCompiles command source c) (TreeCompiles command tokens tree c)
 whole_source_is one source tokens tree spells is command c =
     same_then (SourceCompiles command source c) (TokensCompile command tokens c) (TreeCompiles command tokens tree c) (spelled_source command source tokens c spells) (tree_tokens one command tokens tree c is)
 
-pub bound_source : OneSyntax → (source : List ℕ) (tokens : List Token) (tree : Tree) (s : Source) → Reads source (Spelled tokens) → IsTree tokens tree → TreeBinds tokens tree s → SourceBinds source s
-bound_source one source tokens tree s spells is binds command c =
-    same_then (SourceCompiles command source c) (TreeCompiles command tokens tree c) (BoundCompiles command s c) (whole_source_is one source tokens tree spells is command c) (binds command c)
+pub bound_source : OneSyntax → (command : Command) (source : List ℕ) (tokens : List Token) (tree : Tree) (s : Source) → Reads source (Spelled tokens) → IsTree tokens tree → TreeBinds command tokens tree s → SourceBinds command source s
+bound_source one command source tokens tree s spells is binds c =
+    same_then (SourceCompiles command source c) (TreeCompiles command tokens tree c) (BoundCompiles command s c) (whole_source_is one source tokens tree spells is command c) (binds c)
 
-pub rejected_source : OneSyntax → (source : List ℕ) (tokens : List Token) (tree : Tree) (r : Rule) (line : Line) → Reads source (Spelled tokens) → IsTree tokens tree → TreeRejects tokens tree r line → SourceRejects source r line
-rejected_source one source tokens tree r line spells is rejects command c =
-    same_then (SourceCompiles command source c) (TreeCompiles command tokens tree c) (c ≡ Rejected r line) (whole_source_is one source tokens tree spells is command c) (rejects command c)
+pub rejected_source : OneSyntax → (command : Command) (source : List ℕ) (tokens : List Token) (tree : Tree) (r : Rule) (line : Line) → Reads source (Spelled tokens) → IsTree tokens tree → TreeRejects command tokens tree r line → SourceRejects command source r line
+rejected_source one command source tokens tree r line spells is rejects c =
+    same_then (SourceCompiles command source c) (TreeCompiles command tokens tree c) (c ≡ Rejected r line) (whole_source_is one source tokens tree spells is command c) (rejects c)
 
--- a tree that needs no classes
+-- a tree whose forms are built
 
-pub bound_tree : (tokens : List Token) (tree : Tree) (s : Source) → ((command : Command) (c : Compiled) → Same (TreeCompiles command tokens tree c) (CheckedCompiles command tokens tree (check_of tree) c)) → CheckBinds tokens tree s → TreeBinds tokens tree s
-bound_tree tokens tree s free binds command c =
-    same_then (TreeCompiles command tokens tree c) (CheckedCompiles command tokens tree (check_of tree) c) (BoundCompiles command s c) (free command c) (binds command c)
+pub bound_tree : (command : Command) (tokens : List Token) (tree : Tree) (s : Source) → ((c : Compiled) → Same (TreeCompiles command tokens tree c) (CheckedCompiles command tokens tree (check_of tree) c)) → CheckBinds tokens tree s → TreeBinds command tokens tree s
+bound_tree command tokens tree s free binds c =
+    same_then (TreeCompiles command tokens tree c) (CheckedCompiles command tokens tree (check_of tree) c) (BoundCompiles command s c) (free c) (binds command c)
 
-pub rejected_tree : (tokens : List Token) (tree : Tree) (r : Rule) (line : Line) → ((command : Command) (c : Compiled) → Same (TreeCompiles command tokens tree c) (CheckedCompiles command tokens tree (check_of tree) c)) → CheckRejects tokens tree r line → TreeRejects tokens tree r line
-rejected_tree tokens tree r line free rejects command c =
-    same_then (TreeCompiles command tokens tree c) (CheckedCompiles command tokens tree (check_of tree) c) (c ≡ Rejected r line) (free command c) (rejects command c)
+-- neither of two is so
+neither : (a b : Bool) → (a || b) ≡ false → (a ≡ false) × (b ≡ false)
+neither false false is = (refl, refl)
+neither false true is = cc is
+neither true b is = cc is
+
+has_none : (command : Command) (tokens : List Token) (p : Program) → lacks_form command tokens p ≡ false → command ≡ Run → (needs_from false tokens ≡ false) × (passes_code p ≡ false)
+has_none Run tokens p none is = neither (needs_from false tokens) (passes_code p) none
+has_none Check tokens p none is = cc is
+
+-- what breaks no rule and has only forms that are built can be run
+pub binds_as : (command : Command) (tokens : List Token) (tree : Tree) (s : Source) (lacks : Bool) → lacks ≡ lacks_form command tokens (program_syntax tree) → lacks ≡ false → (IsAllowed tokens tree s → IsRunnable s) → ChecksAs tokens tree s → BindsAs command tokens tree s
+binds_as command tokens tree s lacks is none runs (binds, checked) = (
+  bound_tree command tokens tree s (lacking_none command tokens tree lacks is none) binds,
+  λ reads run.
+      let free = has_none command tokens (program_syntax tree) (sym is ∙ none) run in
+      runs (record { reads = reads; class_free = free.0; by_value = free.1; checked = checked }),
+)
+
+pub rejected_tree : (command : Command) (tokens : List Token) (tree : Tree) (r : Rule) (line : Line) → ((c : Compiled) → Same (TreeCompiles command tokens tree c) (CheckedCompiles command tokens tree (check_of tree) c)) → CheckRejects tokens tree r line
+    → TreeRejects command tokens tree r line
+rejected_tree command tokens tree r line free rejects c =
+    same_then (TreeCompiles command tokens tree c) (CheckedCompiles command tokens tree (check_of tree) c) (c ≡ Rejected r line) (free c) (rejects command c)

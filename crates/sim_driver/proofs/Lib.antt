@@ -4,5 +4,6 @@ pub mod Limits
 pub mod Meant
 pub mod Places
 pub mod Prefixes
+pub mod Requests
 pub mod SourceReads
 pub mod Whole

@@ -1,4 +1,4 @@
--- What a command answers, by its words and the bytes of the file.
+-- What a command answers, by its words and the bytes of the file and of the input.
 use Rattle.std.specs.Prelude.{◌≡◌, ℕ, List, [], Option, Some, None}
 use Rattle.std.specs.Io.KnownBytes.{Appends}
 use Rattle.sim_driver.specs.SourceMeaning.{Meaning, SourceMeans}
@@ -18,18 +18,18 @@ abbrev pub meant : Meaning → Answer
 meant meaning = record { status = status_of meaning.ending; output = meaning.output }
 
 -- the answer of a command, by what the source of the named file means to it
-pub record IsSourceAnswer (command : Command) (source : List ℕ) (answer : Answer) : Type 0 where
+pub record IsSourceAnswer (command : Command) (source input : List ℕ) (answer : Answer) : Type 0 where
   pub meaning : Meaning
-  pub means : SourceMeans command source meaning
+  pub means : SourceMeans command source input meaning
   pub same : answer ≡ meant meaning
 
-abbrev pub IsAnswerFor : Option Request → List ℕ → Answer → Type 0
-IsAnswerFor None source answer = answer ≡ record { status = Usage; output = [] }
-IsAnswerFor (Some request) source answer = IsSourceAnswer request.command source answer
+abbrev pub IsAnswerFor : Option Request → (source input : List ℕ) → Answer → Type 0
+IsAnswerFor None source input answer = answer ≡ record { status = Usage; output = [] }
+IsAnswerFor (Some request) source input answer = IsSourceAnswer request.command source input answer
 
--- the answer to the words, where the file that they name, if they name one, holds this source
-abbrev pub IsAnswer : List (List ℕ) → List ℕ → Answer → Type 0
-IsAnswer words source answer = IsAnswerFor (request_of words) source answer
+-- the answer to the words, where the file that they name, if they name one, holds this source, and the input these bytes
+abbrev pub IsAnswer : List (List ℕ) → (source input : List ℕ) → Answer → Type 0
+IsAnswer words source input answer = IsAnswerFor (request_of words) source input answer
 
 -- the command ended as the answer says, with the whole output
 pub record Gives (answer : Answer) (status : Status) (old new : Option (List ℕ)) : Type 0 where

@@ -1,6 +1,6 @@
 -- What a command makes of a source: for `run` a program that can be run, for `check` that no rule refuses it, and for both the rule that
 -- refuses it, with the line.
-use Rattle.std.specs.Prelude.{◌≡◌, ℕ, Bool, true, false, List, Result, Ok, Err, Option, slice_index_or, ⊤}
+use Rattle.std.specs.Prelude.{◌≡◌, ℕ, Bool, true, false, ◌||◌, List, Result, Ok, Err, Option, slice_index_or, ⊤}
 use Rattle.sim_base.specs.Place.{line_at}
 use Rattle.sim_base.specs.declared.numbering.Line.{Line}
 use Rattle.sim_base.specs.declared.rule.Rule.{Rule}
@@ -14,12 +14,15 @@ use Rattle.sim_scope.specs.Tables.{Tables}
 use Rattle.sim_tree.specs.Claim.{Begins, IsFirstBad, one}
 use Rattle.sim_tree.specs.Grammar as g
 use Rattle.sim_tree.specs.Reading.{Fails, TooDeep, Unexpected, finish}
+use Rattle.sim_tree.specs.Syntax.{Program}
 use Rattle.sim_tree.specs.SyntaxOfProgram.{program_syntax}
 use Rattle.sim_tree.specs.Tree.{IsTree, limit}
 use Rattle.sim_tree.specs.declared.program.Program.{Program as Tree}
 use Rattle.sim_static.specs.Check.{Allowed, Checked, Refused, check_of}
+use Rattle.sim_static.specs.CodeParameters.{passes_code}
 use Rattle.sim_static.specs.NeedsClasses.{needs_from}
-use Rattle.codegen.specs.BuiltProgram.{ProgramBuilt}
+use Rattle.sim_built.specs.Allowed.{IsChecked}
+use Rattle.sim_run.specs.RunEnds.{IsRunnable}
 use Rattle.sim_driver.specs.declared.compiling.Refusal.{Refusal}
 use Rattle.sim_driver.specs.declared.compiling.Refusal.TheVariants as refusal
 use Rattle.sim_driver.specs.declared.words.Command.{Command}
@@ -38,14 +41,9 @@ token_line tokens token = (slice_index_or tokens token finish).line
 abbrev pub not_built : Compiled
 not_built = Rejected FormNotBuilt (record { 0 = 1 })
 
--- what `run` makes of a program that breaks no rule
-pub data Makes (s : Source) : Compiled → Type 0 where
-  runs : ProgramBuilt s → Makes s (Runnable s)
-  lacks : (ProgramBuilt s → ⊥) → Makes s not_built
-
 -- what a command makes of a program that breaks no rule
 abbrev pub BoundCompiles : Command → Source → Compiled → Type 0
-BoundCompiles Run s compiled = Makes s compiled
+BoundCompiles Run s compiled = compiled ≡ Runnable s
 BoundCompiles Check s compiled = compiled ≡ Sound
 
 -- a tree with its tables, what its identifiers denote and what its expressions are
@@ -57,14 +55,19 @@ abbrev pub CheckedCompiles : Command → List Token → Tree → Checked → Com
 CheckedCompiles command tokens tree (Refused fault) compiled = compiled ≡ Rejected fault.rule (token_line tokens fault.token.0)
 CheckedCompiles command tokens tree (Allowed tables uses types) compiled = BoundCompiles command (source_with tree tables uses types) compiled
 
--- a source that needs classes is rejected before the static rules are asked
-abbrev pub TreeCompilesIf : (needs : Bool) → Command → List Token → Tree → Compiled → Type 0
+-- A form that is not built: for both commands what needs classes, for `run` also a parameter by name and a procedure as a parameter.
+abbrev pub lacks_form : Command → List Token → Program → Bool
+lacks_form Run tokens p = needs_from false tokens || passes_code p
+lacks_form Check tokens p = needs_from false tokens
+
+-- a source with such a form is rejected before the static rules are asked
+abbrev pub TreeCompilesIf : (lacks : Bool) → Command → List Token → Tree → Compiled → Type 0
 TreeCompilesIf true command tokens tree compiled = compiled ≡ not_built
 TreeCompilesIf false command tokens tree compiled = CheckedCompiles command tokens tree (check_of tree) compiled
 
 -- what a command makes of a tree of these tokens
 abbrev pub TreeCompiles : Command → List Token → Tree → Compiled → Type 0
-TreeCompiles command tokens tree compiled = TreeCompilesIf (needs_from false tokens) command tokens tree compiled
+TreeCompiles command tokens tree compiled = TreeCompilesIf (lacks_form command tokens (program_syntax tree)) command tokens tree compiled
 
 -- each of two things where the other is
 pub record Same (A B : Type 0) : Type 0 where
@@ -72,14 +75,14 @@ pub record Same (A B : Type 0) : Type 0 where
   pub back : B → A
 
 -- the tree is this program, which breaks no rule
-abbrev pub TreeBinds : List Token → Tree → Source → Type 0
-TreeBinds tokens tree s = (command : Command) (compiled : Compiled) → Same (TreeCompiles command tokens tree compiled) (BoundCompiles command s compiled)
+abbrev pub TreeBinds : Command → List Token → Tree → Source → Type 0
+TreeBinds command tokens tree s = (compiled : Compiled) → Same (TreeCompiles command tokens tree compiled) (BoundCompiles command s compiled)
 
--- whichever the command, it rejects the tree
-abbrev pub TreeRejects : List Token → Tree → Rule → Line → Type 0
-TreeRejects tokens tree rule line = (command : Command) (compiled : Compiled) → Same (TreeCompiles command tokens tree compiled) (compiled ≡ Rejected rule line)
+-- the command rejects the tree
+abbrev pub TreeRejects : Command → List Token → Tree → Rule → Line → Type 0
+TreeRejects command tokens tree rule line = (compiled : Compiled) → Same (TreeCompiles command tokens tree compiled) (compiled ≡ Rejected rule line)
 
--- the same of a tree that needs no classes
+-- The same of a tree whose forms are built; it is the same for both commands.
 abbrev pub CheckBinds : List Token → Tree → Source → Type 0
 CheckBinds tokens tree s = (command : Command) (compiled : Compiled) → Same (CheckedCompiles command tokens tree (check_of tree) compiled) (BoundCompiles command s compiled)
 
@@ -130,16 +133,28 @@ pub record SourceCompiles (command : Command) (source : List ℕ) (compiled : Co
   pub reads : Reads source lexed
   pub compiles : LexedCompiles command source lexed compiled
 
--- whichever the command, it rejects the source
-abbrev pub SourceRejects : List ℕ → Rule → Line → Type 0
-SourceRejects source rule line = (command : Command) (compiled : Compiled) → Same (SourceCompiles command source compiled) (compiled ≡ Rejected rule line)
+-- the command rejects the source
+abbrev pub SourceRejects : Command → List ℕ → Rule → Line → Type 0
+SourceRejects command source rule line = (compiled : Compiled) → Same (SourceCompiles command source compiled) (compiled ≡ Rejected rule line)
 
-abbrev pub TokensReject : List Token → Rule → Line → Type 0
-TokensReject tokens rule line = (command : Command) (compiled : Compiled) → Same (TokensCompile command tokens compiled) (compiled ≡ Rejected rule line)
+abbrev pub TokensReject : Command → List Token → Rule → Line → Type 0
+TokensReject command tokens rule line = (compiled : Compiled) → Same (TokensCompile command tokens compiled) (compiled ≡ Rejected rule line)
 
 -- the source is this program, which breaks no rule
-abbrev pub SourceBinds : List ℕ → Source → Type 0
-SourceBinds source s = (command : Command) (compiled : Compiled) → Same (SourceCompiles command source compiled) (BoundCompiles command s compiled)
+abbrev pub SourceBinds : Command → List ℕ → Source → Type 0
+SourceBinds command source s = (compiled : Compiled) → Same (SourceCompiles command source compiled) (BoundCompiles command s compiled)
+
+-- the static rules allow the tree, and this is its program
+abbrev pub ChecksAs : List Token → Tree → Source → Type 0
+ChecksAs tokens tree s = CheckBinds tokens tree s × IsChecked tree s
+
+-- the tree is this program, which breaks no rule; for `run` it can be run
+abbrev pub BindsAs : Command → List Token → Tree → Source → Type 0
+BindsAs command tokens tree s = TreeBinds command tokens tree s × (IsTree tokens tree → command ≡ Run → IsRunnable s)
+
+-- the source is this program, which breaks no rule; for `run` it can be run
+abbrev pub IsProgram : Command → List ℕ → Source → Type 0
+IsProgram command source s = SourceBinds command source s × (command ≡ Run → IsRunnable s)
 
 -- What a step answers, by what is known of its source: the program, or the refusal. Want of memory says nothing of the source.
 abbrev pub Answers : {A : Type 0} → (A → Type 0) → (Rule → Line → Type 0) → Result A Refusal → Type 0

@@ -5,7 +5,7 @@ use Rattle.sim_base.specs.Rule.{rule_text}
 use Rattle.sim_base.specs.RunError.{run_error_text}
 use Rattle.sim_driver.specs.declared.status.Ending.{Ending}
 use Rattle.sim_driver.specs.declared.status.Status.{Status}
-use Rattle.sim_driver.specs.declared.status.Status.TheVariants.{Normal, Refused, RunFault, StorageExhausted, TickLimit, Usage, FileFault, InputFault, WriteFault, Memory, NoRule}
+use Rattle.sim_driver.specs.declared.status.Status.TheVariants.{Normal, Refused, RunFault, StorageExhausted, TickLimit, Usage, FileFault, InputFault, WriteFault, Memory}
 
 -- the status of each ending
 abbrev pub status_of : Ending → Status
@@ -14,7 +14,6 @@ status_of (Ending.Refused rule line) = Refused rule line
 status_of (Ending.RunFault error line) = RunFault error line
 status_of (Ending.StorageExhausted line used budget wanted) = StorageExhausted line used budget wanted
 status_of (Ending.TickLimit ticks) = TickLimit ticks
-status_of Ending.NoRule = NoRule
 
 -- the exit status
 abbrev pub status_number : Status → ℕ
@@ -28,7 +27,6 @@ status_number FileFault = 6
 status_number InputFault = 7
 status_number WriteFault = 8
 status_number Memory = 9
-status_number NoRule = 10
 
 -- what is said of a line of the source
 abbrev pub at_line : ℕ → List ℕ → List ℕ
@@ -51,7 +49,6 @@ status_text FileFault = codes "cannot read the file"
 status_text InputFault = codes "input fault"
 status_text WriteFault = codes "output fault"
 status_text Memory = codes "want of memory"
-status_text NoRule = codes "no rule"
 
 -- the line that a status writes, with its line feed; none at the normal end
 abbrev pub line_text : Status → List ℕ

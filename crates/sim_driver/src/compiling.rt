@@ -3,15 +3,19 @@ ghost use Rattle.std.specs.Prelude.{◌≡◌, ◌<◌, ◌^◌, ◌-◌, length
 ghost use Rattle.sim_lexer.specs.Spelling.{Reads, Spelled};
 ghost use Rattle.sim_parser.specs.Parsing.{IsWholeSource};
 ghost use Rattle.sim_scope.specs.Source.{source_of};
+ghost use Rattle.sim_tree.specs.SyntaxOfProgram.{program_syntax};
 ghost use Rattle.sim_tree.specs.Tree.{IsTree};
-ghost use Rattle.sim_driver.specs.Compiling.{Answers, CheckBinds, CheckRejects, SourceBinds, SourceRejects, TokensReject, TreeBinds, TreeRejects, token_line};
+ghost use Rattle.sim_driver.specs.Compiling.{Answers, BindsAs, CheckRejects, ChecksAs, IsProgram, SourceRejects, TokensReject, TreeRejects, lacks_form, token_line};
+ghost use Rattle.sim_driver.specs.declared.words.Command.{Command as AnyCommand};
 
+use crate::words::Command;
 use sim_base::{Line, Rule, Token, TokenNo, line_of};
+use sim_built::laws::allowed_programs_run;
 use sim_expr_parser::SyntaxRefusal;
 use sim_lexer::{LexRefusal, lex};
 use sim_parser::parse;
 use sim_scope::{Bound, StaticRefusal};
-use sim_static::{check, needs_classes};
+use sim_static::{check, needs_classes, passes_code};
 use sim_tree::grammar::one_tree;
 use std::alloc::Global;
 use thiserror::Error;
@@ -27,22 +31,23 @@ pub enum Refusal {
     Memory,
 }
 
-/// The program of a source, which breaks no rule; or the rule that it breaks first, with the line.
-pub fn bind(alloc: Global, source: &[u8]) -> Result<Bound, Refusal>
+/// The program of a source, which breaks no rule; or the rule that it breaks first, with the line. To run, it must not have a parameter by
+/// name or a procedure as a parameter.
+pub fn bind(alloc: Global, command: Command, source: &[u8]) -> Result<Bound, Refusal>
     requires { length source.now < 2 ^ 32 - 1 }
-    ensures { Answers (λ bound. SourceBinds source.now (source_of bound)) (SourceRejects source.now) result }
+    ensures { Answers (λ bound. IsProgram command source.now (source_of bound)) (SourceRejects command source.now) result }
 {
     // Two trees of its tokens have one syntax, so a source is one program.
     one_tree();
     let tokens = tokens_of(alloc, source)?;
     let tree = tree_of(alloc, &tokens)?;
-    bind_tree(alloc, &tokens, tree)
+    bind_tree(alloc, command, &tokens, tree)
 }
 
 // The tokens of a source.
 fn tokens_of(alloc: Global, source: &[u8]) -> Result<Vec<Token>, Refusal>
     requires { length source.now < 2 ^ 32 - 1 }
-    ensures reads { Answers (λ tokens. Reads source.now (Spelled tokens.items)) (SourceRejects source.now) result }
+    ensures reads { (command : AnyCommand) → Answers (λ tokens. Reads source.now (Spelled tokens.items)) (SourceRejects command source.now) result }
     ensures whole { IfOk result (λ tokens. IsWholeSource tokens.items) }
 {
     match lex(alloc, source) {
@@ -58,7 +63,7 @@ fn tokens_of(alloc: Global, source: &[u8]) -> Result<Vec<Token>, Refusal>
 // The tree of tokens.
 fn tree_of(alloc: Global, tokens: &[Token]) -> Result<sim_tree::Program, Refusal>
     requires { IsWholeSource tokens.now }
-    ensures { Answers (IsTree tokens.now) (TokensReject tokens.now) result }
+    ensures { (command : AnyCommand) → Answers (IsTree tokens.now) (TokensReject command tokens.now) result }
 {
     match parse(alloc, tokens) {
         Ok(tree) => Ok(tree),
@@ -80,22 +85,39 @@ fn line_at(tokens: &[Token], token: TokenNo) -> Line
     }
 }
 
-// The program of a tree of these tokens. As long as classes are not built, a source that needs them is refused first.
-fn bind_tree(alloc: Global, tokens: &[Token], tree: sim_tree::Program) -> Result<Bound, Refusal>
-    ensures { Answers (λ bound. TreeBinds tokens.now tree (source_of bound)) (TreeRejects tokens.now tree) result }
+// Whether a tree of these tokens has a form that is not built.
+#[tactic(auto, unfolding(sim_static::specs::NeedsClasses::NeedsClasses, sim_static::specs::CodeParameters::PassesCode))]
+fn lacks_form(command: Command, tokens: &[Token], tree: &sim_tree::Program) -> bool
+    ensures { result ≡ lacks_form command tokens.now (program_syntax tree.now) }
 {
-    if needs_classes(tokens) {
+    match command {
+        Command::Run => needs_classes(tokens) || passes_code(tree),
+        Command::Check => needs_classes(tokens),
+    }
+}
+
+// The program of a tree of these tokens. As long as a form is not built, a source that has it is refused first.
+fn bind_tree(
+    alloc: Global,
+    command: Command,
+    tokens: &[Token],
+    tree: sim_tree::Program,
+) -> Result<Bound, Refusal>
+    ensures { Answers (λ bound. BindsAs command tokens.now tree (source_of bound)) (TreeRejects command tokens.now tree) result }
+{
+    if lacks_form(command, tokens, &tree) {
         return Err(Refusal::Broken {
             rule: Rule::FormNotBuilt,
             line: Line(1),
         });
     }
+    allowed_programs_run();
     bind_checked(alloc, tokens, tree)
 }
 
 // The program of a tree of these tokens, by the static rules.
 fn bind_checked(alloc: Global, tokens: &[Token], tree: sim_tree::Program) -> Result<Bound, Refusal>
-    ensures { Answers (λ bound. CheckBinds tokens.now tree (source_of bound)) (CheckRejects tokens.now tree) result }
+    ensures { Answers (λ bound. ChecksAs tokens.now tree (source_of bound)) (CheckRejects tokens.now tree) result }
 {
     match check(alloc, tree) {
         Ok(bound) => Ok(bound),

@@ -9,6 +9,9 @@ pub enum RunFailure {
     /// The run was refused memory.
     #[error("want of memory")]
     Memory,
+    /// The outside failed to give input.
+    #[error("input fault")]
+    Input,
     /// The outside failed to take output.
     #[error("output fault")]
     Output,

@@ -13,3 +13,4 @@ mod words;
 pub use compiling::{Refusal, bind};
 pub use status::Status;
 pub use top::simula;
+pub use words::Command;

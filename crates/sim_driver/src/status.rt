@@ -41,8 +41,6 @@ pub enum Status {
     WriteFault,
     /// The program was refused memory.
     Memory,
-    /// The run came to where the meaning of the program has no rule. No program that breaks no rule of the language is known to do so.
-    NoRule,
 }
 
 /// How a source ends by its own meaning.
@@ -71,8 +69,6 @@ pub enum Ending {
     TickLimit {
         ticks: u64,
     },
-    /// The run comes to where the meaning has no rule.
-    NoRule,
 }
 
 impl Ending {
@@ -96,7 +92,6 @@ impl Ending {
                 wanted,
             },
             Ending::TickLimit { ticks } => Status::TickLimit { ticks },
-            Ending::NoRule => Status::NoRule,
         }
     }
 }
@@ -117,7 +112,6 @@ impl Status {
             Status::InputFault => 7,
             Status::WriteFault => 8,
             Status::Memory => 9,
-            Status::NoRule => 10,
         }
     }
 }
@@ -147,7 +141,6 @@ impl fmt::Display for Status {
             Status::InputFault => f.write_str("input fault"),
             Status::WriteFault => f.write_str("output fault"),
             Status::Memory => f.write_str("want of memory"),
-            Status::NoRule => f.write_str("no rule"),
         }
     }
 }

@@ -5,10 +5,16 @@ ghost use Rattle.sim_ports.specs.Bytes.{AddsPrefix};
 ghost use Rattle.sim_ports.specs.Faults.{Rose, Steady, StopsAt};
 ghost use Rattle.sim_ports.specs.Named.{IsOpen};
 ghost use Rattle.sim_driver.specs.Answer.{Answer, Gives, IsAnswer};
+ghost use Rattle.sim_driver.specs.Compiling.{Rejected, SourceCompiles};
+ghost use Rattle.sim_driver.specs.OutputAfter.{Untouched};
+ghost use Rattle.sim_driver.specs.SourceMeaning.{IsCutOff};
 ghost use Rattle.sim_driver.specs.Reading.{TakesAtMost};
 ghost use Rattle.sim_driver.specs.Speaking.{HasItsCause, Says};
 ghost use Rattle.sim_driver.specs.Status.{is_answer, is_told, line_text};
-ghost use Rattle.sim_driver.specs.Words.{file_of, texts, TellsFile};
+ghost use Rattle.sim_driver.specs.Words.{AsksRun, file_of, texts, TellsFile};
+ghost use Rattle.sim_base.specs.declared.numbering.Line.{Line as AnyLine};
+ghost use Rattle.sim_base.specs.declared.rule.Rule.{Rule as AnyRule};
+ghost use Rattle.sim_driver.specs.declared.words.Command.TheVariants.{Run};
 ghost use Rattle.sim_driver.specs.declared.status.Status.{Status as AnyStatus};
 
 use crate::command::run_command;
@@ -30,10 +36,10 @@ pub fn simula<F: Files, I: Source, O: Sink, D: Sink>(
 ) -> Status
     requires { F.selected files.old ≡ None }
 
-    // Where the file tells its bytes and nothing failed, the status, the output and the line are those of the
+    // Where the file and the input tell their bytes and nothing failed, the status, the output and the line are those of the
     // answer, unless memory was wanting.
-    ensures headline { (source : List ℕ) (answer : Answer) → TellsFile (F.content files.old) (texts words.now) source
-        → IsAnswer (texts words.now) source answer
+    ensures headline { (source given : List ℕ) (answer : Answer) → TellsFile (F.content files.old) (texts words.now) source
+        → I.left input.old ≡ Some given → IsAnswer (texts words.now) source given answer
         → Steady (F.faults files.old) (F.faults files.new) → Steady (I.faults input.old) (I.faults input.new)
         → Steady (O.faults out.old) (O.faults out.new) → Steady (D.faults diag.old) (D.faults diag.new)
         → (result ≡ Status.Memory) ⊎ Gives answer result (O.written out.old) (O.written out.new)
@@ -58,12 +64,12 @@ pub fn simula<F: Files, I: Source, O: Sink, D: Sink>(
 
     // Whatever failed: a status that is an answer is the answer, which there is, with its whole output. What was written
     // begins its output.
-    ensures answered { (source : List ℕ) → TellsFile (F.content files.old) (texts words.now) source → is_answer result ≡ true
-        → (answer : Answer) × IsAnswer (texts words.now) source answer }
-    ensures answer { (source : List ℕ) (answer : Answer) → TellsFile (F.content files.old) (texts words.now) source
-        → IsAnswer (texts words.now) source answer → is_answer result ≡ true → Gives answer result (O.written out.old) (O.written out.new) }
-    ensures prefix { (source : List ℕ) (answer : Answer) → TellsFile (F.content files.old) (texts words.now) source
-        → IsAnswer (texts words.now) source answer → AddsPrefix (O.written out.old) (O.written out.new) answer.output }
+    ensures answered { (source given : List ℕ) → TellsFile (F.content files.old) (texts words.now) source → I.left input.old ≡ Some given → is_answer result ≡ true
+        → (answer : Answer) × IsAnswer (texts words.now) source given answer }
+    ensures answer { (source given : List ℕ) (answer : Answer) → TellsFile (F.content files.old) (texts words.now) source → I.left input.old ≡ Some given
+        → IsAnswer (texts words.now) source given answer → is_answer result ≡ true → Gives answer result (O.written out.old) (O.written out.new) }
+    ensures prefix { (source given : List ℕ) (answer : Answer) → TellsFile (F.content files.old) (texts words.now) source → I.left input.old ≡ Some given
+        → IsAnswer (texts words.now) source given answer → AddsPrefix (O.written out.old) (O.written out.new) answer.output }
 
     // The line of the status, whole where its output did not fail. A status that is neither an output fault nor want of
     // memory has its whole line, and no write of it failed.
@@ -72,17 +78,20 @@ pub fn simula<F: Files, I: Source, O: Sink, D: Sink>(
     // What is said there, whole or cut short, is the line of a status that its cause allows. A line that was cut short makes
     // the status an output fault, but after want of memory.
     ensures line_part { (said : AnyStatus)
-        × (is_answer said ≡ true → (source : List ℕ) (answer : Answer) → TellsFile (F.content files.old) (texts words.now) source
-        → IsAnswer (texts words.now) source answer → said ≡ answer.status)
+        × (is_answer said ≡ true → (source given : List ℕ) (answer : Answer) → TellsFile (F.content files.old) (texts words.now) source
+        → I.left input.old ≡ Some given → IsAnswer (texts words.now) source given answer → said ≡ answer.status)
         × HasItsCause (texts words.now) said (Rose (F.faults files.old) (F.faults files.new)) (Rose (I.faults input.old) (I.faults input.new)) (Rose (O.faults out.old) (O.faults out.new))
         × Says said result (D.written diag.old) (D.written diag.new) (D.faults diag.old) (D.faults diag.new) }
 
-    // Input is not read.
-    ensures input_left { I.left input.new ≡ I.left input.old }
-    ensures input_gives { I.can_give input.new ≡ I.can_give input.old }
-    ensures input_faults { I.faults input.new ≡ I.faults input.old }
+    // Where the input failed, all is written that the program's run had written at some moment.
+    ensures cut { (source given : List ℕ) → TellsFile (F.content files.old) (texts words.now) source → I.left input.old ≡ Some given → result ≡ Status.InputFault
+        → IsCutOff source given (O.written out.old) (O.written out.new) }
+
+    // The input is not touched where no run is asked for, and where a rule refuses the source.
+    ensures only_run { (AsksRun (texts words.now) → ⊥) → Untouched I.left I.can_give I.faults input.old input.new }
+    ensures untouched { (source : List ℕ) (rule : AnyRule) (line : AnyLine) → TellsFile (F.content files.old) (texts words.now) source
+        → SourceCompiles Run source (Rejected rule line) → Untouched I.left I.can_give I.faults input.old input.new }
 {
-    let _ = input;
-    let status = run_command(alloc, words, files, out);
+    let status = run_command(alloc, words, files, input, out);
     write_status_line(alloc, status, diag)
 }

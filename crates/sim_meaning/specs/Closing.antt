@@ -1,5 +1,5 @@
 -- Expressions are closed when their statement begins: what an identifier denotes is looked up, and what instance that lies in.
-use Rattle.std.specs.Prelude.{ℕ, Bool, true, false, List, [], ◌∷◌, Option, Some, None}
+use Rattle.std.specs.Prelude.{ℕ, Bool, true, false, ◌&&◌, List, [], ◌∷◌, Option, Some, None}
 use Rattle.sim_base.specs.declared.numbering.DeclNo.{DeclNo}
 use Rattle.sim_scope.specs.declared.scopes.Denotation.{Denotation}
 use Rattle.sim_scope.specs.declared.scopes.Denotation.TheVariants as denotation
@@ -12,6 +12,7 @@ use Rattle.sim_scope.specs.declared.types.Mode.{Mode}
 use Rattle.sim_scope.specs.declared.types.Mode.TheVariants as mode
 use Rattle.sim_scope.specs.declared.types.SimType.{SimType}
 use Rattle.sim_scope.specs.declared.types.SimType.TheVariants as t
+use Rattle.sim_scope.specs.Calls.{is_inside}
 use Rattle.sim_scope.specs.Scopes.{entry_of, formal_declared, formals_of}
 use Rattle.sim_scope.specs.Source.{Source, block_of, denoted, level_of, line_at, type_at}
 use Rattle.sim_tree.specs.declared.expr.Multiplication.TheVariants as multiplication
@@ -21,6 +22,8 @@ use Rattle.sim_tree.specs.declared.expr.Sign.{Sign}
 use Rattle.sim_tree.specs.declared.expr.Sign.TheVariants as sign
 use Rattle.sim_tree.specs.declared.operator.Operator.{Operator}
 use Rattle.sim_tree.specs.declared.operator.Operator.TheVariants as op
+use Rattle.sim_tree.specs.declared.stmt.Assignment.{Assignment}
+use Rattle.sim_tree.specs.declared.stmt.Assignment.TheVariants as assignment
 use Rattle.sim_tree.specs.Syntax.{Expression, Expressions, Literal, NoMore, Then, naming}
 use Rattle.sim_tree.specs.Syntax as syntax
 use Rattle.sim_values.specs.declared.operators.Calculation.TheVariants as calculation
@@ -31,11 +34,15 @@ use Rattle.sim_values.specs.declared.operators.Dyadic.{Dyadic}
 use Rattle.sim_values.specs.declared.operators.Dyadic.TheVariants as dyadic
 use Rattle.sim_values.specs.declared.operators.Monadic.TheVariants as monadic
 use Rattle.sim_values.specs.declared.standard.Standard.{Standard}
-use Rattle.sim_values.specs.Plain.{Character, Integer, Plain, Truth}
+use Rattle.sim_values.specs.declared.standard.Standard.TheVariants as name_of
+use Rattle.sim_values.specs.Plain.{Character, Integer, Nothing, Plain, Text, Truth}
+use Rattle.sim_values.specs.Standard.{is_image, moves_position, on_image}
+use Rattle.sim_values.specs.Texts.{notext}
 use Rattle.sim_code.specs.Instances.{at_level}
-use Rattle.sim_meaning.specs.Names.{procedure_named}
+use Rattle.sim_meaning.specs.Constants.{text_constant}
+use Rattle.sim_meaning.specs.Names.{is_image_in, procedure_named, stream_named}
 use Rattle.sim_meaning.specs.Texts.{constant_of}
-use Rattle.sim_meaning.specs.Pending.{Cell, CallOf, CopyOf, Declared, Either, ElementOf, Further, Given, Instances, Key, NoTerm, One, Result, StandardOf, Term, Terms, Two, Unbuilt, ValueAt}
+use Rattle.sim_meaning.specs.Pending.{Cell, CallOf, CopyOf, Declared, Either, ElementOf, Further, Given, ImageOf, Instances, Joined, Key, NoTerm, One, PlaceOf, Result, StandardOf, Term, Terms, Two, Unbuilt, ValueAt}
 
 -- ---- operators
 
@@ -95,30 +102,43 @@ abbrev pub is_text_type : Option SimType → Bool
 is_text_type (Some t.Text) = true
 is_text_type _ = false
 
+-- the token at which the type of an expression stands: that of parentheses is the type of what is in them
+abbrev pub typed_token : Expression → ℕ
+typed_token (syntax.Parentheses token a) = typed_token a
+typed_token e = naming e
+
 -- whether an expression is a text
 unfoldable pub is_text : Source → Expression → Bool
-is_text s e = is_text_type (type_at s (naming e))
+is_text s e = is_text_type (type_at s (typed_token e))
 
 -- ---- terms
+
+-- the image of names that stand without a dot
+abbrev pub sysout : ℕ
+sysout = 1
 
 abbrev pub two_term : Sort → (line : ℕ) → Term → Term → Term
 two_term (Plainly op) line a b = Two op line a b
 two_term (Negated op) line a b = One monadic.Not line (Two op line a b)
 two_term (Lazily true) line a b = Either a (Given (Truth true)) b
 two_term (Lazily false) line a b = Either a b (Given (Truth false))
-two_term Joining line a b = Unbuilt
+two_term Joining line a b = Joined line a b
 
 abbrev pub signed_term : Sign → (line : ℕ) → Term → Term
 signed_term sign.Plus line a = a
 signed_term sign.Minus line a = One monadic.Negate line a
 
-abbrev pub literal_term : Literal → Term
-literal_term (syntax.IntegerValue z) = Given (Integer z)
-literal_term (syntax.CharacterValue c) = Given (Character c)
-literal_term (syntax.TextValue bytes) = Unbuilt
-literal_term (syntax.BooleanValue b) = Given (Truth b)
-literal_term syntax.NoObject = Unbuilt
-literal_term syntax.NoText = Unbuilt
+abbrev pub given_term : Option Plain → Term
+given_term None = Unbuilt
+given_term (Some p) = Given p
+
+abbrev pub literal_term : Source → (token : ℕ) → Literal → Term
+literal_term s token (syntax.IntegerValue z) = Given (Integer z)
+literal_term s token (syntax.CharacterValue c) = Given (Character c)
+literal_term s token (syntax.TextValue bytes) = given_term (text_constant s token)
+literal_term s token (syntax.BooleanValue b) = Given (Truth b)
+literal_term s token syntax.NoObject = Given Nothing
+literal_term s token syntax.NoText = Given (Text notext)
 
 abbrev pub in_instance : Option ℕ → (ℕ → Term) → Term
 in_instance None f = Unbuilt
@@ -169,20 +189,114 @@ declared_term s m i line d (Some (entry.Formal f)) es terms actuals = formal_ter
 declared_term s m i line d (Some (entry.Procedure result block)) es terms actuals = in_instance (home_of s m i d) (λ j. CallOf j block (actuals (formals_at s d)) line)
 declared_term s m i line d _ es terms actuals = Unbuilt
 
-abbrev pub standard_term : Option Standard → (line : ℕ) → Terms → Term
-standard_term None line terms = Unbuilt
-standard_term (Some name) line terms = StandardOf name terms line
+-- Names of both images are done on one of them: `image` is its text, and the others are names of texts.
+abbrev pub name_term : (is_image : Bool) → (on_image : Option Standard) → Standard → (image line : ℕ) → Terms → Term
+name_term true other name image line terms = ValueAt (ImageOf image)
+name_term false (Some of_text) name image line terms = StandardOf of_text (Further (ImageOf image) terms) line
+name_term false None name image line terms = StandardOf name terms line
+
+abbrev pub standard_term : Option Standard → (image line : ℕ) → Terms → Term
+standard_term None image line terms = Unbuilt
+standard_term (Some name) image line terms = name_term (is_image name) (on_image name) name image line terms
 
 abbrev pub named_term : Source → Instances → ℕ → (line : ℕ) → Option Denotation → Expressions → Terms → (List Formal → Terms) → Term
 named_term s m i line None es terms actuals = Unbuilt
 named_term s m i line (Some (denotation.Declared d)) es terms actuals = declared_term s m i line d (entry_of s.tables d) es terms actuals
-named_term s m i line (Some (denotation.Standard name)) es terms actuals = standard_term (procedure_named name) line terms
+named_term s m i line (Some (denotation.Standard name)) es terms actuals = standard_term (procedure_named name) sysout line terms
 
--- an actual parameter: an array by value is copied; parameters by name, procedures and texts by value are not built
+-- ---- variables, whose position the attributes of texts move
+
+abbrev pub is_variable_formal : Mode → FormalKind → Expressions → Bool
+is_variable_formal mode.ByName kind es = false
+is_variable_formal mode shape.Simple es = true
+is_variable_formal mode shape.Array es = true
+is_variable_formal mode shape.Procedure es = false
+
+abbrev pub is_variable_entry : Option Entry → Expressions → Bool
+is_variable_entry (Some (entry.Variable type)) es = true
+is_variable_entry (Some (entry.Array element dimensions)) es = true
+is_variable_entry (Some (entry.Formal f)) es = is_variable_formal f.mode f.kind es
+is_variable_entry _ es = false
+
+abbrev pub is_image_denoted : Option Denotation → Bool
+is_image_denoted (Some (denotation.Standard name)) = is_image_in (procedure_named name)
+is_image_denoted _ = false
+
+abbrev pub is_variable_denoted : Source → Option Denotation → Expressions → Bool
+is_variable_denoted s (Some (denotation.Declared d)) es = is_variable_entry (entry_of s.tables d) es
+is_variable_denoted s denotation es = is_image_denoted denotation
+
+-- `sysin` or `sysout` before a dot
+abbrev pub stream_denoted : Option Denotation → Option ℕ
+stream_denoted (Some (denotation.Standard name)) = stream_named name
+stream_denoted _ = None
+
+unfoldable pub stream_of : Source → Expression → Option ℕ
+stream_of s (syntax.Named name es) = stream_denoted (denoted s name.token.0)
+stream_of s _ = None
+
+abbrev pub is_image_behind : (stream : Option ℕ) → Option Denotation → Bool
+is_image_behind None denotation = false
+is_image_behind (Some image) denotation = is_image_denoted denotation
+
+-- whether an expression is a variable, an element of an array, or an image; the result of a procedure is none, it is a call
+unfoldable pub is_variable : Source → Expression → Bool
+is_variable s (syntax.Named name es) = is_variable_denoted s (denoted s name.token.0) es
+is_variable s (syntax.Dot token a name es) = is_image_behind (stream_of s a) (denoted s name.token.0)
+is_variable s _ = false
+
+-- where a variable lies
+abbrev pub variable_place : Source → Instances → ℕ → DeclNo → Expressions → Term
+variable_place s m i d NoMore = in_instance (home_of s m i d) (λ j. PlaceOf j (Declared d.0))
+variable_place s m i d (Then e es) = Unbuilt
+
+abbrev pub array_place : Source → Instances → ℕ → (line : ℕ) → DeclNo → Expressions → Terms → Term
+array_place s m i line d NoMore terms = Unbuilt
+array_place s m i line d (Then e es) terms = in_instance (home_of s m i d) (λ j. ElementOf line (Cell j (Declared d.0)) terms)
+
+abbrev pub formal_place : Source → Instances → ℕ → (line : ℕ) → DeclNo → Mode → FormalKind → Expressions → Terms → Term
+formal_place s m i line d mode.ByName kind es terms = Unbuilt
+formal_place s m i line d mode shape.Simple es terms = variable_place s m i d es
+formal_place s m i line d mode shape.Array es terms = array_place s m i line d es terms
+formal_place s m i line d mode shape.Procedure es terms = Unbuilt
+
+abbrev pub declared_place : Source → Instances → ℕ → (line : ℕ) → DeclNo → Option Entry → Expressions → Terms → Term
+declared_place s m i line d (Some (entry.Variable type)) es terms = variable_place s m i d es
+declared_place s m i line d (Some (entry.Array element dimensions)) es terms = array_place s m i line d es terms
+declared_place s m i line d (Some (entry.Formal f)) es terms = formal_place s m i line d f.mode f.kind es terms
+declared_place s m i line d _ es terms = Unbuilt
+
+abbrev pub image_place : Option ℕ → Term
+image_place None = Unbuilt
+image_place (Some image) = ImageOf image
+
+abbrev pub named_place : Source → Instances → ℕ → (line : ℕ) → Option Denotation → Expressions → Terms → Term
+named_place s m i line (Some (denotation.Declared d)) es terms = declared_place s m i line d (entry_of s.tables d) es terms
+named_place s m i line _ es terms = ImageOf sysout
+
+-- An attribute of a text that moves its position gets where a variable lies, and so reads it after the actual; any other gets the text.
+abbrev pub object_term : (place : Bool) → (variable text : Term) → Term
+object_term true variable text = variable
+object_term false variable text = text
+
+abbrev pub attribute_term : Option Standard → (is_variable : Bool) → (line : ℕ) → (variable text : Term) → Terms → Term
+attribute_term None is_variable line variable text terms = Unbuilt
+attribute_term (Some name) is_variable line variable text terms = StandardOf name (Further (object_term (moves_position name && is_variable) variable text) terms) line
+
+abbrev pub behind_dot : (stream : Option ℕ) → Option Standard → (is_variable : Bool) → (line : ℕ) → (variable text : Term) → Terms → Term
+behind_dot (Some image) name is_variable line variable text terms = standard_term name image line terms
+behind_dot None name is_variable line variable text terms = attribute_term name is_variable line variable text terms
+
+-- the attributes of objects are not built
+abbrev pub dot_term : Option Denotation → (stream : Option ℕ) → (is_variable : Bool) → (line : ℕ) → (variable text : Term) → Terms → Term
+dot_term (Some (denotation.Standard name)) stream is_variable line variable text terms = behind_dot stream (procedure_named name) is_variable line variable text terms
+dot_term _ stream is_variable line variable text terms = Unbuilt
+
+-- an actual parameter: an array and a text by value are copied; parameters by name and procedures are not built
 abbrev pub actual_term : (line : ℕ) → Mode → FormalKind → (text : Bool) → Term → Term
 actual_term line mode.ByValue shape.Array text a = CopyOf line a
 actual_term line mode.ByReference shape.Array text a = a
-actual_term line mode.ByValue shape.Simple true a = Unbuilt
+actual_term line mode.ByValue shape.Simple true a = StandardOf name_of.Copy (Further a NoTerm) line
 actual_term line mode.ByValue shape.Simple false a = a
 actual_term line mode.ByReference shape.Simple text a = a
 actual_term line mode shape.Procedure text a = Unbuilt
@@ -196,14 +310,21 @@ abbrev mutual
   close s m i (syntax.Not token a) = One monadic.Not (line_at s token) (close s m i a)
   close s m i (syntax.Signed sign token a) = signed_term sign (line_at s token) (close s m i a)
   close s m i (syntax.Member member token a class) = Unbuilt
-  close s m i (syntax.Dot token a name es) = Unbuilt
+  close s m i (syntax.Dot token a name es) =
+      dot_term (denoted s name.token.0) (stream_of s a) (is_variable s a) (line_at s name.token.0) (close_place s m i a) (close s m i a) (close_all s m i es)
   close s m i (syntax.Qua token a class) = Unbuilt
-  close s m i (syntax.Constant literal token) = literal_term literal
+  close s m i (syntax.Constant literal token) = literal_term s token literal
   close s m i (syntax.Named name es) =
       named_term s m i (line_at s name.token.0) (denoted s name.token.0) es (close_all s m i es) (λ formals. close_actuals s m i (line_at s name.token.0) es formals)
   close s m i (syntax.This token class) = Unbuilt
   close s m i (syntax.New token class es) = Unbuilt
   close s m i (syntax.Parentheses token a) = close s m i a
+
+  -- where a variable lies
+  pub close_place : Source → Instances → ℕ → Expression → Term
+  close_place s m i (syntax.Named name es) = named_place s m i (line_at s name.token.0) (denoted s name.token.0) es (close_all s m i es)
+  close_place s m i (syntax.Dot token a name es) = image_place (stream_of s a)
+  close_place s m i _ = Unbuilt
 
   pub close_all : Source → Instances → ℕ → Expressions → Terms
   close_all s m i NoMore = NoTerm
@@ -218,10 +339,11 @@ abbrev mutual
 
 -- ---- left sides
 
--- a left side: a cell, or the tree of an address
+-- a left side: a cell, or the tree of an address, or that of a text which a text is assigned to
 pub data Left : Type 0 where
   LeftCell : (instance : ℕ) → Key → Left
   LeftAddress : Term → Left
+  LeftText : (line : ℕ) → Term → Left
   LeftUnbuilt : Left
 
 abbrev pub left_in : Option ℕ → (ℕ → Left) → Left
@@ -258,13 +380,46 @@ abbrev pub named_left : Source → Instances → ℕ → (line : ℕ) → Option
 named_left s m i line (Some (denotation.Declared d)) es = declared_left s m i line d (entry_of s.tables d) es
 named_left s m i line _ es = LeftUnbuilt
 
--- an assignment to a text is not built
-abbrev pub close_left_of : (text : Bool) → Source → Instances → ℕ → Expression → Left
-close_left_of false s m i (syntax.Named name es) = named_left s m i (line_at s name.token.0) (denoted s name.token.0) es
-close_left_of _ s m i e = LeftUnbuilt
+-- a variable as a left side
+abbrev pub left_variable : Source → Instances → ℕ → Expression → Left
+left_variable s m i (syntax.Named name es) = named_left s m i (line_at s name.token.0) (denoted s name.token.0) es
+left_variable s m i e = LeftUnbuilt
 
-abbrev pub close_left : Source → Instances → ℕ → Expression → Left
-close_left s m i e = close_left_of (is_text s e) s m i e
+-- The block of the procedure whose result an expression is as a left side: of the identifier alone of a procedure, inside its text.
+abbrev pub block_if : Bool → ℕ → Option ℕ
+block_if true block = Some block
+block_if false block = None
+
+abbrev pub own_block : Source → (token : ℕ) → Option Entry → Option ℕ
+own_block s token (Some (entry.Procedure result block)) = block_if (is_inside s.tables token block) block
+own_block s token _ = None
+
+abbrev pub own_block_denoted : Source → (token : ℕ) → Option Denotation → Option ℕ
+own_block_denoted s token (Some (denotation.Declared d)) = own_block s token (entry_of s.tables d)
+own_block_denoted s token _ = None
+
+unfoldable pub own_result : Source → Expression → Option ℕ
+own_result s (syntax.Named name NoMore) = own_block_denoted s name.token.0 (denoted s name.token.0)
+own_result s _ = None
+
+-- the text that is assigned to: the result of a procedure, or the value of any other expression
+abbrev pub result_or : Source → Instances → ℕ → Option ℕ → Term → Term
+result_or s m i None text = text
+result_or s m i (Some block) text = in_instance (at_level m (level_of s block) i) (λ j. Cell j Result)
+
+abbrev pub left_text : Source → Instances → ℕ → Expression → Term
+left_text s m i e = result_or s m i (own_result s e) (close s m i e)
+
+-- `:=` assigns a text to a text, and any other value to a variable; `:-` assigns a text to a variable; references are not built
+abbrev pub close_left_of : (text : Bool) → Assignment → Source → Instances → ℕ → (line : ℕ) → Expression → Left
+close_left_of true assignment.Value s m i line e = LeftText line (left_text s m i e)
+close_left_of true assignment.Reference s m i line e = left_variable s m i e
+close_left_of false assignment.Value s m i line e = left_variable s m i e
+close_left_of false assignment.Reference s m i line e = LeftUnbuilt
+
+-- a left side, with the line of its sign
+abbrev pub close_left : Source → Instances → ℕ → Assignment → (line : ℕ) → Expression → Left
+close_left s m i sign line e = close_left_of (is_text s e) sign s m i line e
 
 -- ---- values of calls
 

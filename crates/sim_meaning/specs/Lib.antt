@@ -1,4 +1,5 @@
 pub mod Names
+pub mod Constants
 pub mod Texts
 pub mod Pending
 pub mod Closing
@@ -7,3 +8,4 @@ pub mod Statements
 pub mod Entries
 pub mod Meaning
 pub mod Examples
+pub mod TextExamples

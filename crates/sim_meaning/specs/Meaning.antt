@@ -5,13 +5,14 @@ use Rattle.sim_scope.specs.Source.{Source, line_at}
 use Rattle.sim_tree.specs.declared.stmt.TypeName.{TypeName}
 use Rattle.sim_tree.specs.Syntax.{Declarations, Statements}
 use Rattle.sim_code.specs.Outcome.{Going, Normal, Run, World, after, first_world}
-use Rattle.sim_code.specs.Events.{applying_one, applying_two, choosing, entering, having, no_rule, performing, pop_integers, pop_many, pop_truth, popping, stopping, testing_step, ticking, when}
+use Rattle.sim_code.specs.Events.{applying_one, applying_two, choosing, entering, having, joining, no_rule, performing, pop_integers, pop_many, pop_truth, popping, stopping, testing_step, ticking, when}
 use Rattle.sim_code.specs.Arrays.{giving_back, handed_over, making_array, pairs}
 use Rattle.sim_code.specs.Instances.{Instance, given, is_given_at_end, is_live, no_instances}
-use Rattle.sim_meaning.specs.Pending.{Activation, AgainOp, ArrayOp, ArrayValue, BackOp, BranchOp, CallOp, ChooseOp, Configuration, CopyOp, Do, DropOp, ElementOp, ElementsOp, EndBlock, EndProcedure, EndProgram, EnterOp, Eval, Exec, Execs, FetchOp, GiveOp, Held, IfOp, Instances, Item, Of, OneOp, Op, PastOp, RaiseOp, Result, ShareOp, StandardOp, StepOp, StepTestOp, StoreOp, TestOp, TwoOp, Val, WhileElementOp, cell, instance_in, plain}
+use Rattle.sim_meaning.specs.Pending.{Activation, AgainOp, ArrayOp, ArrayValue, BackOp, BranchOp, CallOp, ChooseOp, Configuration, CopyOp, Do, DropOp, ElementOp, ElementsOp, EndBlock, EndProcedure, EndProgram, EnterOp, Eval, Exec, Execs, FetchOp, GiveOp, Held, IfOp, Instances, Item, JoinOp, Of, OneOp, Op, PastOp, RaiseOp, Result, ShareOp, StandardOp, StepOp, StepTestOp, StoreOp, TestOp, TwoOp, Val, WhileElementOp, cell, instance_in, plain}
+use Rattle.sim_meaning.specs.Constants.{constants_of}
 use Rattle.sim_meaning.specs.Texts.{BlockText, ProcedureText, Text, text}
 use Rattle.sim_meaning.specs.Closing.{close}
-use Rattle.sim_meaning.specs.Steps.{copied, element_found, eval, fetched, given_to, go, stored, with_value}
+use Rattle.sim_meaning.specs.Steps.{copied, element_found, eval, fetched, given_to, go, operand, put_back, stored, with_value}
 use Rattle.sim_meaning.specs.Statements.{elements, exec, execs, first_branch, raised, step_tested, while_element}
 use Rattle.sim_meaning.specs.Entries.{arrays_by_value, arrays_declared, filled_behind, first_cells, formals_of, in_instance, instances_kept, words_of_cells}
 
@@ -84,11 +85,12 @@ do_op s l o m i w vals rest (Eval t) = eval o m i w vals rest t
 do_op s l o m i w vals rest (OneOp op line) = applying_one plain op line vals o (λ z vals. go o m i w (Of z ∷ vals) rest)
 do_op s l o m i w vals rest (TwoOp op line) = applying_two plain op line vals o (λ z vals. go o m i w (Of z ∷ vals) rest)
 do_op s l o m i w vals rest (IfOp a b) = pop_truth plain vals o (λ c vals. choosing c (go o m i (Do (Eval a) ∷ Do PastOp ∷ w) vals rest) (go o m i (Do (Eval b) ∷ w) vals rest))
+do_op s l o m i w vals rest (JoinOp line) = joining plain l line vals o (λ z p vals. go p m i w (Of z ∷ vals) rest)
 do_op s l o m i w vals rest (ElementOp n line) = element_found o m i w vals rest n line
 do_op s l o m i w vals rest FetchOp = fetched o m i w vals rest
 do_op s l o m i w vals rest (CopyOp line) = copied l o m i w vals rest line
 do_op s l o m i w vals rest (CallOp k n line) = called s l o m i w vals rest k n line
-do_op s l o m i w vals rest (StandardOp name line) = performing plain l line name vals o (λ p moved value vals. go p m i w (with_value value vals) rest)
+do_op s l o m i w vals rest (StandardOp name line) = performing operand put_back l line name vals o m (λ p m value vals. go p m i w (with_value value vals) rest)
 -- values in hand, and assignments
 do_op s l o m i w vals rest DropOp = popping vals o (λ v vals. go o m i w vals rest)
 do_op s l o m i w vals rest AgainOp = popping vals o (λ v vals'. go o m i w (v ∷ vals) rest)
@@ -140,10 +142,6 @@ do_chain s l o m (a ∷ rest) = do_work s l o m a.instance a.values rest a.work
 
 abbrev pub step : Source → Limits → World → Configuration → Run Configuration
 step s l o c = do_chain s l o c.memory c.chain
-
--- the text constants of a program; they are not built
-unfoldable pub constants_of : Source → List (List ℕ)
-constants_of s = []
 
 abbrev pub opening : Source → Limits → (input : List ℕ) → Run Configuration
 opening s l input = Going (first_world (constants_of s) l input) no_instances

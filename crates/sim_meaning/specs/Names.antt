@@ -1,9 +1,10 @@
 -- The standard names as scopes find them, and as the table of standard procedures has them.
-use Rattle.std.specs.Prelude.{Option, Some, None}
+use Rattle.std.specs.Prelude.{ℕ, Bool, false, Option, Some, None}
 use Rattle.sim_scope.specs.declared.standard.Standard.{Standard as Found}
 use Rattle.sim_scope.specs.declared.standard.Standard.TheVariants as found
 use Rattle.sim_values.specs.declared.standard.Standard.{Standard}
 use Rattle.sim_values.specs.declared.standard.Standard.TheVariants as name
+use Rattle.sim_values.specs.Standard.{is_image}
 
 -- `sysin` and `sysout` themselves are no procedures
 abbrev pub procedure_named : Found → Option Standard
@@ -55,3 +56,14 @@ procedure_named found.More = Some name.More
 procedure_named found.Length = Some name.Length
 procedure_named found.Sysin = None
 procedure_named found.Sysout = None
+
+-- `sysin` and `sysout`, by the numbers of their images
+abbrev pub stream_named : Found → Option ℕ
+stream_named found.Sysin = Some 0
+stream_named found.Sysout = Some 1
+stream_named _ = None
+
+-- whether a name is `image`
+abbrev pub is_image_in : Option Standard → Bool
+is_image_in None = false
+is_image_in (Some name) = is_image name

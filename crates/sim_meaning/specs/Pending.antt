@@ -26,6 +26,11 @@ mutual
     -- where an element of an array lies, and the value that lies somewhere
     ElementOf : (line : ℕ) → (array : Term) → (subscripts : Terms) → Term
     ValueAt : Term → Term
+    -- where a variable and an image lie
+    PlaceOf : (instance : ℕ) → Key → Term
+    ImageOf : (image : ℕ) → Term
+    -- `&`
+    Joined : (line : ℕ) → (left right : Term) → Term
     -- a copy of an array
     CopyOf : (line : ℕ) → Term → Term
     CallOf : (instance text : ℕ) → (actuals : Terms) → (line : ℕ) → Term
@@ -63,10 +68,13 @@ abbrev pub instance_in : Val → Option ℕ
 instance_in (Link j) = Some j
 instance_in _ = None
 
--- what a value is assigned to: a cell, or where an address in hand leads
+-- What a value is assigned to: a cell, or where an address in hand leads. By `:=` a text is assigned to a text: one in hand, or that in a
+-- cell, which the controlled variable of a loop is.
 pub data Target : Type 0 where
   ToCell : (instance : ℕ) → Key → Target
   ToAddress : Target
+  ToText : (line : ℕ) → Target
+  ToTextOf : (instance : ℕ) → Key → (line : ℕ) → Target
 
 -- What is still to be done. An operator takes the values that it needs from those in hand.
 pub data Op : Type 0 where
@@ -75,6 +83,7 @@ pub data Op : Type 0 where
   OneOp : Monadic → (line : ℕ) → Op
   TwoOp : Dyadic → (line : ℕ) → Op
   IfOp : (first second : Term) → Op
+  JoinOp : (line : ℕ) → Op
   ElementOp : (subscripts line : ℕ) → Op
   FetchOp : Op
   CopyOp : (line : ℕ) → Op

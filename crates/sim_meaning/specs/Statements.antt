@@ -3,6 +3,7 @@ use Rattle.std.specs.Prelude.{ℕ, Bool, true, false, List, [], ◌∷◌, ◌++
 use Rattle.sim_base.specs.declared.limits.Limits.{Limits}
 use Rattle.sim_scope.specs.declared.scopes.Denotation.{Denotation}
 use Rattle.sim_scope.specs.declared.scopes.Denotation.TheVariants as denotation
+use Rattle.sim_scope.specs.Assignments.{LeftSide, last_value, left_sides}
 use Rattle.sim_scope.specs.Scopes.{result_of}
 use Rattle.sim_scope.specs.Source.{Source, block_around, denoted, line_at}
 use Rattle.sim_tree.specs.declared.stmt.Assignment.{Assignment}
@@ -17,8 +18,8 @@ use Rattle.sim_values.specs.Standard.{row_of}
 use Rattle.sim_code.specs.Outcome.{Run, World}
 use Rattle.sim_code.specs.Events.{no_rule, ticking}
 use Rattle.sim_meaning.specs.Names.{procedure_named}
-use Rattle.sim_meaning.specs.Pending.{Activation, AgainOp, BackOp, BranchOp, Cell, ChooseOp, Configuration, Do, DropOp, ElementsOp, EnterOp, Eval, Exec, Execs, Instances, Item, Op, PastOp, RaiseOp, ShareOp, StepOp, StepTestOp, StoreOp, Target, TestOp, ToAddress, ToCell, TwoOp, Val, WhileElementOp}
-use Rattle.sim_meaning.specs.Closing.{Left, LeftAddress, LeftCell, close, close_left, has_type}
+use Rattle.sim_meaning.specs.Pending.{Activation, AgainOp, BackOp, BranchOp, Cell, ChooseOp, Configuration, Do, DropOp, ElementsOp, EnterOp, Eval, Exec, Execs, Instances, Item, Op, PastOp, RaiseOp, ShareOp, StepOp, StepTestOp, StoreOp, Key, Target, TestOp, ToAddress, ToCell, ToText, ToTextOf, TwoOp, Val, WhileElementOp}
+use Rattle.sim_meaning.specs.Closing.{Left, LeftAddress, LeftCell, LeftText, close, close_left, has_type, is_text, left_variable}
 use Rattle.sim_meaning.specs.Steps.{go}
 
 -- ---- calls
@@ -39,6 +40,7 @@ denoted_leaves s (Some (denotation.Standard name)) = standard_leaves (procedure_
 -- whether a call that stands as a statement leaves a value, which is dropped
 abbrev pub leaves : Source → Expression → Bool
 leaves s (syntax.Named name es) = denoted_leaves s (denoted s name.token.0)
+leaves s (syntax.Dot token a name es) = denoted_leaves s (denoted s name.token.0)
 leaves s _ = false
 
 abbrev pub dropping : Bool → List Item → List Item
@@ -47,24 +49,7 @@ dropping false w = w
 
 -- ---- assignments
 
--- the left sides, and the expression on the right of all of them
-abbrev pub left_sides : Expression → List RightSide → List Expression
-left_sides e [] = []
-left_sides e (r ∷ rs) = e ∷ left_sides r.value rs
-
-abbrev pub right_side : Expression → List RightSide → Expression
-right_side e [] = e
-right_side e (r ∷ rs) = right_side r.value rs
-
-abbrev pub are_values : List RightSide → Bool
-are_values [] = true
-are_values (r ∷ rs) = is_value r.sign (are_values rs)
-  where
-    is_value : Assignment → Bool → Bool
-    is_value assignment.Value others = others
-    is_value assignment.Reference others = false
-
--- The left sides are found from left to right: what each is, and its address, if it has one. None where a form is not built.
+-- The left sides are found from left to right: what each is, and its address or its text, if it has one. None where a form is not built.
 pub record Lefts : Type 0 where
   pub work : List Item
   pub targets : List Target
@@ -72,20 +57,21 @@ pub record Lefts : Type 0 where
 abbrev pub before : Left → Option Lefts → Option Lefts
 before (LeftCell j key) (Some x) = Some (record { work = x.work; targets = ToCell j key ∷ x.targets })
 before (LeftAddress t) (Some x) = Some (record { work = Do (Eval t) ∷ x.work; targets = ToAddress ∷ x.targets })
+before (LeftText line t) (Some x) = Some (record { work = Do (Eval t) ∷ x.work; targets = ToText line ∷ x.targets })
 before _ _ = None
 
-abbrev pub lefts : Source → Instances → ℕ → List Expression → Option Lefts
+abbrev pub lefts : Source → Instances → ℕ → List LeftSide → Option Lefts
 lefts s m i [] = Some (record { work = []; targets = [] })
-lefts s m i (e ∷ es) = before (close_left s m i e) (lefts s m i es)
+lefts s m i (l ∷ ls) = before (close_left s m i l.sign (line_at s l.token) l.target) (lefts s m i ls)
 
 -- one value goes to one left side, or to several from right to left
 abbrev pub assigning : List Target → Op
 assigning (t ∷ []) = StoreOp t
 assigning ts = ShareOp (reverse ts)
 
-abbrev pub assigned : Source → World → Instances → ℕ → List Item → List Val → List Activation → (values : Bool) → Option Lefts → Expression → Run Configuration
-assigned s o m i w vals rest true (Some x) e = go o m i (x.work ++ Do (Eval (close s m i e)) ∷ Do (assigning x.targets) ∷ w) vals rest
-assigned s o m i w vals rest _ _ e = no_rule o
+abbrev pub assigned : Source → World → Instances → ℕ → List Item → List Val → List Activation → Option Lefts → Expression → Run Configuration
+assigned s o m i w vals rest (Some x) e = go o m i (x.work ++ Do (Eval (close s m i e)) ∷ Do (assigning x.targets) ∷ w) vals rest
+assigned s o m i w vals rest None e = no_rule o
 
 -- ---- blocks
 
@@ -100,24 +86,39 @@ compound s o m i w vals rest (Begin token (With d ds) ss end) = entered_at o m i
 
 -- ---- loops
 
--- the controlled variable, which is a cell
-abbrev pub controlled : Left → Option Target
-controlled (LeftCell j key) = Some (ToCell j key)
-controlled _ = None
+-- the controlled variable, which is a cell: what is assigned to it, by the sign and by whether it is a text
+abbrev pub controlled_cell : (text : Bool) → Assignment → (line instance : ℕ) → Key → Option Target
+controlled_cell true assignment.Value line j key = Some (ToTextOf j key line)
+controlled_cell true assignment.Reference line j key = Some (ToCell j key)
+controlled_cell false assignment.Value line j key = Some (ToCell j key)
+controlled_cell false assignment.Reference line j key = None
 
-abbrev pub looping : World → Instances → ℕ → List Item → List Val → List Activation → Assignment → Option Target → List Element → Statement → Run Configuration
-looping o m i w vals rest assignment.Value (Some t) es a = go o m i (Do (ElementsOp t es a) ∷ w) vals rest
-looping o m i w vals rest _ _ es a = no_rule o
+abbrev pub controlled : (text : Bool) → Assignment → (line : ℕ) → Left → Option Target
+controlled text sign line (LeftCell j key) = controlled_cell text sign line j key
+controlled text sign line _ = None
 
+abbrev pub looping : World → Instances → ℕ → List Item → List Val → List Activation → Option Target → List Element → Statement → Run Configuration
+looping o m i w vals rest (Some t) es a = go o m i (Do (ElementsOp t es a) ∷ w) vals rest
+looping o m i w vals rest None es a = no_rule o
+
+-- the value of the controlled variable, and the text in it that is assigned to
 abbrev pub reading : Target → List Item → List Item
 reading (ToCell j key) w = Do (Eval (Cell j key)) ∷ w
 reading ToAddress w = w
+reading (ToText line) w = w
+reading (ToTextOf j key line) w = Do (Eval (Cell j key)) ∷ w
+
+abbrev pub finding : Target → List Item → List Item
+finding (ToCell j key) w = w
+finding ToAddress w = w
+finding (ToText line) w = w
+finding (ToTextOf j key line) w = Do (Eval (Cell j key)) ∷ w
 
 -- The elements of a `for` list are taken in turn. A plain element takes its tick and gives one turn.
 abbrev pub elements : Source → Limits → World → Instances → ℕ → List Item → List Val → List Activation → Target → List Element → Statement → Run Configuration
 elements s l o m i w vals rest t [] a = go o m i w vals rest
 elements s l o m i w vals rest t (syntax.Once e ∷ es) a =
-    ticking l o (λ p. go p m i (Do (Eval (close s m i e)) ∷ Do (StoreOp t) ∷ Do (Exec a) ∷ Do (ElementsOp t es a) ∷ w) vals rest)
+    ticking l o (λ p. go p m i (finding t (Do (Eval (close s m i e)) ∷ Do (StoreOp t) ∷ Do (Exec a) ∷ Do (ElementsOp t es a) ∷ w)) vals rest)
 elements s l o m i w vals rest t (syntax.While e token c ∷ es) a = go o m i (Do (WhileElementOp t e c a) ∷ Do (ElementsOp t es a) ∷ w) vals rest
 elements s l o m i w vals rest t (syntax.Step first token step limit ∷ es) a =
     go o m i (Do (Eval (close s m i first)) ∷ Do (StoreOp t) ∷ Do (Eval (close s m i step)) ∷ Do (StepTestOp t (line_at s token) step limit a) ∷ Do (ElementsOp t es a) ∷ w) vals rest
@@ -125,7 +126,7 @@ elements s l o m i w vals rest t (syntax.Step first token step limit ∷ es) a =
 -- A while element takes a tick for each evaluation, and none for its test.
 abbrev pub while_element : Source → Limits → World → Instances → ℕ → List Item → List Val → List Activation → Target → (value condition : Expression) → Statement → Run Configuration
 while_element s l o m i w vals rest t e c a =
-    ticking l o (λ p. go p m i (Do (Eval (close s m i e)) ∷ Do (StoreOp t) ∷ Do (Eval (close s m i c)) ∷ Do (BranchOp a (BackOp (WhileElementOp t e c a))) ∷ w) vals rest)
+    ticking l o (λ p. go p m i (finding t (Do (Eval (close s m i e)) ∷ Do (StoreOp t) ∷ Do (Eval (close s m i c)) ∷ Do (BranchOp a (BackOp (WhileElementOp t e c a))) ∷ w)) vals rest)
 
 -- The test of a step element, with the step in hand: first its tick, then the variable, then the limit.
 abbrev pub step_tested : Source → Limits → World → Instances → ℕ → List Item → List Val → List Activation → Target → (line : ℕ) → (step limit : Expression) → Statement → Run Configuration
@@ -144,10 +145,10 @@ abbrev pub exec : Source → Limits → World → Instances → ℕ → List Ite
 exec s l o m i w vals rest (syntax.Empty token) = go o m i w vals rest
 exec s l o m i w vals rest (syntax.Compound b) = ticking l o (λ p. compound s p m i w vals rest b)
 exec s l o m i w vals rest (syntax.Call e) = ticking l o (λ p. go p m i (Do (Eval (close s m i e)) ∷ dropping (leaves s e) w) vals rest)
-exec s l o m i w vals rest (syntax.Assign left rs) = ticking l o (λ p. assigned s p m i w vals rest (are_values rs) (lefts s m i (left_sides left rs)) (right_side left rs))
+exec s l o m i w vals rest (syntax.Assign left rs) = ticking l o (λ p. assigned s p m i w vals rest (lefts s m i (left_sides left rs)) (last_value left rs))
 exec s l o m i w vals rest (syntax.Choose token c a b) = ticking l o (λ p. go p m i (Do (Eval (close s m i c)) ∷ Do (ChooseOp a b) ∷ w) vals rest)
 exec s l o m i w vals rest (syntax.Repeat token c a) = ticking l o (λ p. go p m i (Do (TestOp c a) ∷ w) vals rest)
-exec s l o m i w vals rest (syntax.For token x sign assign es a) = ticking l o (λ p. looping p m i w vals rest sign (controlled (close_left s m i (syntax.Named x NoMore))) es a)
+exec s l o m i w vals rest (syntax.For token x sign assign es a) = ticking l o (λ p. looping p m i w vals rest (controlled (is_text s (syntax.Named x NoMore)) sign (line_at s assign) (left_variable s m i (syntax.Named x NoMore))) es a)
 exec s l o m i w vals rest _ = no_rule o
 
 abbrev pub execs : World → Instances → ℕ → List Item → List Val → List Activation → Statements → Run Configuration

@@ -1,12 +1,13 @@
 -- What an operator does that is pending in the innermost instance.
 use Rattle.std.specs.Prelude.{ℕ, suc, List, [], ◌∷◌, Option, Some, None}
 use Rattle.sim_base.specs.declared.limits.Limits.{Limits}
-use Rattle.sim_values.specs.Plain.{Plain}
+use Rattle.sim_values.specs.declared.value.TextVal.{TextVal}
+use Rattle.sim_values.specs.Plain.{Plain, Text}
 use Rattle.sim_code.specs.Outcome.{Going, Run, World}
-use Rattle.sim_code.specs.Events.{having, no_rule, popping}
+use Rattle.sim_code.specs.Events.{assigning, having, image_set, image_value, no_rule, only_text, popping}
 use Rattle.sim_code.specs.Arrays.{copying_array, element, element_set, finding_element}
 use Rattle.sim_code.specs.Instances.{CellPlace, ElementPlace, ImagePlace, Place}
-use Rattle.sim_meaning.specs.Pending.{Address, Activation, ArrayValue, Cell, CallOf, CallOp, Configuration, CopyOf, CopyOp, Do, Either, ElementOf, ElementOp, Eval, FetchOp, Further, GiveOp, Given, IfOp, Instances, Item, Key, Link, NoTerm, Of, One, OneOp, StandardOf, StandardOp, StoreOp, Target, Term, Terms, ToAddress, ToCell, Two, TwoOp, Unbuilt, Val, ValueAt, array_in, cell, cell_set, place_in, plain}
+use Rattle.sim_meaning.specs.Pending.{Address, Activation, ArrayValue, Cell, CallOf, CallOp, Configuration, CopyOf, CopyOp, Do, Either, ElementOf, ElementOp, Eval, FetchOp, Further, GiveOp, Given, IfOp, ImageOf, Instances, Item, JoinOp, Joined, Key, Link, NoTerm, Of, One, OneOp, PlaceOf, StandardOf, StandardOp, StoreOp, Target, Term, Terms, ToAddress, ToCell, ToText, ToTextOf, Two, TwoOp, Unbuilt, Val, ValueAt, array_in, cell, cell_set, place_in, plain}
 
 -- the innermost instance goes on with this work and these values in hand
 abbrev pub go : World → Instances → ℕ → List Item → List Val → List Activation → Run Configuration
@@ -34,6 +35,9 @@ eval o m i w vals rest (One op line a) = go o m i (Do (Eval a) ∷ Do (OneOp op 
 eval o m i w vals rest (Two op line a b) = go o m i (Do (Eval a) ∷ Do (Eval b) ∷ Do (TwoOp op line) ∷ w) vals rest
 eval o m i w vals rest (Either c a b) = go o m i (Do (Eval c) ∷ Do (IfOp a b) ∷ w) vals rest
 eval o m i w vals rest (ElementOf line a ts) = go o m i (Do (Eval a) ∷ each ts (Do (ElementOp (count ts) line) ∷ w)) vals rest
+eval o m i w vals rest (PlaceOf j key) = go o m i w (Address (CellPlace j key None) ∷ vals) rest
+eval o m i w vals rest (ImageOf n) = go o m i w (Address (ImagePlace n) ∷ vals) rest
+eval o m i w vals rest (Joined line a b) = go o m i (Do (Eval a) ∷ Do (Eval b) ∷ Do (JoinOp line) ∷ w) vals rest
 eval o m i w vals rest (ValueAt a) = go o m i (Do (Eval a) ∷ Do FetchOp ∷ w) vals rest
 eval o m i w vals rest (CopyOf line a) = go o m i (Do (Eval a) ∷ Do (CopyOp line) ∷ w) vals rest
 eval o m i w vals rest (CallOf j k ts line) = go o m i (each ts (Do (CallOp k (count ts) line) ∷ w)) (Link j ∷ vals) rest
@@ -48,7 +52,17 @@ of_plain (Some p) = Some (Of p)
 abbrev pub value_at : World → Instances → Place Key (Option ℕ) → Option Val
 value_at o m (CellPlace j key class) = cell m j key
 value_at o m (ElementPlace a index class) = of_plain (element o a index)
-value_at o m (ImagePlace n) = None
+value_at o m (ImagePlace n) = of_plain (image_value o n)
+
+abbrev pub plain_in : Option Val → Option Plain
+plain_in None = None
+plain_in (Some v) = plain v
+
+-- an operand of a standard name: a plain value, or the text at an address
+abbrev pub operand : World → Instances → Val → Option Plain
+operand o m (Of p) = Some p
+operand o m (Address p) = only_text (plain_in (value_at o m p))
+operand o m _ = None
 
 abbrev pub fetched : World → Instances → ℕ → List Item → List Val → List Activation → Run Configuration
 fetched o m i w vals rest = popping vals o (λ v vals. having (place_in v) o (λ p. having (value_at o m p) o (λ v. go o m i w (v ∷ vals) rest)))
@@ -65,11 +79,23 @@ copied l o m i w vals rest line = popping vals o (λ v vals. having (array_in v)
 unfoldable pub putting : Place Key (Option ℕ) → Val → World → Instances → (World → Instances → Run Configuration) → Run Configuration
 putting (CellPlace j key None) v o m go = having (cell_set m j key v) o (λ m. go o m)
 putting (ElementPlace a n None) v o m go = having (plain v) o (λ p. having (element_set o a n p) o (λ o. go o m))
+putting (ImagePlace n) v o m go = having (plain v) o (λ p. having (image_set o n p) o (λ o. go o m))
 putting _ v o m go = no_rule o
+
+-- the text of an operand goes back to where its address leads, if it is one
+unfoldable pub put_back : Val → TextVal → World → Instances → (World → Instances → Run Configuration) → Run Configuration
+put_back (Address p) t o m go = putting p (Of (Text t)) o m go
+put_back _ t o m go = go o m
+
+-- a text is assigned to a text that was found before
+abbrev pub text_assigned : World → Instances → ℕ → List Item → List Val → List Activation → (line : ℕ) → Run Configuration
+text_assigned o m i w vals rest line = assigning plain line vals o (λ p vals. go p m i w vals rest)
 
 abbrev pub stored : World → Instances → ℕ → List Item → List Val → List Activation → Target → Run Configuration
 stored o m i w vals rest (ToCell j key) = popping vals o (λ v vals. having (cell_set m j key v) o (λ m. go o m i w vals rest))
 stored o m i w vals rest ToAddress = popping vals o (λ v vals. popping vals o (λ p vals. having (place_in p) o (λ p. putting p v o m (λ o m. go o m i w vals rest))))
+stored o m i w vals rest (ToText line) = text_assigned o m i w vals rest line
+stored o m i w vals rest (ToTextOf j key line) = text_assigned o m i w vals rest line
 
 -- a value that was taken is given to one left side after another
 abbrev pub given_to : World → Instances → ℕ → List Item → List Val → List Activation → Val → List Target → Run Configuration

@@ -24,6 +24,7 @@ use Rattle.sim_tree.specs.Syntax as syntax
 use Rattle.sim_values.specs.declared.kind.Kind.{Kind}
 use Rattle.sim_values.specs.declared.kind.Kind.TheVariants as kind
 use Rattle.sim_values.specs.Plain.{Plain, Integer, Truth, Character}
+use Rattle.sim_meaning.specs.Constants.{text_constant}
 
 pub data Text : Type 0 where
   BlockText : (begin : ℕ) → Declarations → Statements → Text
@@ -122,29 +123,29 @@ with_sign (Some x) z = signed x.sign z
     signed sign.Plus z = z
     signed sign.Minus z = neg_ℤ z
 
--- the value of a declared constant; those of texts are not built
-abbrev pub constant_value : Constant → Option Plain
-constant_value (constant.Integer sign token z) = Some (Integer (with_sign sign z))
-constant_value (constant.Character token c) = Some (Character c)
-constant_value (constant.Text token bytes) = None
-constant_value (constant.True token) = Some (Truth true)
-constant_value (constant.False token) = Some (Truth false)
+-- the value of a declared constant
+abbrev pub constant_value : Source → Constant → Option Plain
+constant_value s (constant.Integer sign token z) = Some (Integer (with_sign sign z))
+constant_value s (constant.Character token c) = Some (Character c)
+constant_value s (constant.Text token bytes) = text_constant s token.0
+constant_value s (constant.True token) = Some (Truth true)
+constant_value s (constant.False token) = Some (Truth false)
 
-abbrev pub value_in : Option Constant → Option Plain
-value_in None = None
-value_in (Some c) = constant_value c
+abbrev pub value_in : Source → Option Constant → Option Plain
+value_in s None = None
+value_in s (Some c) = constant_value s c
 
 -- the constant that is declared at a token
-abbrev pub among_variables : (token : ℕ) → List Variable → Option Plain → Option Plain
-among_variables token [] other = other
-among_variables token (v ∷ vs) other = if v.name.token.0 == token then value_in v.value else among_variables token vs other
+abbrev pub among_variables : Source → (token : ℕ) → List Variable → Option Plain → Option Plain
+among_variables s token [] other = other
+among_variables s token (v ∷ vs) other = if v.name.token.0 == token then value_in s v.value else among_variables s token vs other
 
-abbrev pub among_declarations : (token : ℕ) → Declarations → Option Plain
-among_declarations token NoDeclaration = None
-among_declarations token (With (Variables type vs) ds) = among_variables token vs (among_declarations token ds)
-among_declarations token (With (Arrays type i segments) ds) = among_declarations token ds
-among_declarations token (With (DeclareProcedure result i h a end) ds) = among_declarations token ds
-among_declarations token (With (DeclareClass prefix i h interface a end) ds) = among_declarations token ds
+abbrev pub among_declarations : Source → (token : ℕ) → Declarations → Option Plain
+among_declarations s token NoDeclaration = None
+among_declarations s token (With (Variables type vs) ds) = among_variables s token vs (among_declarations s token ds)
+among_declarations s token (With (Arrays type i segments) ds) = among_declarations s token ds
+among_declarations s token (With (DeclareProcedure result i h a end) ds) = among_declarations s token ds
+among_declarations s token (With (DeclareClass prefix i h interface a end) ds) = among_declarations s token ds
 
 -- ---- declarations by token
 
@@ -158,14 +159,14 @@ declared_at s token = number_from 0 token s.tables.declarations
 
 -- ---- constants by declaration
 
-abbrev pub constant_in : Option Text → (token : ℕ) → Option Plain
-constant_in (Some (BlockText begin ds ss)) token = among_declarations token ds
-constant_in (Some (PrefixedText class arguments ds ss)) token = among_declarations token ds
-constant_in _ token = None
+abbrev pub constant_in : Source → Option Text → (token : ℕ) → Option Plain
+constant_in s (Some (BlockText begin ds ss)) token = among_declarations s token ds
+constant_in s (Some (PrefixedText class arguments ds ss)) token = among_declarations s token ds
+constant_in s _ token = None
 
 abbrev pub row_constant : Source → Option Row → Option Plain
 row_constant s None = None
-row_constant s (Some row) = constant_in (text s row.block) row.token.0
+row_constant s (Some row) = constant_in s (text s row.block) row.token.0
 
 -- the value of a constant, which is written where it is declared
 unfoldable pub constant_of : Source → DeclNo → Option Plain

@@ -27,7 +27,7 @@ use Rattle.codegen.specs.Compiled.{RecordOf, code_formal, type_of_name}
 use Rattle.sim_relate.proofs.Ends.{is_typed}
 use Rattle.sim_relate.proofs.Heads.{Same, kept_same}
 use Rattle.sim_relate.proofs.Lists.{same_length}
-use Rattle.sim_relate.proofs.Relation.{Any, Keeps, Kind, Later, StackAt, StoreAt, ValAt, anys, array_at, element_at, link_at, more_at, plain_at}
+use Rattle.sim_relate.proofs.Relation.{Any, Keeps, Kind, Later, StackAt, StoreAt, ValAt, anys, array_at, element_at, image_at, link_at, more_at, plain_at}
 use Rattle.sim_relate.proofs.Slots.{results}
 use Rattle.sim_relate.proofs.Stores.{SameOwners, keeps_kept, later_kept, store_kept}
 
@@ -66,6 +66,7 @@ array_same _ _ rest plain_at = refl
 array_same _ _ rest link_at = refl
 array_same _ _ rest array_at = refl
 array_same _ _ rest element_at = refl
+array_same _ _ rest image_at = refl
 
 pub arrays_same : (fs : List Formal) (vs : List Val) (xs : List Value) → EachAt ValAt vs xs → machine.arrays_by_value (map code_formal fs) xs ≡ arrays_by_value fs vs
 arrays_same [] vs xs e = refl

@@ -1,37 +1,46 @@
 -- Standard names.
-use Rattle.std.proofs.Common.{◌≡◌, ◌<◌, ◌≤◌, ◌+◌, ℕ, zero, suc, Bool, true, List, ◌∷◌, length, Option, Some, None, refl, sym, ap, ◌∙◌, arith}
-use Rattle.std.specs.Prelude.{pos}
+use Rattle.std.proofs.Common.{◌≡◌, ◌<◌, ◌≤◌, ◌+◌, ℕ, zero, suc, Bool, true, List, ◌∷◌, length, Option, Some, None, refl, sym, ap, ◌∙◌, arith, subst, []}
+use Rattle.std.specs.Prelude.{pos, Result, Ok, Err}
 use Rattle.sim_base.specs.declared.limits.Limits.{Limits}
 use Rattle.sim_scope.specs.Source.{Source}
 use Rattle.sim_values.specs.declared.standard.Standard.{Standard}
 use Rattle.sim_values.specs.declared.standard.StandardType.{StandardType}
-use Rattle.sim_values.specs.Plain.{Plain}
-use Rattle.sim_values.specs.Standard.{operands_of, row_of}
+use Rattle.sim_values.specs.Plain.{Plain, Text}
+use Rattle.sim_values.specs.Standard.{operands_of, row_of, standard_effect}
 use Rattle.sim_code.specs.declared.instr.Instr.TheVariants as i
 use Rattle.sim_code.specs.Code.{BlockOf, CodeOf}
-use Rattle.sim_code.specs.Outcome.{Going, Run, World}
-use Rattle.sim_code.specs.Events.{no_rule, when}
+use Rattle.sim_code.specs.Outcome.{Run, World}
+use Rattle.sim_code.specs.Events.{no_rule, when, computing, having, image_set, image_value, only_text, performing, putting_back, taking}
 use Rattle.sim_code.specs.Machine.{Frames, Machine, Value}
 use Rattle.sim_code.specs.Machine as machine
 use Rattle.sim_code.specs.Rows.{has_room, on_top, room_for, standard_of}
 use Rattle.sim_code.specs.Rows as rows
-use Rattle.sim_code.proofs.Lifts.{alike_found}
+use Rattle.sim_code.proofs.Lifts.{alike_found, Both, alike_having, alike_no_rule, alike_same, alike_stopping, alike_taking}
 use Rattle.sim_code.proofs.Simulation.{Alike}
 use Rattle.sim_meaning.specs.Meaning.{do_op}
-use Rattle.sim_meaning.specs.Pending.{Activation, Configuration, Instances, Item, StandardOp, Val, plain}
+use Rattle.sim_meaning.specs.Pending.{Activation, Configuration, Instances, Item, StandardOp, Val, Key, cell, cell_set}
+use Rattle.sim_meaning.specs.Pending as meaning
 use Rattle.sim_meaning.specs.Statements.{has_value}
-use Rattle.sim_meaning.specs.Steps.{go, with_value}
+use Rattle.sim_meaning.specs.Steps.{go, with_value, of_plain, operand, plain_in, put_back, putting}
 use Rattle.sim_meaning.specs.Texts.{text}
-use Rattle.codegen_expr.specs.Sites.{cells_in}
-use Rattle.sim_relate.proofs.Relation.{ChainAt, HandAt, Kind, OpAt, StackAt, StateAt, WorkAt, anys, given, more_at, plain_at, site_at}
-use Rattle.sim_relate.proofs.Hands.{hand_performing, stack_length}
+use Rattle.codegen_expr.specs.Sites.{cells_in, HasCell, slot_of}
+use Rattle.sim_relate.proofs.Relation.{ChainAt, HandAt, Kind, OpAt, StackAt, StateAt, WorkAt, given, more_at, plain_at, site_at, AllRead, Any, IsRead, LinkTo, Located, Stands, ValAt, array_at, element_at, image_at, link_at}
+use Rattle.sim_relate.proofs.Hands.{stack_length, FirstAt, hand_operands}
 use Rattle.sim_relate.proofs.Here.{Here, act, at_row, kinds_as}
 use Rattle.sim_relate.proofs.Operators.{chosen, onward, same_plain}
 use Rattle.sim_relate.proofs.Standards.{is_some, standard_valued}
+use Rattle.sim_base.specs.declared.run_error.RunError.{RunError}
+use Rattle.sim_values.specs.Store.{Effect}
+use Rattle.sim_values.specs.declared.value.TextVal.{TextVal}
+use Rattle.sim_code.specs.Arrays.{element, element_set}
+use Rattle.sim_code.specs.Instances.{CellPlace}
+use Rattle.sim_relate.proofs.Assigns.{wrote_on}
+use Rattle.sim_relate.proofs.Stores.{Written, cell_read, cell_write}
 
-anys_length : (n : ℕ) (ks : List Kind) → length (anys n ks) ≡ n + length ks
-anys_length zero ks = omega arith
-anys_length (suc n) ks = let e = anys_length n ks in omega (arith, e)
+read_length : (n : ℕ) (ks left : List Kind) → AllRead n ks left → length ks ≡ n + length left
+read_length zero ks left a = let e = ap length a in omega (arith, e)
+read_length (suc n) [] left a = absurd a
+read_length (suc n) (k ∷ ks) left a = let e = read_length n ks left a.1 in omega (arith, e)
 
 -- there is room for what it leaves
 has_room_is : (r : Option StandardType) (room values operands left : ℕ) → (has_value r ≡ true → left < room) → values ≡ operands + left → has_room room values operands r ≡ true
@@ -45,20 +54,105 @@ module _ (s : Source) (code : CodeOf) (l : Limits) (o : World) (m : Instances) (
   abbrev a_top : machine.Activation
   a_top = act inst pc stack b.room
 
-  -- with the value that it leaves, if it leaves one
-  valued_onward : (p : World) (value : Option Plain) (result : Option StandardType) (left : List Kind) (vals' : List Val) (stack' : List Value) → is_some value ≡ has_value result → ks' ≡ given (has_value result) left → q ≡ suc pc → StackAt (HandAt s m inst) left vals' stack'
-      → Alike R (go p m inst w (with_value value vals') rest) (Going p (record { chain = act inst (suc pc) (rows.with_value value stack') b.room ∷ below; memory = fs }))
-  valued_onward p None result left vals' stack' e out place h = onward s code l o m inst w vals rest fs t b pc stack below ks here u q ks' low k h (out ∙ ap (λ g. given g left) (sym e)) place
-  valued_onward p (Some v) result left vals' stack' e out place h = onward s code l o m inst w vals rest fs t b pc stack below ks here u q ks' low k (more_at plain_at h) (out ∙ ap (λ g. given g left) (sym e)) place
+  -- ---- operands, and where the first one goes back to
 
-  roomy : (name : Standard) (many : ℕ) (left : List Kind) → many ≡ length (operands_of (row_of name).function) → ks ≡ anys many left → (has_value (row_of name).result ≡ true → length left < b.room) → room_for name a_top ≡ true
+  plain_same : (p : Option Plain) → only_text (plain_in (of_plain p)) ≡ only_text (machine.plain_in (machine.of_plain p))
+  plain_same None = refl
+  plain_same (Some p) = refl
+
+  both_plain : (v : Option Val) (x : Option Value) → Both ValAt v x → plain_in v ≡ machine.plain_in x
+  both_plain None None h = refl
+  both_plain None (Some x) h = absurd h
+  both_plain (Some v) None h = absurd h
+  both_plain (Some v) (Some x) h = same_plain v x h
+
+  operand_same : (v : Val) (x : Value) → ValAt v x → operand o m v ≡ machine.operand o fs x
+  operand_same _ _ plain_at = refl
+  operand_same _ _ link_at = refl
+  operand_same _ _ array_at = refl
+  operand_same _ _ (element_at {a} {n}) = plain_same (element o a n)
+  operand_same _ _ (image_at {n}) = plain_same (image_value o n)
+
+  reads_same : (k : Kind) → IsRead k → (v : Val) (x : Value) → HandAt s m inst k v x → operand o m v ≡ machine.operand o fs x
+  reads_same Any r v x h = operand_same v x h
+  reads_same Located r v x h =
+      ap (operand o m) h.is_val ∙
+      ap only_text (both_plain (cell m h.instance h.key) (machine.cell fs h.instance (slot_of s h.text h.key)) (cell_read s code m fs h.instance h.text h.key here.store h.stands h.has)) ∙
+      ap (machine.operand o fs) (sym h.is_value)
+  reads_same (LinkTo text) r v x h = absurd r
+
+  -- it goes back to an element, an image or a cell, or is dropped
+  module _ (t2 : TextVal) (p : World) (r : World → Instances → Run Configuration) (y : World → Frames → Run Machine) (as_is : (p : World) → Alike R (r p m) (y p fs)) (after : (p : World) (m' : Instances) (fs' : Frames) → Written s code m fs m' fs' → Alike R (r p m') (y p fs')) where
+    value_back : (v : Val) (x : Value) → ValAt v x → Alike R (put_back v t2 p m r) (rows.put_back x t2 p fs y)
+    unfolding put_back rows.put_back putting rows.putting having
+    value_back _ _ plain_at = as_is p
+    value_back _ _ link_at = as_is p
+    value_back _ _ array_at = as_is p
+    value_back _ _ (element_at {a} {n}) = alike_same Configuration Machine R World (element_set p a n (Text t2)) p _ _ (λ p. as_is p)
+    value_back _ _ (image_at {n}) = alike_same Configuration Machine R World (image_set p n (Text t2)) p _ _ (λ p. as_is p)
+
+    cell_back : (j u : ℕ) (key : Key) → Stands s m j u → HasCell s u key → Alike R (put_back (meaning.Address (CellPlace j key None)) t2 p m r) (rows.put_back (machine.Address (CellPlace j (slot_of s u key) 0)) t2 p fs y)
+    unfolding put_back rows.put_back putting rows.putting
+    cell_back j u key stands has =
+        alike_having Configuration Machine R Instances Frames (Written s code m fs) (cell_set m j key (meaning.Of (Text t2))) (machine.cell_set fs j (slot_of s u key) (machine.Of (Text t2))) p _ _
+        (cell_write s code m fs j u key (meaning.Of (Text t2)) (machine.Of (Text t2)) here.store stands has plain_at) (λ m' fs' em efs w. after p m' fs' w)
+
+    back : (k : Kind) → IsRead k → (v : Val) (x : Value) → HandAt s m inst k v x → Alike R (put_back v t2 p m r) (rows.put_back x t2 p fs y)
+    back Any i v x h = value_back v x h
+    back Located i v x h =
+        subst (λ z. Alike R (put_back z t2 p m r) (rows.put_back x t2 p fs y)) (sym h.is_val)
+        (subst (λ z. Alike R (put_back (meaning.Address (CellPlace h.instance h.key None)) t2 p m r) (rows.put_back z t2 p fs y)) (sym h.is_value) (cell_back h.instance h.text h.key h.stands h.has))
+    back (LinkTo text) i v x h = absurd i
+
+  moves_back : (f : Option Val) (f' : Option Value) → Both (FirstAt Configuration Machine R Val Value (HandAt s m inst) (operand o m) (machine.operand o fs) reads_same) f f' → (moved : Option TextVal) (p : World) (r : World → Instances → Run Configuration) (y : World → Frames → Run Machine) → ((p : World) → Alike R (r p m) (y p fs)) → ((p : World) (m' : Instances) (fs' : Frames) → Written s code m fs m' fs' → Alike R (r p m') (y p fs'))
+      → Alike R (putting_back put_back f moved p m r) (putting_back rows.put_back f' moved p fs y)
+  unfolding putting_back
+  moves_back None None h moved p r y as_is after = as_is p
+  moves_back None (Some x) h moved p r y as_is after = absurd h
+  moves_back (Some v) None h moved p r y as_is after = absurd h
+  moves_back (Some v) (Some x) h None p r y as_is after = as_is p
+  moves_back (Some v) (Some x) h (Some t2) p r y as_is after = back t2 p r y as_is after h.0 h.1 v x h.2
+
+  -- ---- the value that it leaves, if it leaves one
+
+  left_with : (value : Option Plain) (result : Option StandardType) (left : List Kind) (vals' : List Val) (stack' : List Value) → is_some value ≡ has_value result → ks' ≡ given (has_value result) left → StackAt (HandAt s m inst) left vals' stack' → StackAt (HandAt s m inst) ks' (with_value value vals') (rows.with_value value stack')
+  left_with None result left vals' stack' e out h = kinds_as s code (sym (out ∙ ap (λ g. given g left) (sym e))) h
+  left_with (Some v) result left vals' stack' e out h = kinds_as s code (sym (out ∙ ap (λ g. given g left) (sym e))) (more_at plain_at h)
+
+  roomy : (name : Standard) (many : ℕ) (left : List Kind) → many ≡ length (operands_of (row_of name).function) → AllRead many ks left → (has_value (row_of name).result ≡ true → length left < b.room) → room_for name a_top ≡ true
   roomy name many left counts e fits =
-      let deep : length stack ≡ length (operands_of (row_of name).function) + length left = sym (stack_length ks vals stack here.values) ∙ ap length e ∙ anys_length many left ∙ ap (λ n. n + length left) counts in
+      let deep : length stack ≡ length (operands_of (row_of name).function) + length left = sym (stack_length ks vals stack here.values) ∙ read_length many ks left e ∙ ap (λ n. n + length left) counts in
       has_room_is (row_of name).result b.room (length stack) (length (operands_of (row_of name).function)) (length left) fits deep
 
   whenever : (test : Bool) (r : Run Configuration) (x : Run Machine) → test ≡ true → Alike R r x → Alike R r (when test o x)
   unfolding when
   whenever test r x e h = chosen (λ z. Alike R r z) test x (no_rule o) e h
+
+  -- what it does with its operands
+  module _ (name : Standard) (line : ℕ) (left : List Kind) (out : ks' ≡ given (has_value (row_of name).result) left) (place : q ≡ suc pc) where
+    answered : (ps : List Plain) (effect : Effect) (f : Option Val) (f' : Option Value) (vals' : List Val) (stack' : List Value) → Both (FirstAt Configuration Machine R Val Value (HandAt s m inst) (operand o m) (machine.operand o fs) reads_same) f f' → StackAt (HandAt s m inst) left vals' stack' → standard_effect name ps o.store ≡ Some effect → (p : World) (x : Result (Option Plain) RunError) → effect.answer ≡ x
+        → Alike R (computing line x p (λ value. putting_back put_back f effect.moved p m (λ p m. go p m inst w (with_value value vals') rest)))
+        (computing line x p (λ value. putting_back rows.put_back f' effect.moved p fs (λ p m. machine.on p m a_top (rows.with_value value stack') below)))
+    unfolding computing
+    answered ps effect f f' vals' stack' b2 h e p (Ok value) is =
+        let hs = left_with value (row_of name).result left vals' stack' (standard_valued name ps o.store effect value e is) out h in
+        moves_back f f' b2 effect.moved p _ _
+        (λ p. onward s code l o m inst w vals rest fs t b pc stack below ks here u q ks' low k hs refl place)
+        (λ p m' fs' r. wrote_on s code l o m inst w vals rest fs t b pc stack below ks here u q ks' low k m' fs' r ks' hs refl place)
+    answered ps effect f f' vals' stack' b2 h e p (Err error) is = alike_stopping Configuration Machine R _ p
+
+    effected : (ps : List Plain) (x : Option Effect) (f : Option Val) (f' : Option Value) (vals' : List Val) (stack' : List Value) → Both (FirstAt Configuration Machine R Val Value (HandAt s m inst) (operand o m) (machine.operand o fs) reads_same) f f' → StackAt (HandAt s m inst) left vals' stack' → standard_effect name ps o.store ≡ x
+        → Alike R (having x o (λ effect. taking l line effect.wanted o (λ p. computing line effect.answer (record p { store = effect.store }) (λ value. putting_back put_back f effect.moved (record p { store = effect.store }) m (λ p m. go p m inst w (with_value value vals') rest)))))
+        (having x o (λ effect. taking l line effect.wanted o (λ p. computing line effect.answer (record p { store = effect.store }) (λ value. putting_back rows.put_back f' effect.moved (record p { store = effect.store }) fs (λ p m. machine.on p m a_top (rows.with_value value stack') below)))))
+    unfolding having
+    effected ps None f f' vals' stack' b2 h e = alike_no_rule Configuration Machine R o
+    effected ps (Some effect) f f' vals' stack' b2 h e = alike_taking Configuration Machine R l line effect.wanted o _ _ (λ p. answered ps effect f f' vals' stack' b2 h e (record p { store = effect.store }) effect.answer refl)
+
+    performed : AllRead (length (operands_of (row_of name).function)) ks left → Alike R (performing operand put_back l line name vals o m (λ p m value vals. go p m inst w (with_value value vals) rest)) (performing machine.operand rows.put_back l line name stack o fs (λ p m value stack. machine.on p m a_top (rows.with_value value stack) below))
+    unfolding performing
+    performed r =
+        hand_operands Configuration Machine R Val Value (HandAt s m inst) (operand o m) (machine.operand o fs) reads_same (length (operands_of (row_of name).function)) ks left None None vals stack o _ _ tt r here.values
+        (λ ps f f' vals' stack' b2 h. effected ps (standard_effect name ps o.store) f f' vals' stack' b2 h refl)
 
   pub standard : (name : Standard) (line : ℕ) → OpAt s code m fs inst (site_at t b u) (StandardOp name line) pc q ks ks' → Alike R (do_op s l o m inst w vals rest (StandardOp name line)) (on_top code l o fs a_top below)
   standard name line a =
@@ -66,6 +160,4 @@ module _ (s : Source) (code : CodeOf) (l : Limits) (o : World) (m : Instances) (
       at_row s code l o fs a_top below _ (i.Std (pos x.number)) line q x.is
       (alike_found Configuration Machine R Standard (standard_of (pos x.number)) name o _ _ x.numbered
       (whenever (room_for name a_top) _ _ (roomy name a.many a.left x.as_many a.«in» x.fits)
-      (hand_performing Configuration Machine R Val Value (HandAt s m inst) plain machine.plain same_plain l line name a.left o _ _
-      (λ ps effect p value vals' stack' e answer h. valued_onward p value (row_of name).result a.left vals' stack' (standard_valued name ps o.store effect value e answer) a.out x.is.on h)
-      vals stack (kinds_as s code (a.«in» ∙ ap (λ n. anys n a.left) x.as_many) here.values))))
+      (performed name line a.left a.out x.is.on (subst (λ n. AllRead n ks a.left) x.as_many a.«in»))))

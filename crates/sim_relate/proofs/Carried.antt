@@ -4,10 +4,10 @@ use Rattle.sim_scope.specs.Source.{Source, level_of}
 use Rattle.sim_code.specs.Code.{BlockOf, CodeOf}
 use Rattle.sim_code.specs.Machine.{Frames, Value}
 use Rattle.sim_code.specs.Machine as machine
-use Rattle.sim_meaning.specs.Pending.{Activation, BackOp, BranchOp, CallOf, Cell, CopyOf, Do, Either, ElementOf, ElementsOp, EndBlock, EndProcedure, EndProgram, Eval, Further, Given, GiveOp, IfOp, Instances, Item, NoTerm, One, Op, RaiseOp, ShareOp, StandardOf, StepTestOp, StoreOp, Target, Term, Terms, ToAddress, ToCell, Two, Unbuilt, Val, ValueAt, WhileElementOp}
+use Rattle.sim_meaning.specs.Pending.{Activation, BackOp, BranchOp, CallOf, Cell, CopyOf, Do, Either, ElementOf, ElementsOp, EndBlock, EndProcedure, EndProgram, Eval, Further, Given, GiveOp, IfOp, ImageOf, Instances, Item, Joined, NoTerm, One, Op, PlaceOf, RaiseOp, ShareOp, StandardOf, StepTestOp, StoreOp, Target, Term, Terms, ToAddress, ToCell, ToText, ToTextOf, Two, Unbuilt, Val, ValueAt, WhileElementOp}
 use Rattle.sim_meaning.specs.Texts.{text}
 use Rattle.codegen_expr.specs.Sites.{Site, cells_in}
-use Rattle.sim_relate.proofs.Relation.{Any, ChainAt, ComesTo, EndAt, GivesIs, HandAt, Keeps, Kind, Later, LinkTo, OpAt, OperandAt, Reaches, StackAt, Stands, TargetAt, TermAt, TermsAt, VariableIs, WorkAt, more_at, none_at, over, returning, site_at, there}
+use Rattle.sim_relate.proofs.Relation.{Any, ChainAt, ComesTo, EndAt, GivesIs, HandAt, Keeps, Kind, Later, LinkTo, Located, OpAt, OperandAt, Reaches, ReadsAt, StackAt, Stands, TargetAt, TermAt, TermsAt, VariableIs, WorkAt, more_at, none_at, over, returning, site_at, there}
 
 end_later : (s : Source) (code : CodeOf) (Below Below' : Bool → Type 0) → ((v : Bool) → Below v → Below' v) → (t : ℕ) (b : BlockOf) (x : Item) (p : ℕ) (ks : List Kind) → EndAt s code Below t b x p ks → EndAt s code Below' t b x p ks
 end_later s code Below Below' f t b (Do op) p ks a = absurd a
@@ -24,6 +24,9 @@ module _ (s : Source) (code : CodeOf) (m m' : Instances) (bound : ℕ) (e : Late
 
   pub hand_later : (from : ℕ) → from < bound → (k : Kind) (v : Val) (x : Value) → HandAt s m from k v x → HandAt s m' from k v x
   hand_later from lt Any v x h = h
+  hand_later from lt Located v x h =
+      let under : h.instance < bound = omega (arith, lt, h.before) in
+      record { instance = h.instance; text = h.text; key = h.key; is_val = h.is_val; is_value = h.is_value; stands = e.stands h.instance h.text under h.stands; before = h.before; has = h.has }
   hand_later from lt (LinkTo u) v x h =
       let under : h.instance < bound = omega (arith, lt, h.before) in
       record { instance = h.instance; is_val = h.is_val; is_value = h.is_value; stands = e.stands h.instance u under h.stands; before = h.before }
@@ -66,12 +69,19 @@ module _ (s : Source) (code : CodeOf) (m m' : Instances) (bound : ℕ) (e : Late
         procedure = a.procedure;
         as_many = a.as_many;
       }
-      term_later site n (StandardOf name ts line) p q a = (a.0, terms_later site n ts p a.0 a.1, a.2)
+      term_later site n (StandardOf name ts line) p q a = (a.0, reads_later site n ts p a.0 a.1, a.2)
+      term_later site n (PlaceOf j key) p q a = record { text = a.text; address = a.address; reaches = reaches_later inst t a.text j lt st a.reaches; has = a.has }
+      term_later site n (ImageOf image) p q a = a
+      term_later site n (Joined line x y) p q a = (a.0, a.1, (term_later site n x p a.0 (a.2).0, (a.2).1), (term_later site (suc n) y a.0 a.1 (a.3).0, (a.3).1), a.4)
       term_later site n Unbuilt p q a = a
 
       pub terms_later : (site : Site) (n : ℕ) (xs : Terms) (p q : ℕ) → TermsAt s code m inst site n xs p q → TermsAt s code m' inst site n xs p q
       terms_later site n NoTerm p q a = a
       terms_later site n (Further x xs) p q a = (a.0, (term_later site n x p a.0 (a.1).0, (a.1).1), terms_later site (suc n) xs a.0 q a.2)
+
+      pub reads_later : (site : Site) (n : ℕ) (xs : Terms) (p q : ℕ) → ReadsAt s code m inst site n xs p q → ReadsAt s code m' inst site n xs p q
+      reads_later site n NoTerm p q a = a
+      reads_later site n (Further x xs) p q a = (a.0, (term_later site n x p a.0 (a.1).0, (a.1).1), reads_later site (suc n) xs a.0 q a.2)
 
     operand_later : (site : Site) (n : ℕ) (x : Term) (p q : ℕ) → OperandAt s code m inst site n x p q → OperandAt s code m' inst site n x p q
     operand_later site n x p q a = (term_later site n x p q a.0, a.1)
@@ -79,13 +89,15 @@ module _ (s : Source) (code : CodeOf) (m m' : Instances) (bound : ℕ) (e : Late
     target_later : (x : Target) (p q : ℕ) (ks ks' : List Kind) → TargetAt s code m inst x p q ks ks' → TargetAt s code m' inst x p q ks ks'
     target_later (ToCell j key) p q ks ks' a = (let c = a.0 in record { text = c.text; is = c.is; reaches = reaches_later inst t c.text j lt st c.reaches; has = c.has }, a.1)
     target_later ToAddress p q ks ks' a = a
+    target_later (ToText line) p q ks ks' a = a
+    target_later (ToTextOf j key line) p q ks ks' a = a
 
     gives_later : (site : Site) (temp : ℕ) (ts : List Target) (p q : ℕ) (ks ks' : List Kind) → GivesIs s code m inst site temp ts p q ks ks' → GivesIs s code m' inst site temp ts p q ks ks'
     gives_later site temp [] p q ks ks' a = a
     gives_later site temp (x ∷ xs) p q ks ks' a = (a.0, a.1, a.2, a.3, target_later x a.0 a.1 (Any ∷ ks) a.2 a.4, gives_later site temp xs a.1 q a.2 ks' a.5)
 
     variable_later : (x : Target) → VariableIs s code m inst x → VariableIs s code m' inst x
-    variable_later x v = record { text = v.text; key = v.key; instance = v.instance; is = v.is; reaches = reaches_later inst t v.text v.instance lt st v.reaches; has = v.has }
+    variable_later x v = record { text = v.text; key = v.key; assigned = v.assigned; instance = v.instance; is = v.is; reaches = reaches_later inst t v.text v.instance lt st v.reaches; has = v.has }
 
     module _ (fs fs' : Frames) where
       -- the temps of the instance that are in use

@@ -1,6 +1,7 @@
 -- What entries of all kinds have in common.
 use Rattle.std.proofs.Common.{◌≡◌, ◌<◌, ◌≤◌, ◌+◌, ℕ, zero, suc, Bool, true, false, List, [], ◌∷◌, ◌++◌, length, map, Option, Some, None, refl, sym, ap, ◌∙◌, subst, arith, length-append}
 use Rattle.std.proofs.lemmas.List.{length-map}
+use Rattle.std.proofs.lemmas.Option.{slice_get_within}
 use Rattle.std.specs.Prelude.{if◌then◌else◌, pos, slice_get}
 use Rattle.sim_scope.specs.Scopes.{around, encloser}
 use Rattle.sim_scope.specs.Source.{Source}
@@ -27,7 +28,6 @@ use Rattle.codegen.specs.Agrees.{Agrees}
 use Rattle.codegen.specs.Compiled.{CodeHas, Compiled, RecordOf, TextCode, type_of_cell}
 use Rattle.sim_relate.proofs.Carried.{chain_later, keeps_under}
 use Rattle.sim_relate.proofs.Ends.{chosen, left_out}
-use Rattle.sim_relate.proofs.Lists.{there_is}
 use Rattle.sim_relate.proofs.Relation.{CellsAt, ChainAt, InstanceAt, Kind, StateAt, StoreAt, Stands, ValAt, WorkAt, key_of, none_at, plain_at, value_of}
 use Rattle.sim_relate.proofs.Slots.{first_all, first_cells_at}
 use Rattle.sim_relate.proofs.Stores.{SameOwners, keeps_entered, later_entered, store_entered}
@@ -48,7 +48,7 @@ pub text_there : (s : Source) (k u : ℕ) → Agrees s → encloser s.tables k �
 unfolding encloser text
 text_there s k u a e =
     let x = around_some (slice_get s.tables.blocks k) u e in
-    let lt = there_is s.tables.blocks k x.0 x.1 in
+    let lt = slice_get_within s.tables.blocks k x.0 x.1 in
     let n = a.as_many in
     let more : k < length (program_texts s.program.prefix s.program.block) = omega (arith, lt, n) in
     there_get (program_texts s.program.prefix s.program.block) k more

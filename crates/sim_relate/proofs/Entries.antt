@@ -1,5 +1,6 @@
 -- The entry of sub-blocks, procedures and the program's block.
 use Rattle.std.proofs.Common.{◌≡◌, ◌<◌, ◌≤◌, ◌+◌, ◌*◌, ℕ, zero, suc, Bool, true, false, List, [], ◌∷◌, length, Option, Some, None, refl, sym, ap, ◌∙◌, subst, arith}
+use Rattle.std.proofs.lemmas.Option.{slice_get_within}
 use Rattle.std.specs.Prelude.{◌==◌, if◌then◌else◌, nat_lt, pos, slice_get}
 use Rattle.sim_base.specs.declared.limits.Limits.{Limits}
 use Rattle.sim_chains.specs.Components.{NoObject}
@@ -43,9 +44,8 @@ use Rattle.sim_relate.proofs.Entering.{block_alike, block_refused, chain_entered
 use Rattle.sim_relate.proofs.Formals.{formals_fit}
 use Rattle.sim_relate.proofs.Hands.{hand_integers, hand_popping, stack_length}
 use Rattle.sim_relate.proofs.Here.{Here, act, at_row, goes, kinds_as, with_values}
-use Rattle.sim_relate.proofs.Lists.{there_is}
 use Rattle.sim_relate.proofs.Pending.{ends_at, pends}
-use Rattle.sim_relate.proofs.Relation.{Any, CallOpIs, ChainAt, HandAt, Kind, LinkIs, LinkTo, OpAt, StackAt, StateAt, StoreAt, Stands, ValAt, WorkAt, anys, array_at, element_at, given, link_at, more_at, plain_at, site_at, straight}
+use Rattle.sim_relate.proofs.Relation.{Any, CallOpIs, ChainAt, HandAt, Kind, LinkIs, LinkTo, OpAt, StackAt, StateAt, StoreAt, Stands, ValAt, WorkAt, anys, array_at, element_at, given, link_at, more_at, plain_at, site_at, straight, image_at}
 use Rattle.sim_relate.proofs.Slots.{Written, cells_filled_behind, cells_fit, machine_fills, put_from, put_length, results}
 use Rattle.sim_relate.proofs.Stores.{is_live_same, new_inside, new_outermost}
 
@@ -84,7 +84,7 @@ module _ (s : Source) (code : CodeOf) (compiled : Compiled s code) (l : Limits) 
       let heads = h.heads in
       let body = h.body in
       let cells = first_cells s 0 (BlockText begin ds ss) in
-      block_alike s code o block_kind.SubBlock 0 b found (ap (λ z. same_kind z block_kind.SubBlock) heads.is_kind) (there_is code.instrs b.entry _ (h.enter).at) _ _ (λ x ex.
+      block_alike s code o block_kind.SubBlock 0 b found (ap (λ z. same_kind z block_kind.SubBlock) heads.is_kind) (slice_get_within code.instrs b.entry _ (h.enter).at) _ _ (λ x ex.
       alike_entering Configuration Machine R l (line_at s begin) x.line.0 (words_of_cells cells) (words_of_block b) o _ _ (same_line x ex (h.enter).at) (words_same s 0 (BlockText begin ds ss) b is heads.cells) (λ p.
       let new = new_instance s 0 None cells in
       let frame = new_frame s code 0 b None (machine.first_cells b) in
@@ -319,6 +319,7 @@ module _ (s : Source) (code : CodeOf) (compiled : Compiled s code) (l : Limits) 
   same_hand _ _ link_at = refl
   same_hand _ _ array_at = refl
   same_hand _ _ element_at = refl
+  same_hand _ _ image_at = refl
 
   pub call : (k n line : ℕ) → Follows (CallOp k n line)
   call k n line a =

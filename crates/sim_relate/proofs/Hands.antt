@@ -1,22 +1,18 @@
 -- What both sides do alike with values in hand: one lemma for each word of the events that takes some.
-use Rattle.std.proofs.Common.{◌≡◌, ℕ, zero, suc, List, [], ◌∷◌, length, Option, Some, None, Bool, refl, ap}
-use Rattle.std.specs.Prelude.{ℤ, Result, Ok, Err}
-use Rattle.sim_base.specs.declared.limits.Limits.{Limits}
-use Rattle.sim_base.specs.declared.run_error.RunError.{RunError}
+use Rattle.std.proofs.Common.{◌≡◌, ℕ, zero, suc, List, [], ◌∷◌, length, Option, Some, Bool, refl, ap, subst}
+use Rattle.std.specs.Prelude.{ℤ}
 use Rattle.sim_values.specs.declared.operators.Dyadic.{Dyadic}
 use Rattle.sim_values.specs.declared.operators.Monadic.{Monadic}
-use Rattle.sim_values.specs.declared.standard.Standard.{Standard}
 use Rattle.sim_values.specs.declared.value.TextVal.{TextVal}
-use Rattle.sim_values.specs.Operators.{one_of, step_test, two_of}
+use Rattle.sim_values.specs.Operators.{one_of, two_of}
 use Rattle.sim_values.specs.Plain.{Plain}
-use Rattle.sim_values.specs.Standard.{operands_of, row_of, standard_effect}
-use Rattle.sim_values.specs.Store.{Effect}
 use Rattle.sim_code.specs.Outcome.{ArrayOf, Run, World}
-use Rattle.sim_code.specs.Events.{answering, applying_one, applying_two, having, integer_in, computing, performing, pop_integers, pop_many, pop_plain, pop_plains, pop_truth, popping, taking, testing_step, truth_in}
+use Rattle.sim_code.specs.Events.{answering, applying_one, applying_two, having, integer_in, pop_integers, pop_many, pop_plain, pop_truth, popping, truth_in, assigning, pop_text, text_val, with_texts, pop_operands}
 use Rattle.sim_code.specs.Arrays.{element_place, finding_element, live_array}
-use Rattle.sim_code.proofs.Lifts.{EachAt, alike_answering, alike_computing, alike_equal, alike_no_rule, alike_same, alike_stopping, alike_taking}
+use Rattle.sim_code.proofs.Lifts.{EachAt, alike_answering, alike_computing, alike_equal, alike_same, Both}
 use Rattle.sim_code.proofs.Simulation.{Alike}
-use Rattle.sim_relate.proofs.Relation.{Any, Kind, StackAt, anys, more_at, none_at}
+use Rattle.sim_relate.proofs.Relation.{Any, Kind, StackAt, anys, more_at, none_at, AllRead, IsRead}
+use Rattle.sim_values.specs.Texts.{assign}
 
 pub stack_length : {V X : Type 0} {W : Kind → V → X → Type 0} (ks : List Kind) (vals : List V) (stack : List X) → StackAt W ks vals stack → length ks ≡ length stack
 stack_length _ _ _ none_at = refl
@@ -57,27 +53,12 @@ module _ (S M : Type 0) (R : S → M → Type 0) (V X : Type 0) (W : Kind → V 
       (λ y vals1 stack1 h1. hand_plain left vals1 stack1 o (λ x rest. answering line (two_of op o.store.frames x y) o (λ z. r z rest)) (λ x rest. answering line (two_of op o.store.frames x y) o (λ z. q z rest)) h1
       (λ x vals2 stack2 h2. alike_answering S M R line (two_of op o.store.frames x y) o (λ z. r z vals2) (λ z. q z stack2) (λ z. a z vals2 stack2 h2)))
 
-  pub hand_step : (line : ℕ) (left : List Kind) (vals : List V) (stack : List X) (o : World) (r : Plain → List V → Run S) (q : Plain → List X → Run M) → StackAt W (anys 3 left) vals stack → Goes left r q → Alike R (testing_step plain line vals o r) (testing_step plain' line stack o q)
-  unfolding testing_step
-  hand_step line left vals stack o r q h a =
-      hand_plain (anys 2 left) vals stack o _ _ h
-      (λ z vals1 stack1 h1. hand_plain (anys 1 left) vals1 stack1 o _ _ h1
-      (λ y vals2 stack2 h2. hand_plain left vals2 stack2 o (λ x rest. answering line (step_test x y z) o (λ b. r b rest)) (λ x rest. answering line (step_test x y z) o (λ b. q b rest)) h2
-      (λ x vals3 stack3 h3. alike_answering S M R line (step_test x y z) o (λ b. r b vals3) (λ b. q b stack3) (λ b. a b vals3 stack3 h3))))
-
   pub hand_integers : (m : ℕ) (left : List Kind) (got : List ℤ) (vals : List V) (stack : List X) (o : World) (r : List ℤ → List V → Run S) (q : List ℤ → List X → Run M) → StackAt W (anys m left) vals stack → Goes left r q → Alike R (pop_integers plain m got vals o r) (pop_integers plain' m got stack o q)
   unfolding pop_integers
   hand_integers zero left got vals stack o r q h a = a got vals stack h
   hand_integers (suc m) left got vals stack o r q h a =
       hand_plain (anys m left) vals stack o (λ v rest. having (integer_in v) o (λ z. pop_integers plain m (z ∷ got) rest o r)) (λ v rest. having (integer_in v) o (λ z. pop_integers plain' m (z ∷ got) rest o q)) h
       (λ p vals' stack' h'. alike_same S M R ℤ (integer_in p) o (λ z. pop_integers plain m (z ∷ got) vals' o r) (λ z. pop_integers plain' m (z ∷ got) stack' o q) (λ z. hand_integers m left (z ∷ got) vals' stack' o r q h' a))
-
-  pub hand_plains : (m : ℕ) (left : List Kind) (vals : List V) (stack : List X) (o : World) (r : List Plain → List V → Run S) (q : List Plain → List X → Run M) → StackAt W (anys m left) vals stack → Goes left r q → Alike R (pop_plains plain m vals o r) (pop_plains plain' m stack o q)
-  unfolding pop_plains
-  hand_plains zero left vals stack o r q h a = a [] vals stack h
-  hand_plains (suc m) left vals stack o r q h a =
-      hand_plain (anys m left) vals stack o (λ v rest. pop_plains plain m rest o (λ ps rest. r (v ∷ ps) rest)) (λ v rest. pop_plains plain' m rest o (λ ps rest. q (v ∷ ps) rest)) h
-      (λ p vals' stack' h'. hand_plains m left vals' stack' o (λ ps rest. r (p ∷ ps) rest) (λ ps rest. q (p ∷ ps) rest) h' (λ ps vals2 stack2 h2. a (p ∷ ps) vals2 stack2 h2))
 
   -- as many values of either side
   pub hand_many : (m : ℕ) (left : List Kind) (got : List V) (got' : List X) (vals : List V) (stack : List X) (o : World) (r : List V → List V → Run S) (q : List X → List X → Run M) → StackAt W (anys m left) vals stack → EachAt (W Any) got got'
@@ -86,26 +67,19 @@ module _ (S M : Type 0) (R : S → M → Type 0) (V X : Type 0) (W : Kind → V 
   hand_many zero left got got' vals stack o r q h g a = a got got' vals stack g h
   hand_many (suc m) left got got' _ _ o r q (more_at {v = v} {vals = vals} {x = x} {stack = stack} w h) g a = hand_many m left (v ∷ got) (x ∷ got') vals stack o r q h (w, g) a
 
-  -- an effect is known of the value that it leaves
-  module _ (l : Limits) (line : ℕ) (name : Standard) (left : List Kind) (o : World) (r : World → Option TextVal → Option Plain → List V → Run S) (q : World → Option TextVal → Option Plain → List X → Run M)
-      (a : (ps : List Plain) (effect : Effect) (p : World) (value : Option Plain) (vals' : List V) (stack' : List X) → standard_effect name ps o.store ≡ Some effect → effect.answer ≡ Ok value → StackAt W left vals' stack' → Alike R (r p effect.moved value vals') (q p effect.moved value stack')) where
-    answered : (ps : List Plain) (effect : Effect) (vals' : List V) (stack' : List X) → StackAt W left vals' stack' → standard_effect name ps o.store ≡ Some effect → (p : World) (x : Result (Option Plain) RunError) → effect.answer ≡ x
-        → Alike R (computing line x p (λ value. r p effect.moved value vals')) (computing line x p (λ value. q p effect.moved value stack'))
-    unfolding computing
-    answered ps effect vals' stack' h e p (Ok value) is = a ps effect p value vals' stack' e is h
-    answered ps effect vals' stack' h e p (Err error) is = alike_stopping S M R _ p
+  -- a text
+  pub hand_text : (left : List Kind) (vals : List V) (stack : List X) (o : World) (r : TextVal → List V → Run S) (q : TextVal → List X → Run M) → StackAt W (anys 1 left) vals stack → Goes left r q → Alike R (pop_text plain vals o r) (pop_text plain' stack o q)
+  unfolding pop_text
+  hand_text left vals stack o r q h a =
+      hand_plain left vals stack o (λ v rest. having (text_val v) o (λ t. r t rest)) (λ v rest. having (text_val v) o (λ t. q t rest)) h
+      (λ p vals' stack' h'. alike_same S M R TextVal (text_val p) o (λ t. r t vals') (λ t. q t stack') (λ t. a t vals' stack' h'))
 
-    effected : (ps : List Plain) (x : Option Effect) (vals' : List V) (stack' : List X) → StackAt W left vals' stack' → standard_effect name ps o.store ≡ x
-        → Alike R (having x o (λ effect. taking l line effect.wanted o (λ p. computing line effect.answer (record p { store = effect.store }) (λ value. r (record p { store = effect.store }) effect.moved value vals'))))
-        (having x o (λ effect. taking l line effect.wanted o (λ p. computing line effect.answer (record p { store = effect.store }) (λ value. q (record p { store = effect.store }) effect.moved value stack'))))
-    unfolding having
-    effected ps None vals' stack' h e = alike_no_rule S M R o
-    effected ps (Some effect) vals' stack' h e = alike_taking S M R l line effect.wanted o _ _ (λ p. answered ps effect vals' stack' h e (record p { store = effect.store }) effect.answer refl)
-
-    -- a standard name with its operands
-    pub hand_performing : (vals : List V) (stack : List X) → StackAt W (anys (length (operands_of (row_of name).function)) left) vals stack → Alike R (performing plain l line name vals o r) (performing plain' l line name stack o q)
-    unfolding performing
-    hand_performing vals stack h = hand_plains (length (operands_of (row_of name).function)) left vals stack o _ _ h (λ ps vals' stack' h'. effected ps (standard_effect name ps o.store) vals' stack' h' refl)
+  pub hand_assigning : (line : ℕ) (left : List Kind) (vals : List V) (stack : List X) (o : World) (r : World → List V → Run S) (q : World → List X → Run M) → StackAt W (anys 2 left) vals stack → Goes left r q → Alike R (assigning plain line vals o r) (assigning plain' line stack o q)
+  unfolding assigning
+  hand_assigning line left vals stack o r q h a =
+      hand_text (anys 1 left) vals stack o _ _ h
+      (λ y vals1 stack1 h1. hand_text left vals1 stack1 o _ _ h1
+      (λ x vals2 stack2 h2. alike_computing S M R (Unit {0}) line (assign o.store.frames x y).answer o _ _ (λ done. a (with_texts o (assign o.store.frames x y).frames) vals2 stack2 h2)))
 
   -- an array and as many subscripts
   pub hand_finding : (array_in : V → Option ℕ) (array_in' : X → Option ℕ) → ((v : V) (x : X) → W Any v x → array_in v ≡ array_in' x) → (m line : ℕ) (left : List Kind) (vals : List V) (stack : List X) (o : World) (r : ℕ → ℕ → List V → Run S) (q : ℕ → ℕ → List X → Run M) → StackAt W (anys m (Any ∷ left)) vals stack
@@ -117,3 +91,18 @@ module _ (S M : Type 0) (R : S → M → Type 0) (V X : Type 0) (W : Kind → V 
       (λ v x vals2 stack2 ev ex w h2. alike_equal S M R ℕ (array_in v) (array_in' x) o _ _ (found v x w)
       (λ array. alike_same S M R ArrayOf (live_array o array) o _ _
       (λ b. alike_computing S M R ℕ line (element_place b.bounds subscripts) o _ _ (λ index. a array index vals2 stack2 h2)))))
+
+-- operands of a standard name, which may be addresses
+module _ (S M : Type 0) (R : S → M → Type 0) (V X : Type 0) (W : Kind → V → X → Type 0) (read : V → Option Plain) (read' : X → Option Plain) (same : (k : Kind) → IsRead k → (v : V) (x : X) → W k v x → read v ≡ read' x) where
+  -- the operand that a name may move
+  abbrev pub FirstAt : V → X → Type 0
+  FirstAt v x = (k : Kind) × IsRead k × W k v x
+
+  pub hand_operands : (n : ℕ) (ks left : List Kind) (first : Option V) (first' : Option X) (vals : List V) (stack : List X) (o : World) (r : List Plain → Option V → List V → Run S) (q : List Plain → Option X → List X → Run M) → Both FirstAt first first' → AllRead n ks left → StackAt W ks vals stack
+      → ((ps : List Plain) (f : Option V) (f' : Option X) (vals' : List V) (stack' : List X) → Both FirstAt f f' → StackAt W left vals' stack' → Alike R (r ps f vals') (q ps f' stack')) → Alike R (pop_operands read n first vals o r) (pop_operands read' n first' stack o q)
+  unfolding pop_operands popping
+  hand_operands zero ks left first first' vals stack o r q f a h g = g [] first first' vals stack f (subst (λ z. StackAt W z vals stack) a h)
+  hand_operands (suc n) [] left first first' vals stack o r q f a h g = absurd a
+  hand_operands (suc n) (k ∷ ks) left first first' _ _ o r q f a (more_at {v = v} {vals = vals} {x = x} {stack = stack} w h) g =
+      alike_equal S M R Plain (read v) (read' x) o _ _ (same k a.0 v x w)
+      (λ p. hand_operands n ks left (Some v) (Some x) vals stack o _ _ (k, a.0, w) a.1 h (λ ps f f' vals' stack' b hs. g (p ∷ ps) f f' vals' stack' b hs))

@@ -1,12 +1,13 @@
 -- What instances have in common before and after a step, and what follows for what is found from them.
 use Rattle.std.proofs.Common.{◌≡◌, ◌≢◌, ℕ, zero, suc, ◌<◌, List, [], ◌∷◌, ◌++◌, length, Option, Some, None, Bool, true, false, refl, sym, ap, ◌∙◌, subst, arith}
+use Rattle.std.proofs.lemmas.List.{length-set}
 use Rattle.std.specs.Prelude.{◌==◌, if◌then◌else◌, slice_get, slice_set}
 use Rattle.sim_chains.specs.Components.{Standing}
 use Rattle.sim_scope.specs.Source.{Source}
 use Rattle.sim_code.specs.Instances.{Instance, Memory, at_level, entered, found_at, given, given_in, kept_at, kept_further, kept_on, level_within, live, outward, unless_given, with_instance}
 use Rattle.sim_code.proofs.Lifts.{Both}
 use Rattle.sim_meaning.specs.Pending.{Held, Instances}
-use Rattle.sim_relate.proofs.Lists.{append_before, set_len, set_other}
+use Rattle.sim_relate.proofs.Lists.{append_before, set_other}
 use Rattle.sim_relate.proofs.Reach.{if_false}
 use Rattle.sim_relate.proofs.Relation.{Later, Stands, inside, outermost}
 
@@ -167,7 +168,7 @@ module _ {C A : Type 0} (m : Memory C A) where
 
   pub given_length : (i : ℕ) (o : Option (Instance C)) → length (given_in m i o).instances ≡ length m.instances
   given_length i None = refl
-  given_length i (Some x) = set_len m.instances i (record x { given_back = true })
+  given_length i (Some x) = length-set m.instances i (record x { given_back = true })
 
 module _ {C A : Type 0} (owner : A → Option ℕ) (k : ℕ) where
   abbrev KeepsAt : Memory C A → Memory C A → Type 0

@@ -1,5 +1,5 @@
 -- The code of left sides, and what they are when their statement begins.
-use Rattle.std.proofs.Common.{◌≡◌, ◌≤◌, ℕ, suc, Bool, true, false, List, [], ◌∷◌, ◌++◌, length, Option, Some, None, refl, sym, ap, ◌∙◌, subst, arith}
+use Rattle.std.proofs.Common.{◌≡◌, ◌≤◌, ℕ, suc, Bool, true, false, List, [], ◌∷◌, ◌++◌, length, Option, Some, None, refl, sym, ap, ◌∙◌, subst, arith, ◌+◌}
 use Rattle.std.specs.Prelude.{pos, reverse}
 use Rattle.std.proofs.lemmas.List.{reverse-append}
 use Rattle.sim_base.specs.declared.numbering.DeclNo.{DeclNo}
@@ -13,20 +13,24 @@ use Rattle.sim_scope.specs.declared.types.Mode.{Mode}
 use Rattle.sim_scope.specs.declared.types.Mode.TheVariants as mode
 use Rattle.sim_scope.specs.Scopes.{entry_of}
 use Rattle.sim_scope.specs.Source.{Source, block_of, denoted, line_at}
+use Rattle.sim_scope.specs.Assignments.{LeftSide}
+use Rattle.sim_tree.specs.declared.stmt.Assignment.{Assignment}
+use Rattle.sim_tree.specs.declared.stmt.Assignment.TheVariants as assignment
 use Rattle.sim_tree.specs.Syntax.{Expression, Expressions, NoMore, Then}
 use Rattle.sim_tree.specs.Syntax as syntax
 use Rattle.sim_code.specs.declared.instr.Instr.TheVariants as i
 use Rattle.sim_code.specs.Code.{BlockOf, CodeOf}
 use Rattle.sim_code.specs.Machine.{Frames}
 use Rattle.sim_code.proofs.Lifts.{EachAt}
-use Rattle.sim_meaning.specs.Closing.{Left, LeftAddress, LeftCell, array_left, close, close_all, close_left, close_left_of, declared_left, formal_left, home_of, is_text, left_in, named_left, result_left, variable_left}
+use Rattle.sim_meaning.specs.Closing.{Left, LeftAddress, LeftCell, array_left, close, close_all, close_left, close_left_of, declared_left, formal_left, home_of, is_text, left_in, named_left, result_left, variable_left, LeftText, in_instance, left_variable, own_result, result_or}
 use Rattle.sim_meaning.specs.Pending.{Cell, Declared, Do, ElementOf, Eval, Instances, Item, Result, ShareOp, StoreOp, Target, Term, ToAddress, ToCell}
+use Rattle.sim_meaning.specs.Pending as meaning
 use Rattle.sim_meaning.specs.Statements.{Lefts, assigning, before, lefts}
 use Rattle.sim_meaning.specs.Texts.{text}
 use Rattle.codegen_expr.specs.Sites.{At, HasCell, Inside, Site, cells_in}
-use Rattle.codegen_expr.specs.CodeExpr.{ElementAt, ExprsAt}
+use Rattle.codegen_expr.specs.CodeExpr.{ElementAt, ExprsAt, ExprAt}
 use Rattle.codegen.specs.Agrees.{Agrees}
-use Rattle.codegen.specs.CodeLeft.{AtAddress, GivesAt, GoesAt, InCell, LeftsAt, NotBuilt, SharesAt, StoreAt, Stored, addresses, each_stored, stored, stored_declared, stored_element, stored_formal, stored_named, stored_of, stored_result, stored_variable}
+use Rattle.codegen.specs.CodeLeft.{AtAddress, GivesAt, GoesAt, InCell, LeftsAt, NotBuilt, SharesAt, StoreAt, Stored, addresses, each_stored, stored, stored_declared, stored_element, stored_formal, stored_named, stored_of, stored_result, stored_variable, ResultAt, ToResult, ToText, stored_left, stored_text}
 use Rattle.sim_relate.proofs.Relation.{Any, GivesIs, Kind, OperandAt, Reaches, TargetAt, WorkAt, anys, site_at}
 use Rattle.sim_relate.proofs.Closing.{close_all_at, close_at, count_close}
 use Rattle.sim_relate.proofs.Pending.{anys_more, evals, pends}
@@ -47,22 +51,32 @@ each_reverse P (x ∷ xs) [] a = absurd a
 each_reverse P (x ∷ xs) (y ∷ ys) a =
     subst (λ z. EachAt P z (reverse (y ∷ ys))) (sym (reverse_first x xs)) (subst (λ z. EachAt P (reverse xs ++ x ∷ []) z) (sym (reverse_first y ys)) (each_append P (reverse xs) (reverse ys) x y (each_reverse P xs ys a.1) a.0))
 
+-- how many addresses and texts one left side has
+abbrev held_by : Stored → ℕ
+held_by (AtAddress d es line) = 1
+held_by (ToText e line) = 1
+held_by (ToResult k line) = 1
+held_by _ = 0
+
+addresses_one : (x : Stored) (xs : List Stored) → addresses (x ∷ xs) ≡ held_by x + addresses xs
+addresses_one (InCell k key) xs = omega arith
+addresses_one (AtAddress d es line) xs = omega arith
+addresses_one (ToText e line) xs = omega arith
+addresses_one (ToResult k line) xs = omega arith
+addresses_one NotBuilt xs = omega arith
+
 addresses_last : (xs : List Stored) (x : Stored) → addresses (xs ++ x ∷ []) ≡ addresses (x ∷ xs)
 addresses_last [] x = refl
-addresses_last (InCell text key ∷ xs) (InCell t k) = addresses_last xs (InCell t k)
-addresses_last (InCell text key ∷ xs) (AtAddress d es line) = addresses_last xs (AtAddress d es line)
-addresses_last (InCell text key ∷ xs) NotBuilt = addresses_last xs NotBuilt
-addresses_last (AtAddress e fs l ∷ xs) (InCell t k) = ap suc (addresses_last xs (InCell t k))
-addresses_last (AtAddress e fs l ∷ xs) (AtAddress d es line) = ap suc (addresses_last xs (AtAddress d es line))
-addresses_last (AtAddress e fs l ∷ xs) NotBuilt = ap suc (addresses_last xs NotBuilt)
-addresses_last (NotBuilt ∷ xs) (InCell t k) = addresses_last xs (InCell t k)
-addresses_last (NotBuilt ∷ xs) (AtAddress d es line) = addresses_last xs (AtAddress d es line)
-addresses_last (NotBuilt ∷ xs) NotBuilt = addresses_last xs NotBuilt
+addresses_last (y ∷ xs) x =
+    let e = addresses_last xs x in
+    let a = addresses_one y (xs ++ x ∷ []) in
+    let b = addresses_one x xs in
+    let c = addresses_one y xs in
+    let d = addresses_one x (y ∷ xs) in
+    omega (arith, a, b, c, d, e)
 
 addresses_first : (x : Stored) (xs ys : List Stored) → addresses xs ≡ addresses ys → addresses (x ∷ xs) ≡ addresses (x ∷ ys)
-addresses_first (InCell t k) xs ys e = e
-addresses_first (AtAddress d es line) xs ys e = ap suc e
-addresses_first NotBuilt xs ys e = e
+addresses_first x xs ys e = addresses_one x xs ∙ ap (λ n. held_by x + n) e ∙ sym (addresses_one x ys)
 
 addresses_reverse : (xs : List Stored) → addresses (reverse xs) ≡ addresses xs
 addresses_reverse [] = refl
@@ -76,12 +90,14 @@ module _ (s : Source) (code : CodeOf) (m : Instances) (inst t : ℕ) (b : BlockO
   abbrev pub LeftFits : Stored → Left → Type 0
   LeftFits (InCell k key) x = Inside s.tables t k → HasCell s k key → (j : ℕ) × (x ≡ LeftCell j key) × Reaches s m inst k j
   LeftFits (AtAddress d es line) x = (n p q : ℕ) → ElementAt s code site n line d es (ExprsAt s code site (suc n) es) p q → (y : Term) × (x ≡ LeftAddress y) × OperandAt s code m inst site n y p q
+  LeftFits (ToText e line) x = (n p q : ℕ) → ExprAt s code site n e p q → (y : Term) × (x ≡ LeftText line y) × OperandAt s code m inst site n y p q
+  LeftFits (ToResult k line) x = (n p q : ℕ) → ResultAt s code site n k p q → (y : Term) × (x ≡ LeftText line y) × OperandAt s code m inst site n y p q
   LeftFits NotBuilt x = Unit {0}
 
-  left_variable : (d : DeclNo) (es : Expressions) → LeftFits (stored_variable s d es) (variable_left s m inst d es)
+  left_cell : (d : DeclNo) (es : Expressions) → LeftFits (stored_variable s d es) (variable_left s m inst d es)
   unfolding home_of
-  left_variable d NoMore = λ ins has. let r = reach (block_of s d) ins in (r.0, ap (λ o. left_in o (λ j. LeftCell j (Declared d.0))) (r.1).found, r.1)
-  left_variable d (Then e es) = tt
+  left_cell d NoMore = λ ins has. let r = reach (block_of s d) ins in (r.0, ap (λ o. left_in o (λ j. LeftCell j (Declared d.0))) (r.1).found, r.1)
+  left_cell d (Then e es) = tt
 
   left_element : (d : DeclNo) (es : Expressions) (line : ℕ) → LeftFits (stored_element d es line) (array_left s m inst line d es)
   unfolding home_of
@@ -96,10 +112,10 @@ module _ (s : Source) (code : CodeOf) (m : Instances) (inst t : ℕ) (b : BlockO
 
   left_formal : (d : DeclNo) (es : Expressions) (line : ℕ) (by : Mode) (kind : FormalKind) → LeftFits (stored_formal s d es line by kind) (formal_left s m inst line d by kind es)
   left_formal d es line mode.ByName kind = tt
-  left_formal d es line mode.ByValue shape.Simple = left_variable d es
+  left_formal d es line mode.ByValue shape.Simple = left_cell d es
   left_formal d es line mode.ByValue shape.Array = left_element d es line
   left_formal d es line mode.ByValue shape.Procedure = tt
-  left_formal d es line mode.ByReference shape.Simple = left_variable d es
+  left_formal d es line mode.ByReference shape.Simple = left_cell d es
   left_formal d es line mode.ByReference shape.Array = left_element d es line
   left_formal d es line mode.ByReference shape.Procedure = tt
 
@@ -108,7 +124,7 @@ module _ (s : Source) (code : CodeOf) (m : Instances) (inst t : ℕ) (b : BlockO
   left_result k (Then e es) = tt
 
   left_declared : (d : DeclNo) (es : Expressions) (line : ℕ) (o : Option Entry) → LeftFits (stored_declared s d es line o) (declared_left s m inst line d o es)
-  left_declared d es line (Some (entry.Variable type)) = left_variable d es
+  left_declared d es line (Some (entry.Variable type)) = left_cell d es
   left_declared d es line (Some (entry.Constant type)) = tt
   left_declared d es line (Some (entry.Array element dimensions)) = left_element d es line
   left_declared d es line (Some (entry.Formal f)) = left_formal d es line f.mode f.kind
@@ -123,45 +139,50 @@ module _ (s : Source) (code : CodeOf) (m : Instances) (inst t : ℕ) (b : BlockO
   left_named (Some (denotation.Standard name)) es line = tt
   left_named None es line = tt
 
-  left_of : (g : Bool) (e : Expression) → LeftFits (stored_of g s e) (close_left_of g s m inst e)
-  left_of true (syntax.Named name es) = tt
-  left_of true (syntax.If token c x y) = tt
-  left_of true (syntax.Binary op token x y) = tt
-  left_of true (syntax.Not token x) = tt
-  left_of true (syntax.Signed k token x) = tt
-  left_of true (syntax.Member member token x class) = tt
-  left_of true (syntax.Dot token x name es) = tt
-  left_of true (syntax.Qua token x class) = tt
-  left_of true (syntax.Constant x token) = tt
-  left_of true (syntax.This token class) = tt
-  left_of true (syntax.New token class es) = tt
-  left_of true (syntax.Parentheses token x) = tt
-  left_of false (syntax.Named name es) = left_named (denoted s name.token.0) es (line_at s name.token.0)
-  left_of false (syntax.If token c x y) = tt
-  left_of false (syntax.Binary op token x y) = tt
-  left_of false (syntax.Not token x) = tt
-  left_of false (syntax.Signed k token x) = tt
-  left_of false (syntax.Member member token x class) = tt
-  left_of false (syntax.Dot token x name es) = tt
-  left_of false (syntax.Qua token x class) = tt
-  left_of false (syntax.Constant x token) = tt
-  left_of false (syntax.This token class) = tt
-  left_of false (syntax.New token class es) = tt
-  left_of false (syntax.Parentheses token x) = tt
+  pub left_at : (e : Expression) → LeftFits (stored_left s e) (left_variable s m inst e)
+  left_at (syntax.Named name es) = left_named (denoted s name.token.0) es (line_at s name.token.0)
+  left_at (syntax.If token c x y) = tt
+  left_at (syntax.Binary op token x y) = tt
+  left_at (syntax.Not token x) = tt
+  left_at (syntax.Signed k token x) = tt
+  left_at (syntax.Member member token x class) = tt
+  left_at (syntax.Dot token x name es) = tt
+  left_at (syntax.Qua token x class) = tt
+  left_at (syntax.Constant x token) = tt
+  left_at (syntax.This token class) = tt
+  left_at (syntax.New token class es) = tt
+  left_at (syntax.Parentheses token x) = tt
 
-  pub left_at : (e : Expression) → LeftFits (stored s e) (close_left s m inst e)
-  left_at e = left_of (is_text s e) e
+  -- the text that is assigned to
+  left_text_at : (o : Option ℕ) (e : Expression) (line : ℕ) → LeftFits (stored_text o e line) (LeftText line (result_or s m inst o (close s m inst e)))
+  left_text_at None e line = λ n p q a. (close s m inst e, refl, close_at s code m inst site agrees reach e n p q a)
+  left_text_at (Some k) e line = λ n p q a.
+      let r = reach k a.inside in (
+        Cell r.0 Result,
+        ap (λ o. LeftText line (in_instance o (λ j. Cell j Result))) (r.1).found,
+        (record { text = k; load = a.load; reaches = r.1; has = a.within }, refl),
+      )
+
+  left_of : (g : Bool) (sign : Assignment) (line : ℕ) (e : Expression) → LeftFits (stored_of g sign s line e) (close_left_of g sign s m inst line e)
+  left_of true assignment.Value line e = left_text_at (own_result s e) e line
+  left_of true assignment.Reference line e = left_at e
+  left_of false assignment.Value line e = left_at e
+  left_of false assignment.Reference line e = tt
 
   -- what a value is given to
   abbrev pub TargetFits : Stored → Target → Type 0
   TargetFits (InCell k key) x = (j : ℕ) × (x ≡ ToCell j key) × Reaches s m inst k j × HasCell s k key
   TargetFits (AtAddress d es line) x = x ≡ ToAddress
+  TargetFits (ToText e line) x = x ≡ meaning.ToText line
+  TargetFits (ToResult k line) x = x ≡ meaning.ToText line
   TargetFits NotBuilt x = ⊥
 
   -- the store of a value stands for its target, over the addresses of the others
   stores : (x : Stored) (y : Target) (p q : ℕ) (ks : List Kind) → TargetFits x y → StoreAt s code x p q → TargetAt s code m inst y p q (Any ∷ anys (addresses (x ∷ [])) ks) ks
   stores (InCell k key) y p q ks f a = subst (λ z. TargetAt s code m inst z p q (Any ∷ ks) ks) (sym f.1) (record { text = k; is = a; reaches = f.2; has = f.3 }, refl)
   stores (AtAddress d es line) y p q ks f a = subst (λ z. TargetAt s code m inst z p q (Any ∷ Any ∷ ks) ks) (sym f) (a, refl)
+  stores (ToText e line) y p q ks f a = subst (λ z. TargetAt s code m inst z p q (Any ∷ Any ∷ ks) ks) (sym f) (a, refl)
+  stores (ToResult k line) y p q ks f a = subst (λ z. TargetAt s code m inst z p q (Any ∷ Any ∷ ks) ks) (sym f) (a, refl)
   stores NotBuilt y p q ks f a = absurd f
 
   gives_is : (used temp : ℕ) (xs : List Stored) (ys : List Target) (p q : ℕ) (ks : List Kind) → EachAt TargetFits xs ys → GivesAt s code site temp (length (anys (addresses xs) ks)) xs p q → GivesIs s code m inst (site_at t b used) temp ys p q (anys (addresses xs) ks) ks
@@ -174,6 +195,12 @@ module _ (s : Source) (code : CodeOf) (m : Instances) (inst t : ℕ) (b : BlockO
   gives_is used temp (AtAddress d es line ∷ xs) (y ∷ ys) p q ks f a =
       let load = a.2 in
       (a.0, a.1, anys (addresses xs) ks, record { is = load.is; fits = load.fits }, stores (AtAddress d es line) y a.0 a.1 (anys (addresses xs) ks) f.0 a.3, gives_is used temp xs ys a.1 q ks f.1 a.4)
+  gives_is used temp (ToText e line ∷ xs) (y ∷ ys) p q ks f a =
+      let load = a.2 in
+      (a.0, a.1, anys (addresses xs) ks, record { is = load.is; fits = load.fits }, stores (ToText e line) y a.0 a.1 (anys (addresses xs) ks) f.0 a.3, gives_is used temp xs ys a.1 q ks f.1 a.4)
+  gives_is used temp (ToResult k line ∷ xs) (y ∷ ys) p q ks f a =
+      let load = a.2 in
+      (a.0, a.1, anys (addresses xs) ks, record { is = load.is; fits = load.fits }, stores (ToResult k line) y a.0 a.1 (anys (addresses xs) ks) f.0 a.3, gives_is used temp xs ys a.1 q ks f.1 a.4)
   gives_is used temp (NotBuilt ∷ xs) (y ∷ ys) p q ks f a = absurd (f.0)
 
   module _ (fs : Frames) (Below : Bool → Type 0) (low : length (cells_in s t (text s t)) ≤ u) where
@@ -188,6 +215,20 @@ module _ (s : Source) (code : CodeOf) (m : Instances) (inst t : ℕ) (b : BlockO
       pub y : ℕ
       pub ends : End (length (anys (addresses xs) ks)) y q
       pub works : (w : List Item) → Works w y (anys (addresses xs) ks) → Works (found.work ++ w) p ks
+
+    -- a text that is assigned to is found
+    text_found : (line : ℕ) (v : Left) (xs : List Stored) (o : Option Lefts) (End : ℕ → ℕ → ℕ → Type 0) (ks : List Kind) (p x q : ℕ) → ((y : Term) × (v ≡ LeftText line y) × OperandAt s code m inst site (length ks) y p x) → LeftsAre xs o End (Any ∷ ks) x q
+        → (st : Stored) → addresses (st ∷ xs) ≡ suc (addresses xs) → anys (addresses xs) (Any ∷ ks) ≡ anys (suc (addresses xs)) ks → TargetFits st (meaning.ToText line) → LeftsAre (st ∷ xs) (before v o) End ks p q
+    text_found line v xs o End ks p x q f r st counts more fits =
+        let all : anys (addresses xs) (Any ∷ ks) ≡ anys (addresses (st ∷ xs)) ks = more ∙ ap (λ n. anys n ks) (sym counts) in
+        record {
+          found = record { work = Do (Eval f.0) ∷ r.found.work; targets = meaning.ToText line ∷ r.found.targets };
+          is = ap (λ z. before z o) f.1 ∙ ap (λ z. before (LeftText line f.0) z) r.is;
+          fit = (fits, r.fit);
+          y = r.y;
+          ends = subst (λ z. End (length z) r.y q) all r.ends;
+          works = λ w z. evals s code m fs Below inst t b u low (r.found.work ++ w) f.0 p x ks f.2 (r.works w (subst (λ z. Works w r.y z) (sym all) z));
+        }
 
     one_left : (x : Stored) (v : Left) (xs : List Stored) (o : Option Lefts) (End : ℕ → ℕ → ℕ → Type 0) (ks : List Kind) (p q : ℕ) → LeftFits x v → ((ks : List Kind) (p : ℕ) → LeftsAt s code site (length ks) xs End p q → LeftsAre xs o End ks p q) → LeftsAt s code site (length ks) (x ∷ xs) End p q → LeftsAre (x ∷ xs) (before v o) End ks p q
     one_left (InCell k key) v xs o End ks p q fit rec a =
@@ -212,11 +253,18 @@ module _ (s : Source) (code : CodeOf) (m : Instances) (inst t : ℕ) (b : BlockO
           ends = subst (λ z. End (length z) r.y q) (anys_more (addresses xs) ks) r.ends;
           works = λ w z. evals s code m fs Below inst t b u low (r.found.work ++ w) f.0 p a.0 ks f.2 (r.works w (subst (λ z. Works w r.y z) (sym (anys_more (addresses xs) ks)) z));
         }
+    one_left (ToText e line) v xs o End ks p q fit rec a =
+        let r = rec (Any ∷ ks) a.0 a.2 in
+        text_found line v xs o End ks p a.0 q (fit (length ks) p a.0 a.1) r (ToText e line) refl (anys_more (addresses xs) ks) refl
+    one_left (ToResult k line) v xs o End ks p q fit rec a =
+        let r = rec (Any ∷ ks) a.0 a.2 in
+        text_found line v xs o End ks p a.0 q (fit (length ks) p a.0 a.1) r (ToResult k line) refl (anys_more (addresses xs) ks) refl
     one_left NotBuilt v xs o End ks p q fit rec a = absurd a
 
-    pub lefts_at : (es : List Expression) (End : ℕ → ℕ → ℕ → Type 0) (ks : List Kind) (p q : ℕ) → LeftsAt s code site (length ks) (each_stored s es) End p q → LeftsAre (each_stored s es) (lefts s m inst es) End ks p q
+    pub lefts_at : (es : List LeftSide) (End : ℕ → ℕ → ℕ → Type 0) (ks : List Kind) (p q : ℕ) → LeftsAt s code site (length ks) (each_stored s es) End p q → LeftsAre (each_stored s es) (lefts s m inst es) End ks p q
     lefts_at [] End ks p q a = record { found = record { work = []; targets = [] }; is = refl; fit = tt; y = p; ends = a; works = λ w z. z }
-    lefts_at (e ∷ es) End ks p q a = one_left (stored s e) (close_left s m inst e) (each_stored s es) (lefts s m inst es) End ks p q (left_at e) (λ ks p b. lefts_at es End ks p q b) a
+    lefts_at (e ∷ es) End ks p q a =
+        one_left (stored s e.sign (line_at s e.token) e.target) (close_left s m inst e.sign (line_at s e.token) e.target) (each_stored s es) (lefts s m inst es) End ks p q (left_of (is_text s e.target) e.sign (line_at s e.token) e.target) (λ ks p b. lefts_at es End ks p q b) a
 
     -- the value, and where it goes
     shares : (e : Expression) (xs : List Stored) (ys : List Target) (w : List Item) (p q : ℕ) (ks : List Kind) → EachAt TargetFits xs ys → SharesAt s code site (length (anys (addresses xs) ks)) e xs p q → Works w q ks → Works (Do (Eval (close s m inst e)) ∷ Do (ShareOp (reverse ys)) ∷ w) p (anys (addresses xs) ks)

@@ -28,8 +28,13 @@ pub mod Settle
 pub mod Quiet
 pub mod Main
 pub mod Whole
+pub mod Straight
+pub mod JoinTexts
+pub mod Shapes
+pub mod Joins
 pub mod Placed
 pub mod ExampleLists
 pub mod ExampleProcedure
 pub mod ExampleBlock
+pub mod ExampleTexts
 pub mod Examples

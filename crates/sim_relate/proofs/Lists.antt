@@ -1,14 +1,9 @@
 -- Lists read place by place, two at a time.
-use Rattle.std.proofs.Common.{◌≡◌, ◌≢◌, ℕ, zero, suc, ◌<◌, List, [], ◌∷◌, ◌++◌, length, Option, Some, None, refl, sym, ap, subst, arith}
+use Rattle.std.proofs.Common.{◌≡◌, ◌≢◌, ℕ, zero, suc, ◌<◌, List, [], ◌∷◌, ◌++◌, length, Option, Some, refl, sym, ap, subst, arith}
 use Rattle.std.specs.Prelude.{slice_get, slice_set}
 use Rattle.sim_code.proofs.Lifts.{Both}
 
 -- ---- one list
-
-pub set_len : {A : Type 0} (xs : List A) (i : ℕ) (v : A) → length (slice_set xs i v) ≡ length xs
-set_len [] i v = refl
-set_len (x ∷ xs) zero v = refl
-set_len (x ∷ xs) (suc i) v = ap suc (set_len xs i v)
 
 pub set_same : {A : Type 0} (xs : List A) (i : ℕ) (old v : A) → slice_get xs i ≡ Some old → slice_get (slice_set xs i v) i ≡ Some v
 set_same [] i old v h = absurd (cc)
@@ -22,14 +17,6 @@ set_other (x ∷ xs) zero (suc j) v h = refl
 set_other (x ∷ xs) (suc i) zero v h = refl
 set_other (x ∷ xs) (suc i) (suc j) v h = set_other xs i j v (λ e. h (ap suc e))
 
--- a write keeps what the new element has in common with the old one
-pub set_keeps : {A B : Type 0} (f : Option A → B) (xs : List A) (i : ℕ) (x : A) → f (Some x) ≡ f (slice_get xs i) → (j : ℕ) → f (slice_get (slice_set xs i x) j) ≡ f (slice_get xs j)
-set_keeps f [] i x e j = refl
-set_keeps f (a ∷ xs) zero x e zero = e
-set_keeps f (a ∷ xs) zero x e (suc j) = refl
-set_keeps f (a ∷ xs) (suc i) x e zero = refl
-set_keeps f (a ∷ xs) (suc i) x e (suc j) = set_keeps f xs i x e j
-
 pub append_before : {A : Type 0} (xs : List A) (y : A) (j : ℕ) → j < length xs → slice_get (xs ++ y ∷ []) j ≡ slice_get xs j
 append_before [] y j h = absurd (omega arith)
 append_before (x ∷ xs) y zero h = refl
@@ -38,16 +25,6 @@ append_before (x ∷ xs) y (suc j) h = append_before xs y j (omega arith)
 pub append_at : {A : Type 0} (xs : List A) (y : A) → slice_get (xs ++ y ∷ []) (length xs) ≡ Some y
 append_at [] y = refl
 append_at (x ∷ xs) y = append_at xs y
-
-pub append_keeps : {A : Type 0} (xs : List A) (y : A) (j : ℕ) (x : A) → slice_get xs j ≡ Some x → slice_get (xs ++ y ∷ []) j ≡ Some x
-append_keeps [] y j x h = absurd (cc)
-append_keeps (a ∷ xs) y zero x h = h
-append_keeps (a ∷ xs) y (suc j) x h = append_keeps xs y j x h
-
-pub there_is : {A : Type 0} (xs : List A) (j : ℕ) (x : A) → slice_get xs j ≡ Some x → j < length xs
-there_is [] j x h = absurd (cc)
-there_is (a ∷ xs) zero x h = omega arith
-there_is (a ∷ xs) (suc j) x h = let e = there_is xs j x h in omega arith
 
 -- ---- two lists
 
@@ -79,9 +56,3 @@ module _ {A B : Type 0} (P : A → B → Type 0) where
 
   pub both_as : (x x' : Option A) (y y' : Option B) → x' ≡ x → y' ≡ y → Both P x y → Both P x' y'
   both_as x x' y y' ex ey b = subst (λ z. Both P z y') (sym ex) (subst (λ z. Both P x z) (sym ey) b)
-
-pub both_map : {A B : Type 0} (P Q : A → B → Type 0) → ((a : A) (b : B) → P a b → Q a b) → (x : Option A) (y : Option B) → Both P x y → Both Q x y
-both_map P Q f None None b = b
-both_map P Q f None (Some y) b = absurd b
-both_map P Q f (Some x) None b = absurd b
-both_map P Q f (Some x) (Some y) b = f x y b

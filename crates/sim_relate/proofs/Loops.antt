@@ -1,7 +1,7 @@
 -- `for` lists.
-use Rattle.std.proofs.Common.{◌≡◌, ◌≤◌, ℕ, suc, Bool, true, false, List, [], ◌∷◌, length, refl, sym, subst, arith}
+use Rattle.std.proofs.Common.{◌≡◌, ◌≤◌, ℕ, suc, Bool, true, false, List, [], ◌∷◌, length, refl, sym, subst, arith, Option, Some, None, ap, ◌∙◌}
 use Rattle.sim_base.specs.declared.limits.Limits.{Limits}
-use Rattle.sim_scope.specs.Source.{Source, line_at}
+use Rattle.sim_scope.specs.Source.{Source, line_at, level_of}
 use Rattle.sim_tree.specs.declared.expr.Identifier.{Identifier}
 use Rattle.sim_tree.specs.declared.stmt.Assignment.{Assignment}
 use Rattle.sim_tree.specs.declared.stmt.Assignment.TheVariants as assignment
@@ -20,20 +20,20 @@ use Rattle.sim_code.specs.Machine as machine
 use Rattle.sim_code.specs.Rows.{on_top}
 use Rattle.sim_code.proofs.Lifts.{alike_no_rule}
 use Rattle.sim_code.proofs.Simulation.{Alike}
-use Rattle.sim_meaning.specs.Closing.{Left, close, close_left}
+use Rattle.sim_meaning.specs.Closing.{Left, close, is_text, left_variable}
 use Rattle.sim_meaning.specs.Meaning.{do_op}
-use Rattle.sim_meaning.specs.Pending.{Activation, AgainOp, BackOp, BranchOp, Cell, Configuration, Do, ElementsOp, Eval, Exec, Instances, Item, Op, RaiseOp, StepOp, StepTestOp, StoreOp, Target, ToAddress, ToCell, TwoOp, Val, WhileElementOp, plain}
+use Rattle.sim_meaning.specs.Pending.{Activation, AgainOp, BackOp, BranchOp, Cell, Configuration, Do, ElementsOp, Eval, Exec, Instances, Item, Op, RaiseOp, StepOp, StepTestOp, StoreOp, Target, ToCell, TwoOp, Val, WhileElementOp, plain, Key, ToTextOf}
 use Rattle.sim_meaning.specs.Pending as meaning
-use Rattle.sim_meaning.specs.Statements.{controlled, looping, reading}
+use Rattle.sim_meaning.specs.Statements.{controlled, looping, reading, finding}
 use Rattle.sim_meaning.specs.Steps.{go}
 use Rattle.sim_meaning.specs.Texts.{text}
-use Rattle.codegen_expr.specs.Sites.{Is, Site, cells_in}
+use Rattle.codegen_expr.specs.Sites.{Is, Site, cells_in, HasCell, Pushes, slot_of}
 use Rattle.codegen_expr.specs.CodeExpr.{ExprAt}
 use Rattle.codegen.specs.Agrees.{Agrees}
-use Rattle.codegen.specs.CodeFor.{ElementsAt, ForAt, ListAt, LoadsVariable, OneElementAt, SharedAt, StoresVariable, Variable, is_empty}
-use Rattle.codegen.specs.CodeLeft.{AtAddress, InCell, NotBuilt, Stored, stored}
+use Rattle.codegen.specs.CodeFor.{ElementsAt, ForAt, ListAt, LoadsVariable, OneElementAt, SharedAt, StoresVariable, Variable, is_empty, GivesBy, GivesVariable, assigned_by}
+use Rattle.codegen.specs.CodeLeft.{InCell, Stored, stored_left}
 use Rattle.codegen.specs.CodeStm.{StmAt}
-use Rattle.sim_relate.proofs.Relation.{Any, BeginsAt, ChainAt, ComesTo, HandAt, Kind, OpAt, StackAt, StateAt, TargetAt, TurnOf, VariableIs, WorkAt, anys, more_at, over, plain_at, site_at, straight, there, turning, variable}
+use Rattle.sim_relate.proofs.Relation.{Any, BeginsAt, ChainAt, ComesTo, HandAt, Kind, OpAt, StackAt, StateAt, TargetAt, TurnOf, VariableIs, WorkAt, anys, more_at, over, plain_at, site_at, straight, there, turning, variable, Reaches, variable_target}
 use Rattle.sim_relate.proofs.Hands.{hand_plain}
 use Rattle.sim_relate.proofs.Here.{Here, act, at_row, goes, kinds_as}
 use Rattle.sim_relate.proofs.Lefts.{LeftFits, left_at}
@@ -41,6 +41,7 @@ use Rattle.sim_relate.proofs.Operators.{onward, same_plain}
 use Rattle.sim_relate.proofs.Pending.{evals, pends}
 use Rattle.sim_relate.proofs.Reach.{reach}
 use Rattle.sim_relate.proofs.Statements.{closing, ticks}
+use Rattle.std.specs.Prelude.{pos}
 
 -- the test of a step element has no error, so that its line does not matter
 module _ (S M : Type 0) (R : S → M → Type 0) (line line' : ℕ) (o : World) (r : Plain → Run S) (q : Plain → Run M) (a : (z : Plain) → Alike R (r z) (q z)) where
@@ -66,8 +67,8 @@ module _ (S M : Type 0) (R : S → M → Type 0) (line line' : ℕ) (o : World) 
 -- elements with other turns
 module _ (s : Source) (code : CodeOf) (site : Site) (n : ℕ) (v : Variable) where
   one_as : (e : Element) (A B : ℕ → ℕ → Type 0) → ((p q : ℕ) → A p q → B p q) → (p q : ℕ) → OneElementAt s code site n v e A p q → OneElementAt s code site n v e B p q
-  one_as (syntax.Once e) A B f p q a = record { x = a.x; y = a.y; z = a.z; tick = a.tick; value = a.value; stored = a.stored; turn = f a.z q a.turn }
-  one_as (syntax.While e token c) A B f p q a = record { x = a.x; y = a.y; z = a.z; u = a.u; b = a.b; w = a.w; tick = a.tick; value = a.value; stored = a.stored; test = a.test; jump = a.jump; leads = a.leads; turn = f a.b a.w a.turn; back = a.back; behind = a.behind }
+  one_as (syntax.Once e) A B f p q a = record { x = a.x; z = a.z; tick = a.tick; given = a.given; turn = f a.z q a.turn }
+  one_as (syntax.While e token c) A B f p q a = record { x = a.x; z = a.z; u = a.u; b = a.b; w = a.w; tick = a.tick; given = a.given; test = a.test; jump = a.jump; leads = a.leads; turn = f a.b a.w a.turn; back = a.back; behind = a.behind }
   one_as (syntax.Step start token step limit) A B f p q x = record {
     a = x.a;
     b = x.b;
@@ -83,6 +84,7 @@ module _ (s : Source) (code : CodeOf) (site : Site) (n : ℕ) (v : Variable) whe
     l = x.l;
     m = x.m;
     w = x.w;
+    takes = x.takes;
     first = x.first;
     stored = x.stored;
     first_step = x.first_step;
@@ -132,14 +134,33 @@ module _ (s : Source) (code : CodeOf) (l : Limits) (agrees : Agrees s) (o : Worl
   a_tick : (r : World → Run Configuration) (p : ℕ) → Is code i.Tick pc p → ((x : World) → Alike R (r x) (Going x (record { chain = act inst p stack b.room ∷ below; memory = fs }))) → Alike R (ticking l o r) (on_top code l o fs a_top below)
   a_tick r p a f = ticks s code l agrees o m inst w vals rest fs t b pc stack below ks here u q ks' low k r p a f
 
-  -- the controlled variable is given a value, and read
-  stores_it : (x : Target) (v : VariableIs s code m inst x) (p p' : ℕ) (before : List Kind) → StoresVariable s code (variable s code v) p p' → TargetAt s code m inst x p p' (Any ∷ before) before
-  stores_it x v p p' before a = subst (λ z. TargetAt s code m inst z p p' (Any ∷ before) before) (sym v.is) (record { text = v.text; is = a; reaches = v.reaches; has = v.has }, refl)
+  -- the value of its cell
+  puts_cell : (z instance : ℕ) (key : Key) → Reaches s m inst z instance → HasCell s z key → (y : List Item) (p p' : ℕ) (before : List Kind) → Pushes code (site_at t b u) (length before) (i.Load (pos (level_of s z)) (pos (slot_of s z key))) p p' → Rests y p' (Any ∷ before) → Rests (Do (Eval (Cell instance key)) ∷ y) p before
+  puts_cell z instance key reaches has y p p' before a r = evals s code m fs (λ v. ChainAt s code m fs inst rest v below) inst t b u low y (Cell instance key) p p' before (record { text = z; load = a; reaches = reaches; has = has }, refl) r
 
-  reads_it : (x : Target) (v : VariableIs s code m inst x) (y : List Item) (p p' : ℕ) (before : List Kind) → LoadsVariable s code (site_at t b u) (length before) (variable s code v) p p' → Rests y p' (Any ∷ before) → Rests (reading x y) p before
-  reads_it x v y p p' before a r =
-      subst (λ z. Rests (reading z y) p before) (sym v.is)
-      (evals s code m fs (λ v. ChainAt s code m fs inst rest v below) inst t b u low y (Cell v.instance v.key) p p' before (record { text = v.text; load = a; reaches = v.reaches; has = v.has }, refl) r)
+  -- the controlled variable is given a value, and read
+  stores_it : (x : Target) (v : VariableIs s code m inst x) (p p' : ℕ) (before : List Kind) → v.assigned ≡ None → StoresVariable s code (variable s code v) p p' → TargetAt s code m inst x p p' (Any ∷ before) before
+  stores_it x v p p' before takes a =
+      let is : x ≡ ToCell v.instance v.key = v.is ∙ ap (λ z. variable_target z v.instance v.key) takes in
+      subst (λ z. TargetAt s code m inst z p p' (Any ∷ before) before) (sym is) (record { text = v.text; is = a; reaches = v.reaches; has = v.has }, refl)
+
+  reads_it : (x : Target) (v : VariableIs s code m inst x) (y : List Item) (p p' : ℕ) (before : List Kind) → v.assigned ≡ None → LoadsVariable s code (site_at t b u) (length before) (variable s code v) p p' → Rests y p' (Any ∷ before) → Rests (reading x y) p before
+  reads_it x v y p p' before takes a r =
+      let is : x ≡ ToCell v.instance v.key = v.is ∙ ap (λ z. variable_target z v.instance v.key) takes in
+      subst (λ z. Rests (reading z y) p before) (sym is) (puts_cell v.text v.instance v.key v.reaches v.has y p p' before a r)
+
+  -- the value of an element goes to it
+  gives_by : (z instance : ℕ) (key : Key) (assigned : Option ℕ) (reaches : Reaches s m inst z instance) (has : HasCell s z key) (e : Expression) (y : List Item) (p p' : ℕ) (before : List Kind) → GivesBy s code (site_at t b u) (length before) (record { text = z; key = key; assigned = assigned }) assigned e p p' → Rests y p' before
+      → Rests (finding (variable_target assigned instance key) (Do (Eval (close s m inst e)) ∷ Do (StoreOp (variable_target assigned instance key)) ∷ y)) p before
+  gives_by z instance key None reaches has e y p p' before a r =
+      closes (Do (StoreOp (ToCell instance key)) ∷ y) e p a.0 before a.1 (puts y (StoreOp (ToCell instance key)) a.0 p' (Any ∷ before) before (record { text = z; is = a.2; reaches = reaches; has = has }, refl) r)
+  gives_by z instance key (Some line) reaches has e y p p' before a r =
+      puts_cell z instance key reaches has (Do (Eval (close s m inst e)) ∷ Do (StoreOp (ToTextOf instance key line)) ∷ y) p a.0 before a.2
+      (closes (Do (StoreOp (ToTextOf instance key line)) ∷ y) e a.0 a.1 (Any ∷ before) a.3 (puts y (StoreOp (ToTextOf instance key line)) a.1 p' (Any ∷ Any ∷ before) before (a.4, refl) r))
+
+  gives_it : (x : Target) (v : VariableIs s code m inst x) (e : Expression) (y : List Item) (p p' : ℕ) (before : List Kind) → GivesVariable s code (site_at t b u) (length before) (variable s code v) e p p' → Rests y p' before → Rests (finding x (Do (Eval (close s m inst e)) ∷ Do (StoreOp x) ∷ y)) p before
+  gives_it x v e y p p' before a r =
+      subst (λ z. Rests (finding z (Do (Eval (close s m inst e)) ∷ Do (StoreOp z) ∷ y)) p before) (sym v.is) (gives_by v.text v.instance v.key v.assigned v.reaches v.has e y p p' before a r)
 
   -- ---- steps of elements
 
@@ -148,17 +169,15 @@ module _ (s : Source) (code : CodeOf) (l : Limits) (agrees : Agrees s) (o : Worl
       let f = h.elements in
       let g = f.1 in
       a_tick _ g.x g.tick (λ p. moves_on _ g.x
-      (closes (Do (StoreOp x) ∷ Do (Exec a) ∷ Do (ElementsOp x es a) ∷ w) e g.x g.y ks g.value
-      (puts (Do (Exec a) ∷ Do (ElementsOp x es a) ∷ w) (StoreOp x) g.y g.z (Any ∷ ks) ks (stores_it x h.v g.y g.z ks g.stored)
+      (gives_it x h.v e (Do (Exec a) ∷ Do (ElementsOp x es a) ∷ w) g.x g.z ks g.given
       (puts (Do (ElementsOp x es a) ∷ w) (Exec a) g.z f.0 ks ks (g.turn, refl)
-      (puts w (ElementsOp x es a) f.0 q ks ks' (record { v = h.v; number = suc h.number; elements = f.2; out = h.out }) k)))) refl)
+      (puts w (ElementsOp x es a) f.0 q ks ks' (record { v = h.v; number = suc h.number; elements = f.2; out = h.out }) k))) refl)
 
   pub while_element : (x : Target) (e c : Expression) (a : Statement) → Follows (WhileElementOp x e c a)
   while_element x e c a h =
       let g = h.element in
       a_tick _ g.x g.tick (λ p. moves_on _ g.x
-      (closes (Do (StoreOp x) ∷ Do (Eval (close s m inst c)) ∷ Do (BranchOp a (BackOp (WhileElementOp x e c a))) ∷ w) e g.x g.y ks g.value
-      (puts (Do (Eval (close s m inst c)) ∷ Do (BranchOp a (BackOp (WhileElementOp x e c a))) ∷ w) (StoreOp x) g.y g.z (Any ∷ ks) ks (stores_it x h.v g.y g.z ks g.stored)
+      (gives_it x h.v e (Do (Eval (close s m inst c)) ∷ Do (BranchOp a (BackOp (WhileElementOp x e c a))) ∷ w) g.x g.z ks g.given
       (closes (Do (BranchOp a (BackOp (WhileElementOp x e c a))) ∷ w) c g.z g.u ks g.test
       (puts w (BranchOp a (BackOp (WhileElementOp x e c a))) g.u q (Any ∷ ks) ks (record {
         z = g.b;
@@ -168,7 +187,7 @@ module _ (s : Source) (code : CodeOf) (l : Limits) (agrees : Agrees s) (o : Worl
         turn = g.turn;
         next = record { t = pc; x = q; u = g.x; jump = g.back; back = g.behind; tick = g.tick; next = record { v = h.v; element = g; out = refl } };
         «in» = refl;
-      }) (rests_out h.out))))) refl)
+      }) (rests_out h.out)))) refl)
     where
       rests_out : ks' ≡ ks → Rests w q ks
       rests_out e = subst (λ z. Rests w q z) e k
@@ -180,7 +199,7 @@ module _ (s : Source) (code : CodeOf) (l : Limits) (agrees : Agrees s) (o : Worl
       let e = h.2 in
       a_tick _ g.c (subst (λ z. Is code i.Tick z g.c) h.1 g.tick) (λ p. moves_on _ g.c
       (subst (λ z. Rests (reading x (Do (Eval (close s m inst limit)) ∷ Do (StepOp line) ∷ Do (BranchOp a (RaiseOp x line step limit a)) ∷ w)) g.c z) (sym e)
-      (reads_it x r.v (Do (Eval (close s m inst limit)) ∷ Do (StepOp line) ∷ Do (BranchOp a (RaiseOp x line step limit a)) ∷ w) g.c g.d (anys 1 ks') g.variable
+      (reads_it x r.v (Do (Eval (close s m inst limit)) ∷ Do (StepOp line) ∷ Do (BranchOp a (RaiseOp x line step limit a)) ∷ w) g.c g.d (anys 1 ks') g.takes g.variable
       (closes (Do (StepOp line) ∷ Do (BranchOp a (RaiseOp x line step limit a)) ∷ w) limit g.d g.e (anys 2 ks') g.last
       (puts (Do (BranchOp a (RaiseOp x line step limit a)) ∷ w) (StepOp line) g.e g.f (anys 3 ks') (anys 1 ks') (record { line = g.test.line; works = record { is = g.test.is; left = ks'; «in» = refl; out = refl } })
       (puts w (BranchOp a (RaiseOp x line step limit a)) g.f q (anys 1 ks') ks' (record { z = g.g; w = g.h; jump = g.jump; leads = g.leads; turn = g.turn; next = (r, refl, refl); «in» = refl }) k))))) refl)
@@ -210,9 +229,9 @@ module _ (s : Source) (code : CodeOf) (l : Limits) (agrees : Agrees s) (o : Worl
       (subst (λ p. Rests (Do (Eval (close s m inst step)) ∷ Do AgainOp ∷ reading x sums) p ks') h.1
       (closes (Do AgainOp ∷ reading x sums) step g.h g.j ks' g.next_step
       (puts (reading x sums) AgainOp g.j g.k (anys 1 ks') (anys 2 ks') (record { is = g.again; left = ks'; «in» = refl; out = refl })
-      (reads_it x r.v sums g.k g.l (anys 2 ks') g.old
+      (reads_it x r.v sums g.k g.l (anys 2 ks') g.takes g.old
       (puts (Do (StoreOp x) ∷ tail) (TwoOp (dyadic.Calculate calculation.Add) line) g.l g.m (anys 3 ks') (anys 2 ks') (record { is = g.sum; left = anys 1 ks'; «in» = refl; out = refl })
-      (puts tail (StoreOp x) g.m g.w (anys 2 ks') (anys 1 ks') (stores_it x r.v g.m g.w (anys 1 ks') g.raised)
+      (puts tail (StoreOp x) g.m g.w (anys 2 ks') (anys 1 ks') (stores_it x r.v g.m g.w (anys 1 ks') g.takes g.raised)
       (puts w (BackOp (StepTestOp x line step limit a)) g.w q (anys 1 ks') ks' (record { t = g.t; x = q; u = g.c; jump = g.back; back = g.behind; tick = g.tick; next = (r, refl, refl) }) k)))))))
 
   pub while_rests : (x : Target) (e : Expression) (token : ℕ) (c : Expression) (es : List Element) (a : Statement) → OpAt s code m fs inst (site_at t b u) (ElementsOp x (syntax.While e token c ∷ es) a) pc q ks ks' → Rests (Do (WhileElementOp x e c a) ∷ Do (ElementsOp x es a) ∷ w) pc ks
@@ -227,7 +246,7 @@ module _ (s : Source) (code : CodeOf) (l : Limits) (agrees : Agrees s) (o : Worl
       let g = f.1 in
       let tail = Do (ElementsOp x es a) ∷ w in
       closes (Do (StoreOp x) ∷ Do (Eval (close s m inst step)) ∷ Do (StepTestOp x (line_at s token) step limit a) ∷ tail) first pc g.a ks g.first
-      (puts (Do (Eval (close s m inst step)) ∷ Do (StepTestOp x (line_at s token) step limit a) ∷ tail) (StoreOp x) g.a g.b (Any ∷ ks) ks (stores_it x h.v g.a g.b ks g.stored)
+      (puts (Do (Eval (close s m inst step)) ∷ Do (StepTestOp x (line_at s token) step limit a) ∷ tail) (StoreOp x) g.a g.b (Any ∷ ks) ks (stores_it x h.v g.a g.b ks g.takes g.stored)
       (closes (Do (StepTestOp x (line_at s token) step limit a) ∷ tail) step g.b g.t ks g.first_step
       (puts tail (StepTestOp x (line_at s token) step limit a) g.t f.0 (Any ∷ ks) ks (record { v = h.v; start = first; at = pc; element = g }, refl, refl)
       (puts w (ElementsOp x es a) f.0 q ks ks' (record { v = h.v; number = suc h.number; elements = f.2; out = h.out }) k))))
@@ -275,22 +294,31 @@ module _ (s : Source) (code : CodeOf) (l : Limits) (agrees : Agrees s) (o : Worl
   list_is v true (e ∷ f ∷ es) a p p' h = plainly v (e ∷ f ∷ es) a p p' h
   list_is v false (e ∷ f ∷ es) a p p' h = shared v (e ∷ f ∷ es) a p p' h
 
-  looped : (p : World) (sign : Assignment) (x : Stored) (v : Left) (es : List Element) (a : Statement) (y : ℕ) → LeftFits s code m inst t b u agrees (λ z ins. reach s m inst t z agrees here.stands ins) x v → ForAt s code (site_at t b u) (length ks) sign x (is_empty a) es (λ site. StmAt s code site (length ks) a) y q → ks' ≡ ks
-      → Alike R (looping p m inst w vals rest sign (controlled v) es a) (Going p (record { chain = act inst y stack b.room ∷ below; memory = fs }))
-  looped p assignment.Value (InCell z key) v es a y fit h e =
-      let f = fit h.0 h.1 in
-      let r = list_is (record { text = z; key = key }) (is_empty a) es a y q h.2 in
+  looped_by : (p : World) (z : ℕ) (key : Key) (by : Option ℕ) (instance : ℕ) (es : List Element) (a : Statement) (y : ℕ) → Reaches s m inst z instance → HasCell s z key → ListAt s code (site_at t b u) (length ks) (record { text = z; key = key; assigned = by }) (is_empty a) es (λ site. StmAt s code site (length ks) a) y q → ks' ≡ ks
+      → Alike R (go p m inst (Do (ElementsOp (variable_target by instance key) es a) ∷ w) vals rest) (Going p (record { chain = act inst y stack b.room ∷ below; memory = fs }))
+  looped_by p z key by instance es a y reaches has h e =
+      let r = list_is (record { text = z; key = key; assigned = by }) (is_empty a) es a y q h in
       let same : u ≤ u = omega arith in
-      subst (λ v. Alike R (looping p m inst w vals rest assignment.Value (controlled v) es a) (Going p (record { chain = act inst y stack b.room ∷ below; memory = fs }))) (sym f.1)
-      (moves_on (Do (ElementsOp (ToCell f.0 key) es a) ∷ w) y
-      (r.at, u, q, ks', r.comes, same, low, record { v = record { text = z; key = key; instance = f.0; is = refl; reaches = f.2; has = h.1 }; number = 0; elements = r.elements; out = e }, k) refl)
-  looped p assignment.Value (AtAddress d xs line) v es a y fit h e = absurd h
-  looped p assignment.Value NotBuilt v es a y fit h e = absurd h
-  looped p assignment.Reference (InCell z key) v es a y fit h e = absurd h
-  looped p assignment.Reference (AtAddress d xs line) v es a y fit h e = absurd h
-  looped p assignment.Reference NotBuilt v es a y fit h e = absurd h
+      moves_on (Do (ElementsOp (variable_target by instance key) es a) ∷ w) y
+      (r.at, u, q, ks', r.comes, same, low, record { v = record { text = z; key = key; assigned = by; instance = instance; is = refl; reaches = reaches; has = has }; number = 0; elements = r.elements; out = e }, k) refl
+
+  looped : (p : World) (g : Bool) (sign : Assignment) (line : ℕ) (x : Stored) (v : Left) (es : List Element) (a : Statement) (y : ℕ) → LeftFits s code m inst t b u agrees (λ z ins. reach s m inst t z agrees here.stands ins) x v → ForAt s code (site_at t b u) (length ks) (assigned_by g sign line) x (is_empty a) es (λ site. StmAt s code site (length ks) a) y q → ks' ≡ ks
+      → Alike R (looping p m inst w vals rest (controlled g sign line v) es a) (Going p (record { chain = act inst y stack b.room ∷ below; memory = fs }))
+  looped p true assignment.Value line (InCell z key) v es a y fit h e =
+      let f = fit h.0 h.1 in
+      subst (λ v. Alike R (looping p m inst w vals rest (controlled true assignment.Value line v) es a) (Going p (record { chain = act inst y stack b.room ∷ below; memory = fs }))) (sym f.1) (looped_by p z key (Some line) f.0 es a y f.2 h.1 h.2 e)
+  looped p true assignment.Reference line (InCell z key) v es a y fit h e =
+      let f = fit h.0 h.1 in
+      subst (λ v. Alike R (looping p m inst w vals rest (controlled true assignment.Reference line v) es a) (Going p (record { chain = act inst y stack b.room ∷ below; memory = fs }))) (sym f.1) (looped_by p z key None f.0 es a y f.2 h.1 h.2 e)
+  looped p false assignment.Value line (InCell z key) v es a y fit h e =
+      let f = fit h.0 h.1 in
+      subst (λ v. Alike R (looping p m inst w vals rest (controlled false assignment.Value line v) es a) (Going p (record { chain = act inst y stack b.room ∷ below; memory = fs }))) (sym f.1) (looped_by p z key None f.0 es a y f.2 h.1 h.2 e)
+  looped p false assignment.Reference line x v es a y fit h e = absurd h
+  looped p true assignment.Value line _ v es a y fit h e = absurd h
+  looped p true assignment.Reference line _ v es a y fit h e = absurd h
+  looped p false assignment.Value line _ v es a y fit h e = absurd h
 
   pub for_statement : (token : ℕ) (x : Identifier) (sign : Assignment) (assign : ℕ) (es : List Element) (a : Statement) → BeginsAt s code m fs inst (site_at t b u) (Exec (syntax.For token x sign assign es a)) pc q ks ks' → Alike R (do_op s l o m inst w vals rest (Exec (syntax.For token x sign assign es a))) (on_top code l o fs a_top below)
   for_statement token x sign assign es a h =
       let y = h.0 in
-      a_tick _ y.0 y.1 (λ p. looped p sign (stored s (syntax.Named x NoMore)) (close_left s m inst (syntax.Named x NoMore)) es a y.0 (left_at s code m inst t b u agrees (λ z ins. reach s m inst t z agrees here.stands ins) (syntax.Named x NoMore)) y.2 h.1)
+      a_tick _ y.0 y.1 (λ p. looped p (is_text s (syntax.Named x NoMore)) sign (line_at s assign) (stored_left s (syntax.Named x NoMore)) (left_variable s m inst (syntax.Named x NoMore)) es a y.0 (left_at s code m inst t b u agrees (λ z ins. reach s m inst t z agrees here.stands ins) (syntax.Named x NoMore)) y.2 h.1)

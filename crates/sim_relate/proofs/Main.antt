@@ -13,7 +13,7 @@ use Rattle.sim_code.specs.Machine as machine
 use Rattle.sim_code.specs.Rows.{mstep, on_top}
 use Rattle.sim_code.proofs.Simulation.{Alike}
 use Rattle.sim_meaning.specs.Meaning.{do_op, has_result, step}
-use Rattle.sim_meaning.specs.Pending.{Activation, AgainOp, ArrayOp, BackOp, BranchOp, CallOf, CallOp, Cell, ChooseOp, Configuration, CopyOf, CopyOp, Do, DropOp, Either, ElementOf, ElementOp, ElementsOp, EndBlock, EndProcedure, EndProgram, EnterOp, Eval, Exec, Execs, FetchOp, Given, GiveOp, IfOp, Instances, Item, One, OneOp, Op, PastOp, RaiseOp, ShareOp, StandardOf, StandardOp, StepOp, StepTestOp, StoreOp, Target, Term, Terms, TestOp, Two, TwoOp, Unbuilt, Val, ValueAt, WhileElementOp}
+use Rattle.sim_meaning.specs.Pending.{Activation, AgainOp, ArrayOp, BackOp, BranchOp, CallOf, CallOp, Cell, ChooseOp, Configuration, CopyOf, CopyOp, Do, DropOp, Either, ElementOf, ElementOp, ElementsOp, EndBlock, EndProcedure, EndProgram, EnterOp, Eval, Exec, Execs, FetchOp, Given, GiveOp, IfOp, Instances, Item, One, OneOp, Op, PastOp, RaiseOp, ShareOp, StandardOf, StandardOp, StepOp, StepTestOp, StoreOp, Target, Term, Terms, TestOp, Two, TwoOp, Unbuilt, Val, ValueAt, WhileElementOp, ImageOf, JoinOp, Joined, PlaceOf}
 use Rattle.sim_meaning.specs.Steps.{count}
 use Rattle.sim_meaning.specs.Texts.{text}
 use Rattle.codegen_expr.specs.Sites.{cells_in}
@@ -23,6 +23,7 @@ use Rattle.sim_relate.proofs.Calls as calls
 use Rattle.sim_relate.proofs.Ends as ends
 use Rattle.sim_relate.proofs.Entries as entries
 use Rattle.sim_relate.proofs.Here.{Here, act, at_row, goes, state_at, with_values}
+use Rattle.sim_relate.proofs.Joins as joins
 use Rattle.sim_relate.proofs.Loops as loops
 use Rattle.sim_relate.proofs.Operators as operators
 use Rattle.sim_relate.proofs.Pending.{each_pends, pends}
@@ -30,10 +31,12 @@ use Rattle.sim_relate.proofs.Quiet.{each_weight, weight}
 use Rattle.sim_relate.proofs.Quiet as quiet_steps
 use Rattle.sim_relate.proofs.Relation.{BeginsAt, ChainAt, ChainNow, Kind, LinkTo, NowAt, OpAt, StateAt, StateNow, StoreAt, WorkAt, anys, given, more_at, site_at, text_gives}
 use Rattle.sim_relate.proofs.Statements as statements
+use Rattle.sim_relate.proofs.Ranked.{Meets}
 
 -- a step of both, or one of the program alone that leaves less to be taken apart
 pub data MovesNow (s : Source) (code : CodeOf) (l : Limits) (o : World) (c : Configuration) (x : Machine) : Type 0 where
   both : Alike (StateAt s code) (step s l o c) (mstep code l o x) → MovesNow s code l o c x
+  several : Meets (mstep code l) (StateAt s code) (step s l o c) o x → MovesNow s code l o c x
   quiet : (c' : Configuration) → step s l o c ≡ Going o c' → StateAt s code c' x → weight s c' < weight s c → MovesNow s code l o c x
 
 module _ (s : Source) (code : CodeOf) (compiled : Compiled s code) (l : Limits) (o : World) (m : Instances) (inst : ℕ) (w : List Item) (vals : List Val) (rest : List Activation) (fs : Frames) (t : ℕ) (b : BlockOf) (pc : ℕ) (stack : List Value) (below : List machine.Activation) (ks : List Kind) (here : Here s code m fs inst t b ks vals stack) (u q : ℕ) (ks' : List Kind) (low : length (cells_in s t (text s t)) ≤ u) (k : WorkAt s code m fs (λ v. ChainAt s code m fs inst rest v below) inst t b u w q ks') where
@@ -67,7 +70,7 @@ module _ (s : Source) (code : CodeOf) (compiled : Compiled s code) (l : Limits) 
       (is.is).on)))
 
   eval_moves : (x : Term) → Follows (Eval x)
-  eval_moves (Given v) a = both (operators.constant s code l o m inst w vals rest fs t b pc stack below ks here u q ks' low k v a)
+  eval_moves (Given v) a = both (operators.constant s code l o m inst w vals rest fs t b pc stack below ks here u q ks' low k compiled.texts v a)
   eval_moves (Cell j key) a = both (operators.variable s code l o m inst w vals rest fs t b pc stack below ks here u q ks' low k j key a)
   eval_moves (One op line x) a = quiet _ refl (stands_so _ (quiet_steps.one_opened s code m fs Below inst t b u low w pc q ks ks' k op line x a)) (omega arith)
   eval_moves (Two op line x y) a = quiet _ refl (stands_so _ (quiet_steps.two_opened s code m fs Below inst t b u low w pc q ks ks' k op line x y a)) (omega arith)
@@ -79,6 +82,9 @@ module _ (s : Source) (code : CodeOf) (compiled : Compiled s code) (l : Limits) 
   eval_moves (StandardOf name ts line) a =
       let e = each_weight s m inst ts (Do (StandardOp name line) ∷ w) refl in
       quiet _ refl (stands_so _ (quiet_steps.standard_opened s code m fs Below inst t b u low w pc q ks ks' k name ts line a)) (omega (arith, e))
+  eval_moves (PlaceOf j key) a = both (operators.place s code l o m inst w vals rest fs t b pc stack below ks here u q ks' low k j key a)
+  eval_moves (ImageOf n) a = both (operators.image s code l o m inst w vals rest fs t b pc stack below ks here u q ks' low k n a)
+  eval_moves (Joined line x y) a = quiet _ refl (stands_so _ (quiet_steps.joined_opened s code m fs Below inst t b u low w pc q ks ks' k line x y a)) (omega arith)
   eval_moves Unbuilt a = absurd (a.0)
 
   statement_moves : (x : Statement) → Follows (Exec x)
@@ -112,6 +118,7 @@ module _ (s : Source) (code : CodeOf) (compiled : Compiled s code) (l : Limits) 
   op_moves (CopyOp line) a = both (operators.copy s code l o m inst w vals rest fs t b pc stack below ks here u q ks' low k line a)
   op_moves (CallOp c n line) a = both (entries.call s code compiled l o m inst w vals rest fs t b pc stack below ks here u q ks' low k c n line a)
   op_moves (StandardOp name line) a = both (calls.standard s code l o m inst w vals rest fs t b pc stack below ks here u q ks' low k name line a)
+  op_moves (JoinOp line) a = several (joins.join s code l o m inst w vals rest fs t b pc stack below ks here u q ks' low k line a)
   op_moves DropOp a = both (operators.drop s code l o m inst w vals rest fs t b pc stack below ks here u q ks' low k a)
   op_moves AgainOp a = both (operators.again s code l o m inst w vals rest fs t b pc stack below ks here u q ks' low k a)
   op_moves (StoreOp x) a = both (assigns.store s code l o m inst w vals rest fs t b pc stack below ks here u q ks' low k x a)

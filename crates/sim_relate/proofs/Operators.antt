@@ -19,21 +19,26 @@ use Rattle.sim_code.specs.Events.{having, no_rule, when}
 use Rattle.sim_code.specs.Instances.{at_level}
 use Rattle.sim_code.specs.Machine.{Frames, Machine, Value, at, index, is_there, is_tick, jumping, level, number, on, pushing}
 use Rattle.sim_code.specs.Machine as machine
-use Rattle.sim_code.specs.Rows.{code_of, has_room, on_top, one_row, pushed, room_for, row, standard_of, truth_of, two_row}
+use Rattle.sim_code.specs.Rows.{code_of, has_room, on_top, one_row, pushed, room_for, row, standard_of, truth_of, two_row, text_value}
 use Rattle.sim_code.specs.Rows as rows
 use Rattle.sim_code.proofs.Lifts.{alike_choosing, alike_copying, alike_equal, alike_found, alike_having}
 use Rattle.sim_code.proofs.Simulation.{Alike}
 use Rattle.sim_meaning.specs.Meaning.{do_op}
-use Rattle.sim_meaning.specs.Pending.{Activation, AgainOp, Cell, Configuration, CopyOp, Do, DropOp, ElementOp, Eval, Given, IfOp, Instances, Item, Key, OneOp, Op, PastOp, Term, TwoOp, Val, array_in, cell, plain}
+use Rattle.sim_meaning.specs.Pending.{Activation, AgainOp, Cell, Configuration, CopyOp, Do, DropOp, ElementOp, Eval, Given, IfOp, Instances, Item, Key, OneOp, Op, PastOp, Term, TwoOp, Val, array_in, cell, plain, ImageOf, PlaceOf}
+use Rattle.sim_meaning.specs.Pending as meaning
 use Rattle.sim_meaning.specs.Steps.{go}
 use Rattle.sim_meaning.specs.Texts.{text}
 use Rattle.codegen_expr.specs.Sites.{Ahead, Is, cells_in, slot_of}
 use Rattle.codegen_expr.specs.CodeExpr.{one_instr, two_instr}
-use Rattle.sim_relate.proofs.Relation.{Any, ChainAt, HandAt, Kind, OpAt, OperandAt, StackAt, StateAt, ValAt, WorkAt, anys, array_at, element_at, link_at, more_at, plain_at, site_at}
+use Rattle.sim_relate.proofs.Relation.{Any, ChainAt, HandAt, Kind, OpAt, OperandAt, StackAt, StateAt, ValAt, WorkAt, anys, array_at, element_at, link_at, more_at, plain_at, site_at, IsImage, TextIs, empty, image_at, listed, of_input, of_output}
 use Rattle.sim_relate.proofs.Hands.{hand_finding, hand_one, hand_popping, hand_truth, hand_two, stack_length}
 use Rattle.sim_relate.proofs.Here.{Here, act, at_row, goes, kinds_as, with_values}
 use Rattle.sim_relate.proofs.Pending.{anys_more, evals, pends}
 use Rattle.sim_relate.proofs.Stores.{cell_read, levels_same}
+use Rattle.sim_values.specs.declared.value.TextVal.{TextVal}
+use Rattle.sim_values.specs.Texts.{notext}
+use Rattle.sim_values.specs.Store.{image_at as image_of}
+use Rattle.sim_meaning.specs.Constants.{constants_of}
 
 -- the row of an operator's instruction is the operator's
 row_two : (code : CodeOf) (l : Limits) (o : World) (fs : Frames) (a : machine.Activation) (below : List machine.Activation) (line : ℕ) (op : Dyadic) → row code l o fs a below line (two_instr op) ≡ two_row o fs a below line op
@@ -72,12 +77,14 @@ same_plain _ _ plain_at = refl
 same_plain _ _ link_at = refl
 same_plain _ _ array_at = refl
 same_plain _ _ element_at = refl
+same_plain _ _ image_at = refl
 
 pub same_array : (v : Val) (x : Value) → ValAt v x → array_in v ≡ machine.array_in x
 same_array _ _ plain_at = refl
 same_array _ _ link_at = refl
 same_array _ _ array_at = refl
 same_array _ _ element_at = refl
+same_array _ _ image_at = refl
 
 pub chosen : {A : Type 0} (P : A → Type 0) (b : Bool) (x y : A) → b ≡ true → P x → P (if b then x else y)
 chosen P true x y e h = h
@@ -156,20 +163,55 @@ module _ (s : Source) (code : CodeOf) (l : Limits) (o : World) (m : Instances) (
 
     -- ---- values
 
-    pub constant : (v : Plain) → Follows (Eval (Given v))
-    constant (Integer z) a = at_row s code l o fs top below _ (i.Int z) a.0.is.line q a.0.is.is (pushes o _ _ _ a.0.fits (onward (more_at plain_at here.values) a.1 a.0.is.is.on))
-    constant (Truth true) a = at_row s code l o fs top below _ (i.Bool (pos 1)) a.0.is.line q a.0.is.is
+    given_text : (texts : code.texts ≡ constants_of s) (x : TextVal) → TextIs s code (site_at t b u) (length ks) x pc q → ks' ≡ Any ∷ ks → Alike R (do_op s l o m inst w vals rest (Eval (Given (Text x)))) (on_top code l o fs top below)
+    given_text texts x (listed c y) out =
+        let there : slice_get code.texts x.text_frame ≡ Some c.bytes = ap (λ z. slice_get z x.text_frame) texts ∙ c.listed in
+        let same : ValAt (meaning.Of (Text x)) (machine.Of (text_value x.text_frame c.bytes)) = subst (λ z. ValAt (meaning.Of (Text x)) (machine.Of z)) c.whole plain_at in
+        at_row s code l o fs top below _ (i.TextK (pos x.text_frame)) y.is.line q y.is.is
+        (alike_indexed x.text_frame _ _
+        (alike_found Configuration Machine R (List ℕ) (slice_get code.texts x.text_frame) c.bytes o _ _ there
+        (pushes o _ _ _ y.fits (onward (more_at same here.values) out y.is.is.on))))
+    given_text texts x (empty e y) out =
+        let same : ValAt (meaning.Of (Text x)) (machine.Of (Text notext)) = subst (λ z. ValAt (meaning.Of (Text x)) (machine.Of (Text z))) e plain_at in
+        at_row s code l o fs top below _ i.NoText y.is.line q y.is.is (pushes o _ _ _ y.fits (onward (more_at same here.values) out y.is.is.on))
+
+    pub constant : (texts : code.texts ≡ constants_of s) (v : Plain) → Follows (Eval (Given v))
+    constant texts (Integer z) a = at_row s code l o fs top below _ (i.Int z) a.0.is.line q a.0.is.is (pushes o _ _ _ a.0.fits (onward (more_at plain_at here.values) a.1 a.0.is.is.on))
+    constant texts (Truth true) a = at_row s code l o fs top below _ (i.Bool (pos 1)) a.0.is.line q a.0.is.is
         (alike_found Configuration Machine R Bool (truth_of (pos 1)) true o _ _ refl (pushes o _ _ _ a.0.fits (onward (more_at plain_at here.values) a.1 a.0.is.is.on)))
-    constant (Truth false) a = at_row s code l o fs top below _ (i.Bool (pos 0)) a.0.is.line q a.0.is.is
+    constant texts (Truth false) a = at_row s code l o fs top below _ (i.Bool (pos 0)) a.0.is.line q a.0.is.is
         (alike_found Configuration Machine R Bool (truth_of (pos 0)) false o _ _ refl (pushes o _ _ _ a.0.fits (onward (more_at plain_at here.values) a.1 a.0.is.is.on)))
-    constant (Character c) a =
+    constant texts (Character c) a =
         let x = (a.0).1 in
         let small : nat_lt c 256 ≡ true = grind (arith, (a.0).0) in
         at_row s code l o fs top below _ (i.Char (pos c)) x.is.line q x.is.is
         (alike_found Configuration Machine R ℕ (code_of (pos c)) c o _ _ (chosen (λ z. z ≡ Some c) (nat_lt c 256) (Some c) None small refl) (pushes o _ _ _ x.fits (onward (more_at plain_at here.values) a.1 x.is.is.on)))
-    constant (Text x) a = absurd (a.0)
-    constant (Object j) a = absurd (a.0)
-    constant Nothing a = absurd (a.0)
+    constant texts (Text x) a = given_text texts x a.0 a.1
+    constant texts (Object j) a = absurd (a.0)
+    constant texts Nothing a = absurd (a.0)
+
+    -- where a variable and an image lie
+    pub place : (j : ℕ) (key : Key) → Follows (Eval (PlaceOf j key))
+    place j key a =
+        let c = a.0 in
+        at_row s code l o fs top below _ (i.Addr (pos (level_of s c.text)) (pos (slot_of s c.text key)) (pos 0)) c.address.is.line q c.address.is.is
+        (alike_found Configuration Machine R (Unit {0}) (rows.no_class (pos 0)) tt o _ _ refl
+        (at_cell o (level_of s c.text) j (slot_of s c.text key) _ _ c.reaches.found
+        (pushes o _ _ _ c.address.fits
+        (onward (more_at (record { instance = j; text = c.text; key = key; is_val = refl; is_value = refl; stands = c.reaches.stands; before = c.reaches.before; has = c.has }) here.values) a.1 c.address.is.is.on))))
+
+    image_there : (image : ℕ) → IsImage image → (x : TextVal) × (image_of o.store image ≡ Some x)
+    image_there _ of_input = (o.store.sysin, refl)
+    image_there _ of_output = (o.store.sysout, refl)
+
+    pub image : (n : ℕ) → Follows (Eval (ImageOf n))
+    image n a =
+        let c = a.0 in
+        let x = image_there n c.0 in
+        at_row s code l o fs top below _ (i.AddrImg (pos n)) c.1.is.line q c.1.is.is
+        (alike_indexed n _ _
+        (alike_found Configuration Machine R TextVal (image_of o.store n) x.0 o _ _ x.1
+        (pushes o _ _ _ c.1.fits (onward (more_at image_at here.values) a.1 c.1.is.is.on))))
 
     pub variable : (j : ℕ) (key : Key) → Follows (Eval (Cell j key))
     variable j key a =

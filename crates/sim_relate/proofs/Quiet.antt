@@ -1,5 +1,5 @@
 -- Steps of the program that the machine makes no step for, and how many of them there can be in a row.
-use Rattle.std.proofs.Common.{◌≡◌, ◌≤◌, ℕ, suc, Bool, List, [], ◌∷◌, length, refl, subst}
+use Rattle.std.proofs.Common.{◌≡◌, ◌≤◌, ℕ, suc, Bool, List, [], ◌∷◌, length, refl, subst, arith}
 use Rattle.sim_scope.specs.Source.{Source}
 use Rattle.sim_tree.specs.Syntax.{Also, Element, NoStatement, Statement, Statements}
 use Rattle.sim_tree.specs.Syntax as syntax
@@ -9,12 +9,12 @@ use Rattle.sim_values.specs.declared.standard.Standard.{Standard}
 use Rattle.sim_code.specs.Code.{BlockOf, CodeOf}
 use Rattle.sim_code.specs.Machine.{Frames}
 use Rattle.sim_meaning.specs.Closing.{close}
-use Rattle.sim_meaning.specs.Pending.{Activation, CallOf, Cell, Configuration, CopyOf, CopyOp, Do, Either, ElementOf, ElementOp, ElementsOp, Eval, Exec, Execs, FetchOp, Further, Given, GiveOp, IfOp, Instances, Item, NoTerm, One, OneOp, Op, RaiseOp, StandardOf, StandardOp, Target, Term, Terms, Two, TwoOp, Unbuilt, Val, ValueAt}
+use Rattle.sim_meaning.specs.Pending.{Activation, CallOf, Cell, Configuration, CopyOf, CopyOp, Do, Either, ElementOf, ElementOp, ElementsOp, Eval, Exec, Execs, FetchOp, Further, GiveOp, Given, IfOp, ImageOf, Instances, Item, JoinOp, Joined, NoTerm, One, OneOp, Op, PlaceOf, RaiseOp, StandardOf, StandardOp, Target, Term, Terms, Two, TwoOp, Unbuilt, Val, ValueAt}
 use Rattle.sim_meaning.specs.Steps.{count, each}
 use Rattle.sim_meaning.specs.Texts.{text}
 use Rattle.codegen_expr.specs.Sites.{cells_in}
-use Rattle.sim_relate.proofs.Pending.{anys_more, each_pends, evals, pends}
-use Rattle.sim_relate.proofs.Relation.{Any, BeginsAt, Kind, OpAt, WorkAt, anys, site_at, straight}
+use Rattle.sim_relate.proofs.Pending.{anys_more, each_pends, each_reads, evals, pends}
+use Rattle.sim_relate.proofs.Relation.{Any, BeginsAt, Kind, OpAt, WorkAt, anys, site_at, straight, AllRead}
 
 -- ---- how much is taken apart before the next step of both
 
@@ -31,6 +31,9 @@ abbrev mutual
   opened (CopyOf line a) = suc (opened a)
   opened (CallOf j k ts line) = 0
   opened (StandardOf name ts line) = suc (opened_first ts)
+  opened (PlaceOf j key) = 0
+  opened (ImageOf image) = 0
+  opened (Joined line a b) = suc (opened a)
   opened Unbuilt = 0
 
   pub opened_first : Terms → ℕ
@@ -136,8 +139,14 @@ module _ (s : Source) (code : CodeOf) (m : Instances) (fs : Frames) (Below : Boo
   pub standard_opened : (name : Standard) (ts : Terms) (line : ℕ) → Becomes (each ts (Do (StandardOp name line) ∷ w)) (Eval (StandardOf name ts line))
   standard_opened name ts line a =
       let y = a.0 in
-      each_pends s code m fs Below inst t b u low (Do (StandardOp name line) ∷ w) ts p y.0 ks y.1
-      (puts w (StandardOp name line) y.0 q (anys (count ts) ks) ks' (record { left = ks; many = count ts; is = y.2; «in» = refl; out = a.1 }) k)
+      each_reads s code m fs Below inst t b u low (Do (StandardOp name line) ∷ w) ts 0 p y.0 ks ks refl y.1
+      (λ ks2 r. puts w (StandardOp name line) y.0 q ks2 ks' (record { left = ks; many = count ts; is = y.2; «in» = subst (λ n. AllRead n ks2 ks) (omega arith) r; out = a.1 }) k)
+
+  pub joined_opened : (line : ℕ) (x z : Term) → Becomes (Do (Eval x) ∷ Do (Eval z) ∷ Do (JoinOp line) ∷ w) (Eval (Joined line x z))
+  joined_opened line x z a =
+      let y = a.0 in
+      evals s code m fs Below inst t b u low (Do (Eval z) ∷ Do (JoinOp line) ∷ w) x p y.0 ks y.2
+      (evals s code m fs Below inst t b u low (Do (JoinOp line) ∷ w) z y.0 y.1 (Any ∷ ks) y.3 (puts w (JoinOp line) y.1 q (Any ∷ Any ∷ ks) ks' (record { left = ks; joins = y.4; «in» = refl; out = a.1 }) k))
 
   -- ---- statements
 

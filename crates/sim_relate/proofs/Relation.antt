@@ -1,6 +1,6 @@
 -- Which states of the machine stand for which states of a program.
 use Rattle.std.proofs.Common.{◌≡◌, ◌<◌, ◌≤◌, ◌*◌, ℕ, suc, zero, Bool, true, false, List, [], ◌∷◌, length, map, Option, Some, None}
-use Rattle.std.specs.Prelude.{pos, slice_get}
+use Rattle.std.specs.Prelude.{⊤, pos, slice_get}
 use Rattle.sim_scope.specs.Scopes.{encloser}
 use Rattle.sim_scope.specs.Source.{Source, level_of}
 use Rattle.sim_tree.specs.declared.stmt.TypeName.{TypeName}
@@ -8,8 +8,10 @@ use Rattle.sim_tree.specs.Syntax.{Also, Element, Expression, NoStatement, Statem
 use Rattle.sim_tree.specs.Syntax as syntax
 use Rattle.sim_values.specs.declared.kind.Kind.{Kind as TypeKind}
 use Rattle.sim_values.specs.declared.standard.Standard.{Standard}
-use Rattle.sim_values.specs.Plain.{Plain, Integer}
+use Rattle.sim_values.specs.declared.value.TextVal.{TextVal}
+use Rattle.sim_values.specs.Plain.{Integer, Plain, Text as PlainText}
 use Rattle.sim_values.specs.Standard.{row_of}
+use Rattle.sim_values.specs.Texts.{notext}
 use Rattle.sim_code.specs.declared.code.BlockKind.{BlockKind}
 use Rattle.sim_code.specs.declared.code.BlockKind.TheVariants as block_kind
 use Rattle.sim_code.specs.declared.code.CodeType.{CodeType}
@@ -17,11 +19,11 @@ use Rattle.sim_code.specs.declared.code.CodeType.TheVariants as type
 use Rattle.sim_code.specs.declared.instr.Instr.{Instr}
 use Rattle.sim_code.specs.declared.instr.Instr.TheVariants as i
 use Rattle.sim_code.specs.Code.{BlockOf, CodeOf}
-use Rattle.sim_code.specs.Instances.{ElementPlace, Instance, at_level, live}
+use Rattle.sim_code.specs.Instances.{CellPlace, ElementPlace, ImagePlace, Instance, at_level, live}
 use Rattle.sim_code.specs.Machine.{Frames, Machine, Value, Cells}
 use Rattle.sim_code.specs.Machine as machine
 use Rattle.sim_code.proofs.Lifts.{Both}
-use Rattle.sim_meaning.specs.Pending.{Activation, AgainOp, ArrayOp, BackOp, BranchOp, CallOf, CallOp, Cell, ChooseOp, Configuration, CopyOf, CopyOp, Do, DropOp, Either, ElementOf, ElementOp, ElementsOp, EndBlock, EndProcedure, EndProgram, EnterOp, Eval, Exec, Execs, FetchOp, Further, Given, GiveOp, Held, IfOp, Instances, Item, Key, NoTerm, One, OneOp, Op, PastOp, RaiseOp, ShareOp, StandardOf, StandardOp, StepOp, StepTestOp, StoreOp, Target, Term, Terms, TestOp, ToAddress, ToCell, Two, TwoOp, Unbuilt, Val, ValueAt, WhileElementOp}
+use Rattle.sim_meaning.specs.Pending.{Activation, AgainOp, ArrayOp, BackOp, BranchOp, CallOf, CallOp, Cell, ChooseOp, Configuration, CopyOf, CopyOp, Do, DropOp, Either, ElementOf, ElementOp, ElementsOp, EndBlock, EndProcedure, EndProgram, EnterOp, Eval, Exec, Execs, FetchOp, Further, Given, GiveOp, Held, IfOp, ImageOf, Instances, Item, JoinOp, Joined, Key, NoTerm, One, OneOp, Op, PastOp, PlaceOf, RaiseOp, ShareOp, StandardOf, StandardOp, StepOp, StepTestOp, StoreOp, Target, Term, Terms, TestOp, ToAddress, ToCell, ToText, ToTextOf, Two, TwoOp, Unbuilt, Val, ValueAt, WhileElementOp}
 use Rattle.sim_meaning.specs.Pending as meaning
 use Rattle.sim_meaning.specs.Entries.{formals_of}
 use Rattle.sim_meaning.specs.Meaning.{has_result}
@@ -29,7 +31,7 @@ use Rattle.sim_meaning.specs.Statements.{has_value}
 use Rattle.sim_meaning.specs.Steps.{count}
 use Rattle.sim_meaning.specs.Texts.{BlockText, ProcedureText, Text, text}
 use Rattle.codegen_expr.specs.Sites.{Ahead, At, HasCell, IfAt, Is, LoopAt, Pushes, Site, cells_in, slot_of}
-use Rattle.codegen_expr.specs.CodeExpr.{ExprAt, OneAt, PlainAt, StandardIs, block_number, one_instr, two_instr}
+use Rattle.codegen_expr.specs.CodeExpr.{ExprAt, IsConstant, OneAt, PlainAt, Stand, StandardIs, block_number, join_instrs, one_instr, two_instr}
 use Rattle.codegen.specs.CodeArrays.{element_number}
 use Rattle.codegen.specs.CodeFor.{ElementsAt, ReturnsAt, StepAt, TurnAt, Variable, WhileElementAt}
 use Rattle.codegen.specs.CodeStm.{StmAt, StmsAt}
@@ -37,9 +39,10 @@ use Rattle.codegen.specs.Compiled.{RecordOf, type_of_name}
 
 -- ---- values
 
--- What is known of a value in hand: that it is a link to an instance of a text, or nothing.
+-- What is known of a value in hand: that it is a link to an instance of a text, that it is where a cell lies, or that it is neither.
 pub data Kind : Type 0 where
   Any : Kind
+  Located : Kind
   LinkTo : (text : ℕ) → Kind
 
 -- so many values more
@@ -52,7 +55,19 @@ abbrev pub given : Bool → List Kind → List Kind
 given true ks = Any ∷ ks
 given false ks = ks
 
--- whether the evaluation of a tree leaves a value: a procedure or a standard name may have no result
+-- operands that may be addresses: so many values of the first kinds, before others
+abbrev pub IsRead : Kind → Type 0
+IsRead Any = ⊤
+IsRead Located = ⊤
+IsRead (LinkTo text) = ⊥
+
+abbrev pub AllRead : ℕ → List Kind → List Kind → Type 0
+AllRead zero ks left = ks ≡ left
+AllRead (suc n) [] left = ⊥
+AllRead (suc n) (k ∷ ks) left = IsRead k × AllRead n ks left
+
+-- Whether the evaluation of a tree leaves a value that may lie in a cell: a procedure or a standard name may have no result, and where a
+-- cell lies is no such value.
 abbrev pub text_gives : Option Text → Bool
 text_gives (Some (ProcedureText result h a)) = has_result result
 text_gives _ = false
@@ -60,13 +75,24 @@ text_gives _ = false
 abbrev pub gives : Source → Term → Bool
 gives s (CallOf j k ts line) = text_gives (text s k)
 gives s (StandardOf name ts line) = has_value (row_of name).result
+gives s (PlaceOf j key) = false
 gives s _ = true
+
+-- the values in hand behind its evaluation, and whether it can be an operand of a standard name
+abbrev pub leaving : Source → Term → List Kind → List Kind
+leaving s (PlaceOf j key) ks = Located ∷ ks
+leaving s t ks = given (gives s t) ks
+
+abbrev pub reads : Source → Term → Bool
+reads s (PlaceOf j key) = true
+reads s t = gives s t
 
 pub data ValAt : Val → Value → Type 0 where
   plain_at : {p : Plain} → ValAt (meaning.Of p) (machine.Of p)
   link_at : {j : ℕ} → ValAt (meaning.Link j) (machine.Link j)
   array_at : {a : ℕ} → ValAt (meaning.ArrayValue a) (machine.ArrayValue a)
   element_at : {a n : ℕ} → ValAt (meaning.Address (ElementPlace a n None)) (machine.Address (ElementPlace a n 0))
+  image_at : {n : ℕ} → ValAt (meaning.Address (ImagePlace n)) (machine.Address (ImagePlace n))
 
 -- values in hand of these kinds and values on the stack, one by one
 pub data StackAt {V X : Type 0} (W : Kind → V → X → Type 0) : List Kind → List V → List X → Type 0 where
@@ -107,8 +133,20 @@ pub record LinkIs (s : Source) (m : Instances) (from text : ℕ) (v : Val) (x : 
   pub stands : Stands s m instance text
   pub before : instance ≤ from
 
+-- where a cell lies that an instance reaches
+pub record PlaceIs (s : Source) (m : Instances) (from : ℕ) (v : Val) (x : Value) : Type 0 where
+  pub instance : ℕ
+  pub text : ℕ
+  pub key : Key
+  pub is_val : v ≡ meaning.Address (CellPlace instance key None)
+  pub is_value : x ≡ machine.Address (CellPlace instance (slot_of s text key) 0)
+  pub stands : Stands s m instance text
+  pub before : instance ≤ from
+  pub has : HasCell s text key
+
 abbrev pub HandAt : Source → Instances → (from : ℕ) → Kind → Val → Value → Type 0
 HandAt s m from Any v x = ValAt v x
+HandAt s m from Located v x = PlaceIs s m from v x
 HandAt s m from (LinkTo text) v x = LinkIs s m from text v x
 
 -- what the later of two stores keeps of the instances before a bound: what they stand for, and what is found from them outward
@@ -124,6 +162,16 @@ pub record Keeps (s : Source) (m : Instances) (fs fs' : Frames) (bound : ℕ) : 
 abbrev pub site_at : (text : ℕ) → BlockOf → (used : ℕ) → Site
 site_at t b used = record { text = t; room = b.room; used = used; size = length b.types }
 
+-- there are two images
+pub data IsImage : ℕ → Type 0 where
+  of_input : IsImage 0
+  of_output : IsImage 1
+
+-- what is assigned to the variable of a `for` list
+abbrev pub variable_target : (assigned : Option ℕ) → (instance : ℕ) → Key → Target
+variable_target None j key = ToCell j key
+variable_target (Some line) j key = ToTextOf j key line
+
 module _ (s : Source) (code : CodeOf) where
   -- ---- closed trees
 
@@ -132,6 +180,29 @@ module _ (s : Source) (code : CodeOf) where
     pub load : Pushes code site n (i.Load (pos (level_of s text)) (pos (slot_of s text key))) p q
     pub reaches : Reaches s m inst text j
     pub has : HasCell s text key
+
+  pub record CellPlaceIs (m : Instances) (inst : ℕ) (site : Site) (n j : ℕ) (key : Key) (p q : ℕ) : Type 0 where
+    pub text : ℕ
+    pub address : Pushes code site n (i.Addr (pos (level_of s text)) (pos (slot_of s text key)) (pos 0)) p q
+    pub reaches : Reaches s m inst text j
+    pub has : HasCell s text key
+
+  -- a text constant, or `notext`
+  pub data TextIs (site : Site) (n : ℕ) (t : TextVal) (p q : ℕ) : Type 0 where
+    listed : IsConstant s t → Pushes code site n (i.TextK (pos t.text_frame)) p q → TextIs site n t p q
+    empty : t ≡ notext → Pushes code site n i.NoText p q → TextIs site n t p q
+
+  abbrev pub GivenIs : Site → ℕ → Plain → ℕ → ℕ → Type 0
+  GivenIs site n (PlainText t) p q = TextIs site n t p q
+  GivenIs site n v p q = PlainAt s code site n v p q
+
+  -- what `&` does with both texts on the stack, in three temps
+  pub record JoinsIs (site : Site) (n line p q : ℕ) : Type 0 where
+    pub temp : ℕ
+    pub unused : site.used ≤ temp
+    pub within : suc (suc temp) < site.size
+    pub room : suc (suc n) < site.room
+    pub joins : Stand code line (join_instrs (level_of s site.text) temp) p q
 
   -- the procedure of a text, and the text around it
   pub record ProcedureIs (k around : ℕ) : Type 0 where
@@ -155,7 +226,7 @@ module _ (s : Source) (code : CodeOf) where
   abbrev mutual
     -- the code from p to q, run for an instance, evaluates the closed tree on n values
     pub TermAt : Instances → (inst : ℕ) → Site → (n : ℕ) → Term → ℕ → ℕ → Type 0
-    TermAt m inst site n (Given v) p q = PlainAt code site n v p q
+    TermAt m inst site n (Given v) p q = GivenIs site n v p q
     TermAt m inst site n (Cell j key) p q = CellIs m inst site n j key p q
     TermAt m inst site n (One op line a) p q = OneAt code op line (λ p q. TermAt m inst site n a p q × (gives s a ≡ true)) p q
     TermAt m inst site n (Two op line a b) p q =
@@ -168,13 +239,22 @@ module _ (s : Source) (code : CodeOf) where
     TermAt m inst site n (CopyOf line a) p q = (x : ℕ) × (TermAt m inst site n a p x × (gives s a ≡ true)) × At code i.CopyArr line x q
     TermAt m inst site n (CallOf j k ts line) p q = CallIs m inst site n j k (count ts) line (TermsAt m inst site (suc n) ts) p q
     TermAt m inst site n (StandardOf name ts line) p q =
-        (x : ℕ) × TermsAt m inst site n ts p x × StandardIs code site n line name (count ts) x q
+        (x : ℕ) × ReadsAt m inst site n ts p x × StandardIs code site n line name (count ts) x q
+    TermAt m inst site n (PlaceOf j key) p q = CellPlaceIs m inst site n j key p q
+    TermAt m inst site n (ImageOf image) p q = IsImage image × Pushes code site n (i.AddrImg (pos image)) p q
+    TermAt m inst site n (Joined line a b) p q =
+        (x : ℕ) × (y : ℕ) × (TermAt m inst site n a p x × (gives s a ≡ true)) × (TermAt m inst site (suc n) b x y × (gives s b ≡ true)) × JoinsIs site n line y q
     TermAt m inst site n Unbuilt p q = ⊥
 
     -- one value after the other
     pub TermsAt : Instances → (inst : ℕ) → Site → (n : ℕ) → Terms → ℕ → ℕ → Type 0
     TermsAt m inst site n NoTerm p q = q ≡ p
     TermsAt m inst site n (Further t ts) p q = (x : ℕ) × (TermAt m inst site n t p x × (gives s t ≡ true)) × TermsAt m inst site (suc n) ts x q
+
+    -- operands of a standard name, one after the other
+    pub ReadsAt : Instances → (inst : ℕ) → Site → (n : ℕ) → Terms → ℕ → ℕ → Type 0
+    ReadsAt m inst site n NoTerm p q = q ≡ p
+    ReadsAt m inst site n (Further t ts) p q = (x : ℕ) × (TermAt m inst site n t p x × (reads s t ≡ true)) × ReadsAt m inst site (suc n) ts x q
 
   -- an operand leaves a value
   abbrev pub OperandAt : Instances → (inst : ℕ) → Site → (n : ℕ) → Term → ℕ → ℕ → Type 0
@@ -225,8 +305,14 @@ module _ (s : Source) (code : CodeOf) where
     pub left : List Kind
     pub many : ℕ
     pub is : StandardIs code site (length left) line name many p q
-    pub «in» : before ≡ anys many left
+    pub «in» : AllRead many before left
     pub out : behind ≡ given (has_value (row_of name).result) left
+
+  pub record JoinOpIs (site : Site) (line p q : ℕ) (before behind : List Kind) : Type 0 where
+    pub left : List Kind
+    pub joins : JoinsIs site (length left) line p q
+    pub «in» : before ≡ anys 2 left
+    pub out : behind ≡ anys 1 left
 
   pub record AgainIs (site : Site) (p q : ℕ) (before behind : List Kind) : Type 0 where
     pub is : Pushes code site (length before) i.Dup p q
@@ -251,6 +337,8 @@ module _ (s : Source) (code : CodeOf) where
   abbrev pub TargetAt : Instances → (inst : ℕ) → Target → (p q : ℕ) → (before behind : List Kind) → Type 0
   TargetAt m inst (ToCell j key) p q before behind = CellStoreIs m inst j key p q × (before ≡ anys 1 behind)
   TargetAt m inst ToAddress p q before behind = Is code i.Put p q × (before ≡ anys 2 behind)
+  TargetAt m inst (ToText line) p q before behind = At code i.AssignT line p q × (before ≡ anys 2 behind)
+  TargetAt m inst (ToTextOf j key line) p q before behind = At code i.AssignT line p q × (before ≡ anys 2 behind)
 
   -- a temp of the frame: it stands behind the cells of the text
   pub record TempIs (site : Site) (temp : ℕ) : Type 0 where
@@ -357,13 +445,14 @@ module _ (s : Source) (code : CodeOf) where
   pub record VariableIs (m : Instances) (inst : ℕ) (t : Target) : Type 0 where
     pub text : ℕ
     pub key : Key
+    pub assigned : Option ℕ
     pub instance : ℕ
-    pub is : t ≡ ToCell instance key
+    pub is : t ≡ variable_target assigned instance key
     pub reaches : Reaches s m inst text instance
     pub has : HasCell s text key
 
   abbrev pub variable : {m : Instances} {inst : ℕ} {t : Target} → VariableIs m inst t → Variable
-  variable v = record { text = v.text; key = v.key }
+  variable v = record { text = v.text; key = v.key; assigned = v.assigned }
 
   pub record ElementsIs (m : Instances) (inst : ℕ) (site : Site) (t : Target) (es : List Element) (a : Statement) (p q : ℕ) (before behind : List Kind) : Type 0 where
     pub v : VariableIs m inst t
@@ -385,7 +474,7 @@ module _ (s : Source) (code : CodeOf) where
 
   -- An operator stands at p and goes on at q. It is run in an instance, which has a frame, at a site.
   abbrev pub OpAt : Instances → Frames → (inst : ℕ) → Site → Op → (p q : ℕ) → (before behind : List Kind) → Type 0
-  OpAt m fs inst site (Eval t) p q before behind = TermAt m inst site (length before) t p q × (behind ≡ given (gives s t) before)
+  OpAt m fs inst site (Eval t) p q before behind = TermAt m inst site (length before) t p q × (behind ≡ leaving s t before)
   OpAt m fs inst site (OneOp op line) p q before behind = Works (one_instr op) line 1 true p q before behind
   OpAt m fs inst site (TwoOp op line) p q before behind = Works (two_instr op) line 2 true p q before behind
   OpAt m fs inst site (IfOp a b) p q before behind = IfIs m inst site a b p q before behind
@@ -394,6 +483,7 @@ module _ (s : Source) (code : CodeOf) where
   OpAt m fs inst site (CopyOp line) p q before behind = Works i.CopyArr line 1 true p q before behind
   OpAt m fs inst site (CallOp k n line) p q before behind = CallOpIs site k n line p q before behind
   OpAt m fs inst site (StandardOp name line) p q before behind = StandardOpIs site name line p q before behind
+  OpAt m fs inst site (JoinOp line) p q before behind = JoinOpIs site line p q before behind
   OpAt m fs inst site DropOp p q before behind = WorksAnyLine i.Pop 1 false p q before behind
   OpAt m fs inst site AgainOp p q before behind = AgainIs site p q before behind
   OpAt m fs inst site (StoreOp t) p q before behind = TargetAt m inst t p q before behind

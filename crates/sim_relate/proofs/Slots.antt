@@ -1,5 +1,6 @@
 -- The cells of an instance by their keys, and those of its frame by their slots.
 use Rattle.std.proofs.Common.{◌≡◌, ℕ, zero, suc, ◌+◌, ◌<◌, ◌≤◌, List, [], ◌∷◌, ◌++◌, length, Option, Some, None, Bool, true, false, refl, sym, ap, ◌∙◌, arith}
+use Rattle.std.proofs.lemmas.List.{length-set}
 use Rattle.std.specs.Prelude.{slice_get, slice_set, nat_lt, map, if◌then◌else◌}
 use Rattle.sim_base.specs.declared.numbering.DeclNo.{DeclNo}
 use Rattle.sim_scope.specs.declared.types.Entry.{Entry}
@@ -20,7 +21,6 @@ use Rattle.sim_meaning.specs.Entries.{cells_from, filled, filled_behind, first_c
 use Rattle.sim_meaning.specs.Texts.{BlockText, ClassText, ConnectionText, PrefixedText, ProcedureText, Text, kind_named, kind_of_type}
 use Rattle.codegen_expr.specs.Sites.{place_of}
 use Rattle.codegen.specs.Compiled.{type_of_cell, type_of_value}
-use Rattle.sim_relate.proofs.Lists.{set_len}
 use Rattle.sim_relate.proofs.Relation.{CellsAt, key_of, value_of}
 
 -- ---- keys
@@ -83,7 +83,7 @@ pub machine_fills : (n : ℕ) (ys : List Value) (cells : List (Option Value)) �
 machine_fills n [] cells h = ap Some (sym (put_none n cells))
 machine_fills n (y ∷ ys) cells h =
     filled_if (nat_lt n (length cells)) _ _ (less_true n (length cells) (omega arith))
-    (machine_fills (suc n) ys (slice_set cells n (Some y)) (omega (arith, set_len cells n (Some y))) ∙ ap Some (put_first n y ys cells))
+    (machine_fills (suc n) ys (slice_set cells n (Some y)) (omega (arith, length-set cells n (Some y))) ∙ ap Some (put_first n y ys cells))
 
 -- how many cells stand before those of the formals
 abbrev pub results : Option TypeName → ℕ

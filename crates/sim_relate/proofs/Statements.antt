@@ -17,7 +17,7 @@ use Rattle.sim_code.proofs.Simulation.{Alike}
 use Rattle.sim_meaning.specs.Closing.{close}
 use Rattle.sim_meaning.specs.Meaning.{do_op}
 use Rattle.sim_meaning.specs.Pending.{Activation, BackOp, BranchOp, ChooseOp, Configuration, Do, DropOp, EnterOp, Eval, Exec, Execs, Instances, Item, Op, PastOp, TestOp, Val, plain}
-use Rattle.sim_meaning.specs.Statements.{are_values, assigned, assigning, compound, dropping, entered_at, leaves, left_sides, lefts, right_side}
+use Rattle.sim_meaning.specs.Statements.{assigned, assigning, compound, dropping, entered_at, leaves, lefts}
 use Rattle.sim_meaning.specs.Steps.{go}
 use Rattle.sim_meaning.specs.Texts.{text}
 use Rattle.codegen_expr.specs.Sites.{Ahead, Inside, Is, cells_in}
@@ -25,14 +25,16 @@ use Rattle.codegen_expr.specs.CodeExpr.{ExprAt}
 use Rattle.codegen.specs.Agrees.{Agrees}
 use Rattle.codegen.specs.CodeLeft.{AssignAt, GoesAt, each_stored}
 use Rattle.codegen.specs.CodeStm.{BlockAt, CalledAt, DropsAt, EnterAt, StmAt, StmsAt}
-use Rattle.sim_relate.proofs.Relation.{Any, BeginsAt, ChainAt, HandAt, Kind, OpAt, Reaches, StateAt, WorkAt, anys, given, site_at, straight}
-use Rattle.sim_relate.proofs.Closing.{call_named_at, close_at}
+use Rattle.sim_relate.proofs.Relation.{Any, BeginsAt, ChainAt, HandAt, Kind, OpAt, Reaches, StateAt, WorkAt, anys, given, site_at, straight, TermAt, gives}
+use Rattle.sim_relate.proofs.Closing.{call_named_at, close_at, call_dot_at}
 use Rattle.sim_relate.proofs.Hands.{hand_truth}
 use Rattle.sim_relate.proofs.Here.{Here, act, at_row, goes, kinds_as, with_values}
 use Rattle.sim_relate.proofs.Lefts.{goes_at, lefts_at}
 use Rattle.sim_relate.proofs.Operators.{jumps_ahead, jumps_back, same_plain}
 use Rattle.sim_relate.proofs.Pending.{evals, pends}
 use Rattle.sim_relate.proofs.Reach.{reach}
+use Rattle.sim_scope.specs.Assignments.{last_value, left_sides}
+use Rattle.sim_relate.proofs.Shapes.{Leaves, dot_call_leaves, named_call_leaves}
 
 module _ (s : Source) (code : CodeOf) (l : Limits) (agrees : Agrees s) (o : World) (m : Instances) (inst : ℕ) (w : List Item) (vals : List Val) (rest : List Activation) (fs : Frames) (t : ℕ) (b : BlockOf) (pc : ℕ) (stack : List Value) (below : List machine.Activation) (ks : List Kind) (here : Here s code m fs inst t b ks vals stack) (u q : ℕ) (ks' : List Kind) (low : length (cells_in s t (text s t)) ≤ u) (k : WorkAt s code m fs (λ v. ChainAt s code m fs inst rest v below) inst t b u w q ks') where
   abbrev pub R : Configuration → Machine → Type 0
@@ -89,17 +91,23 @@ module _ (s : Source) (code : CodeOf) (l : Limits) (agrees : Agrees s) (o : Worl
   drops true x a e = pending w DropOp x q (Any ∷ ks) ks' (record { line = a.line; works = record { is = a.is; left = ks; «in» = refl; out = e } }) k
   drops false x a e = subst (λ z. Rests w z ks) a (rests_as e)
 
+  calls : (p : World) (e : Expression) (y x : ℕ) → TermAt s code m inst (site_at t b u) (length ks) (close s m inst e) y x → leaves s e ≡ gives s (close s m inst e) → Leaves s m inst (close s m inst e) → DropsAt code (leaves s e) x q → ks' ≡ ks → Alike R (go p m inst (Do (Eval (close s m inst e)) ∷ dropping (leaves s e) w) vals rest) (Going p (record { chain = act inst y stack b.room ∷ below; memory = fs }))
+  calls p e y x c same so d out =
+      stays (Do (Eval (close s m inst e)) ∷ dropping (leaves s e) w) y
+      (pending (dropping (leaves s e) w) (Eval (close s m inst e)) y x ks (given (leaves s e) ks) (c, ap (λ g. given g ks) same ∙ sym (so ks)) (drops (leaves s e) x d out)) refl
+
   called : (p : World) (e : Expression) (y x : ℕ) → CalledAt s code (site_at t b u) (length ks) e y x → DropsAt code (leaves s e) x q → ks' ≡ ks → Alike R (go p m inst (Do (Eval (close s m inst e)) ∷ dropping (leaves s e) w) vals rest) (Going p (record { chain = act inst y stack b.room ∷ below; memory = fs }))
   called p (syntax.Named name es) y x a d e =
       let c = call_named_at s code m inst (site_at t b u) agrees reaching name es (length ks) y x a.1 in
-      stays (Do (Eval (close s m inst (syntax.Named name es))) ∷ dropping (leaves s (syntax.Named name es)) w) y
-      (pending (dropping (leaves s (syntax.Named name es)) w) (Eval (close s m inst (syntax.Named name es))) y x ks (given (leaves s (syntax.Named name es)) ks) (c.0, ap (λ g. given g ks) (a.0 ∙ sym c.1)) (drops (leaves s (syntax.Named name es)) x d e)) refl
+      calls p (syntax.Named name es) y x c.0 (a.0 ∙ sym c.1) (named_call_leaves s m inst name es) d e
   called p (syntax.If token c z y') y x a d e = absurd a
   called p (syntax.Binary op token z y') y x a d e = absurd a
   called p (syntax.Not token z) y x a d e = absurd a
   called p (syntax.Signed n token z) y x a d e = absurd a
   called p (syntax.Member member token z class) y x a d e = absurd a
-  called p (syntax.Dot token z name es) y x a d e = absurd a
+  called p (syntax.Dot token z name es) y x a d e =
+      let c = call_dot_at s code m inst (site_at t b u) agrees reaching token z name es (length ks) y x a.1 in
+      calls p (syntax.Dot token z name es) y x c.0 (a.0 ∙ sym c.1) (dot_call_leaves s m inst token z name es) d e
   called p (syntax.Qua token z class) y x a d e = absurd a
   called p (syntax.Constant z token) y x a d e = absurd a
   called p (syntax.This token class) y x a d e = absurd a
@@ -111,19 +119,18 @@ module _ (s : Source) (code : CodeOf) (l : Limits) (agrees : Agrees s) (o : Worl
 
   -- ---- assignments
 
-  assigned_at : (p : World) (v : Bool) (left : Expression) (rs : List RightSide) (y : ℕ) → AssignAt s code (site_at t b u) (length ks) v (each_stored s (left_sides left rs)) (right_side left rs) y q → ks' ≡ ks
-      → Alike R (assigned s p m inst w vals rest v (lefts s m inst (left_sides left rs)) (right_side left rs)) (Going p (record { chain = act inst y stack b.room ∷ below; memory = fs }))
-  assigned_at p false left rs y a e = absurd a
-  assigned_at p true left rs y a e =
+  assigned_at : (p : World) (left : Expression) (rs : List RightSide) (y : ℕ) → AssignAt s code (site_at t b u) (length ks) (each_stored s (left_sides left rs)) (last_value left rs) y q → ks' ≡ ks
+      → Alike R (assigned s p m inst w vals rest (lefts s m inst (left_sides left rs)) (last_value left rs)) (Going p (record { chain = act inst y stack b.room ∷ below; memory = fs }))
+  assigned_at p left rs y a e =
       let es = left_sides left rs in
-      let x = right_side left rs in
+      let x = last_value left rs in
       let r = lefts_at s code m inst t b u agrees reaching fs (λ v. ChainAt s code m fs inst rest v below) low es (GoesAt s code (site_at t b u) x (each_stored s es)) ks y q a in
-      subst (λ z. Alike R (assigned s p m inst w vals rest true z x) (Going p (record { chain = act inst y stack b.room ∷ below; memory = fs }))) (sym r.is)
+      subst (λ z. Alike R (assigned s p m inst w vals rest z x) (Going p (record { chain = act inst y stack b.room ∷ below; memory = fs }))) (sym r.is)
       (stays _ y (r.works (Do (Eval (close s m inst x)) ∷ Do (assigning r.found.targets) ∷ w)
       (goes_at s code m inst t b u agrees reaching fs (λ v. ChainAt s code m fs inst rest v below) low x (each_stored s es) r.found.targets w r.y q ks r.fit r.ends (rests_as e))) refl)
 
   pub assign_statement : (left : Expression) (rs : List RightSide) → FollowsStatement (syntax.Assign left rs)
-  assign_statement left rs a = let x = a.0 in ticks _ x.0 x.1 (λ p. assigned_at p (are_values rs) left rs x.0 x.2 a.1)
+  assign_statement left rs a = let x = a.0 in ticks _ x.0 x.1 (λ p. assigned_at p left rs x.0 x.2 a.1)
 
   -- ---- blocks
 

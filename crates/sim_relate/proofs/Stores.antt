@@ -1,6 +1,7 @@
 -- Both stores alike: reading, writing, entries, ends, and instances that are kept.
 use Rattle.std.proofs.Common.{◌≡◌, ◌≢◌, ℕ, zero, suc, ◌+◌, ◌<◌, ◌≤◌, List, [], ◌∷◌, length, Option, Some, None, Bool, true, false, ⊎_elim, refl, sym, ap, ◌∙◌, subst, arith, length-append}
 use Rattle.std.proofs.lemmas.Bool.{cases_eq}
+use Rattle.std.proofs.lemmas.List.{length-set}
 use Rattle.std.specs.Prelude.{◌==◌, ◌&&◌, not, if◌then◌else◌, map, nat_lt, slice_get, slice_set}
 use Rattle.sim_chains.specs.Components.{Standing}
 use Rattle.sim_scope.specs.Scopes.{encloser}
@@ -16,7 +17,7 @@ use Rattle.sim_meaning.specs.Texts.{text}
 use Rattle.codegen_expr.specs.CodeExpr.{block_number}
 use Rattle.codegen_expr.specs.Sites.{HasCell, cells_in, place_of, slot_of}
 use Rattle.sim_relate.proofs.Heads.{Heads, Same, both_found, both_heads, entered_same, given_both, given_same, heads_refl, is_live_at, kept_same, later_heads, live_same, lives_in, set_self}
-use Rattle.sim_relate.proofs.Lists.{append_at, append_both, both_as, set_both, set_len, set_other, set_same}
+use Rattle.sim_relate.proofs.Lists.{append_at, append_both, both_as, set_both, set_other, set_same}
 use Rattle.sim_relate.proofs.Reach.{if_true, is_there}
 use Rattle.sim_relate.proofs.Relation.{CellsAt, InstanceAt, Keeps, Later, Stands, StoreAt, ValAt, inside, key_of, outermost, value_of}
 use Rattle.sim_relate.proofs.Slots.{cells_fit, cells_read, cells_write, keys_length, keys_place, less_true, temp_write}
@@ -83,7 +84,7 @@ module _ (s : Source) (code : CodeOf) where
   instance_given a = record { number = a.number; level = a.level; encloser = a.encloser; passing = a.passing; kept = a.kept; given_back = refl; cells = a.cells; keys = a.keys; size = a.size }
 
   pub store_put : {m : Instances} {fs : Frames} → StoreAt s code m fs → (j : ℕ) (x : Instance (List Held)) (y : Instance Cells) → InstanceAt s code x y → StoreAt s code (with_instance m j x) (with_instance fs j y)
-  store_put {m} {fs} a j x y p = record { as_many = set_len m.instances j x ∙ a.as_many ∙ sym (set_len fs.instances j y); at = set_both (InstanceAt s code) m.instances fs.instances j x y a.at p }
+  store_put {m} {fs} a j x y p = record { as_many = length-set m.instances j x ∙ a.as_many ∙ sym (length-set fs.instances j y); at = set_both (InstanceAt s code) m.instances fs.instances j x y a.at p }
 
   module _ (m : Instances) (fs : Frames) (a : StoreAt s code m fs) where
     pub live_pair : (j : ℕ) → Both (InstanceAt s code) (live m j) (live fs j)
@@ -168,7 +169,7 @@ module _ (s : Source) (code : CodeOf) where
           given_back = p.given_back;
           cells = subst (λ c. CellsAt ValAt (map value_of x.now) (slice_set cs c (Some y))) (sym place) x.at;
           keys = x.keys ∙ p.keys;
-          size = λ b e. set_len cs slot (Some y) ∙ p.size b e;
+          size = λ b e. length-set cs slot (Some y) ∙ p.size b e;
         } in
         let there = is_live_at (slice_get m.instances j) f.now f.lives in
         let heads : Heads f.now new = record { text = refl; level = refl; encloser = refl; given_back = refl } in
@@ -178,7 +179,7 @@ module _ (s : Source) (code : CodeOf) where
           is = ap (λ z. cells_put m j z (meaning.put_in (cells_of_live z) key v)) f.lives ∙ ap (cells_put m j (Some f.now)) x.is;
           is_frames = frame_set fs j f.frame f.frame_lives slot y lt;
           store = store_put a j new new' pair;
-          count = set_len m.instances j new;
+          count = length-set m.instances j new;
           later = λ bound. later_heads s m (with_instance m j new) bound (λ k _. set_self Heads heads_refl m.instances j f.now new there.there heads k);
           keeps = λ bound. record {
             temps = λ k u c _ stands le.
@@ -227,13 +228,13 @@ module _ (s : Source) (code : CodeOf) where
           given_back = p.given_back;
           cells = temp_write ValAt temp (Some y) f.now.cells cs p.cells past;
           keys = p.keys;
-          size = λ b e. set_len cs temp (Some y) ∙ p.size b e;
+          size = λ b e. length-set cs temp (Some y) ∙ p.size b e;
         } in
         let there = is_live_at (slice_get m.instances j) f.now f.lives in
         record {
           frames = with_instance fs j new;
           is = frame_set fs j f.frame f.frame_lives temp y lt;
-          store = record { as_many = a.as_many ∙ sym (set_len fs.instances j new); at = set_right (InstanceAt s code) m.instances fs.instances j f.now new a.at there.there pair };
+          store = record { as_many = a.as_many ∙ sym (length-set fs.instances j new); at = set_right (InstanceAt s code) m.instances fs.instances j f.now new a.at there.there pair };
           holds = frame_holds fs j f.frame f.frame_lives temp y lt;
           others = frame_other fs j f.frame f.frame_lives temp y lt;
         }

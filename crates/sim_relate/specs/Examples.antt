@@ -1,10 +1,11 @@
 -- Codes of worked programs that stand for them.
-use Rattle.std.specs.Prelude.{pos, [], ◌∷◌}
+use Rattle.std.specs.Prelude.{codes, pos, [], ◌∷◌}
 use Rattle.sim_code.specs.declared.code.BlockKind.TheVariants as block_kind
 use Rattle.sim_code.specs.declared.code.CodeType.TheVariants as type
 use Rattle.sim_code.specs.declared.instr.Instr.TheVariants as i
 use Rattle.sim_code.specs.Code.{CodeOf}
 use Rattle.sim_meaning.specs.Examples.{factorial_20, for_list, sub_block}
+use Rattle.sim_meaning.specs.TextExamples.{parts}
 use Rattle.codegen.specs.Compiled.{Compiled}
 use Rattle.codegen.specs.Examples.{at, block, code, factorial_20_code, for_list_code}
 
@@ -12,9 +13,14 @@ use Rattle.codegen.specs.Examples.{at, block, code, factorial_20_code, for_list_
 abbrev pub sub_block_apart : CodeOf
 sub_block_apart = code (block block_kind.SubBlock 1 2 1 0 type.Nothing (type.Integer ∷ type.Integer ∷ type.Nothing ∷ []) [] ∷ block block_kind.SubBlock 2 2 0 35 type.Nothing (type.Nothing ∷ type.Nothing ∷ []) [] ∷ []) (at 1 (i.Jump (pos 1)) ∷ at 0 i.Tick ∷ at 0 (i.Int (pos 2)) ∷ at 0 (i.Store (pos 1) (pos 2)) ∷ at 0 (i.Load (pos 1) (pos 2)) ∷ at 0 (i.Store (pos 1) (pos 1)) ∷ at 0 (i.Load (pos 1) (pos 2)) ∷ at 0 (i.Store (pos 1) (pos 0)) ∷ at 0 i.Tick ∷ at 3 (i.Enter (pos 1)) ∷ at 0 i.Tick ∷ at 0 (i.Load (pos 1) (pos 0)) ∷ at 0 (i.Int (pos 2)) ∷ at 4 (i.Rel (pos 2)) ∷ at 0 (i.JumpF (pos 21)) ∷ at 0 (i.Load (pos 1) (pos 1)) ∷ at 0 (i.Load (pos 1) (pos 0)) ∷ at 4 i.Div ∷ at 0 (i.Int (pos 1)) ∷ at 4 (i.Rel (pos 2)) ∷ at 0 (i.Jump (pos 22)) ∷ at 0 (i.Bool (pos 0)) ∷ at 0 (i.JumpF (pos 28)) ∷ at 0 i.Tick ∷ at 0 (i.Load (pos 1) (pos 0)) ∷ at 0 (i.Int (pos 2)) ∷ at 4 (i.Std (pos 40)) ∷ at 0 (i.Jump (pos 32)) ∷ at 0 i.Tick ∷ at 0 (i.Int (pos 0)) ∷ at 0 (i.Int (pos 2)) ∷ at 4 (i.Std (pos 40)) ∷ at 0 i.Tick ∷ at 5 (i.Std (pos 37)) ∷ at 0 (i.EndLevel (pos 0)) ∷ at 0 (i.Load (pos 1) (pos 0)) ∷ at 0 (i.Int (pos 3)) ∷ at 3 (i.Array (pos 1) (pos 1)) ∷ at 0 (i.Store (pos 2) (pos 0)) ∷ at 0 (i.Int (pos 1)) ∷ at 0 (i.Load (pos 1) (pos 1)) ∷ at 3 (i.Array (pos 1) (pos 1)) ∷ at 0 (i.Store (pos 2) (pos 1)) ∷ at 0 i.Tick ∷ at 0 (i.Load (pos 2) (pos 0)) ∷ at 0 (i.Int (pos 3)) ∷ at 3 (i.Elem (pos 1) (pos 0)) ∷ at 0 (i.Load (pos 2) (pos 1)) ∷ at 0 (i.Int (pos 2)) ∷ at 3 (i.Elem (pos 1) (pos 0)) ∷ at 0 i.Fetch ∷ at 0 (i.Int (pos 5)) ∷ at 3 i.Add ∷ at 0 i.Put ∷ at 0 i.Tick ∷ at 0 (i.Load (pos 2) (pos 0)) ∷ at 0 (i.Int (pos 3)) ∷ at 3 (i.Elem (pos 1) (pos 0)) ∷ at 0 i.Fetch ∷ at 0 (i.Int (pos 3)) ∷ at 3 (i.Std (pos 40)) ∷ at 0 i.Leave ∷ [])
 
+-- the code of the program with texts: both constants, and the three temps of `&`
+abbrev pub parts_code : CodeOf
+parts_code = record (code (block block_kind.SubBlock 1 2 3 0 type.Nothing (type.Text ∷ type.Text ∷ type.Nothing ∷ type.Nothing ∷ type.Nothing ∷ []) [] ∷ []) (at 1 (i.Jump (pos 1)) ∷ at 0 i.Tick ∷ at 0 (i.Int (pos 8)) ∷ at 2 (i.Std (pos 14)) ∷ at 0 (i.Store (pos 1) (pos 0)) ∷ at 0 i.Tick ∷ at 0 (i.Addr (pos 1) (pos 0) (pos 0)) ∷ at 0 (i.Int (pos 42)) ∷ at 2 i.Neg ∷ at 2 (i.Std (pos 30)) ∷ at 0 i.Tick ∷ at 0 (i.Load (pos 1) (pos 0)) ∷ at 0 (i.Int (pos 6)) ∷ at 0 (i.Int (pos 3)) ∷ at 2 (i.Std (pos 27)) ∷ at 0 (i.Store (pos 1) (pos 1)) ∷ at 0 i.Tick ∷ at 0 (i.Load (pos 1) (pos 1)) ∷ at 0 (i.TextK (pos 0)) ∷ at 2 i.AssignT ∷ at 0 i.Tick ∷ at 0 (i.Load (pos 1) (pos 0)) ∷ at 3 (i.Std (pos 39)) ∷ at 0 i.Tick ∷ at 0 (i.Char (pos 124)) ∷ at 3 (i.Std (pos 38)) ∷ at 0 i.Tick ∷ at 0 (i.Load (pos 1) (pos 0)) ∷ at 3 (i.Std (pos 21)) ∷ at 0 (i.Int (pos 2)) ∷ at 3 (i.Std (pos 40)) ∷ at 0 i.Tick ∷ at 0 (i.Char (pos 124)) ∷ at 3 (i.Std (pos 38)) ∷ at 0 i.Tick ∷ at 0 (i.Load (pos 1) (pos 0)) ∷ at 4 (i.Std (pos 28)) ∷ at 4 (i.Std (pos 15)) ∷ at 0 (i.TextK (pos 1)) ∷ at 4 (i.Store (pos 1) (pos 3)) ∷ at 4 (i.Store (pos 1) (pos 2)) ∷ at 4 (i.Load (pos 1) (pos 2)) ∷ at 4 (i.Load (pos 1) (pos 3)) ∷ at 4 i.SameT ∷ at 4 i.Pop ∷ at 4 (i.Load (pos 1) (pos 2)) ∷ at 4 (i.Std (pos 20)) ∷ at 4 (i.Load (pos 1) (pos 3)) ∷ at 4 (i.Std (pos 20)) ∷ at 4 i.Add ∷ at 4 i.Dup ∷ at 4 (i.Int (pos 1)) ∷ at 4 i.Add ∷ at 4 i.Pop ∷ at 4 (i.Std (pos 14)) ∷ at 4 (i.Store (pos 1) (pos 4)) ∷ at 4 (i.Load (pos 1) (pos 4)) ∷ at 4 (i.Load (pos 1) (pos 2)) ∷ at 4 i.AssignT ∷ at 4 (i.Load (pos 1) (pos 4)) ∷ at 4 (i.Load (pos 1) (pos 2)) ∷ at 4 (i.Std (pos 20)) ∷ at 4 (i.Int (pos 1)) ∷ at 4 i.Add ∷ at 4 (i.Load (pos 1) (pos 3)) ∷ at 4 (i.Std (pos 20)) ∷ at 4 (i.Std (pos 27)) ∷ at 4 (i.Load (pos 1) (pos 3)) ∷ at 4 i.AssignT ∷ at 4 (i.Load (pos 1) (pos 4)) ∷ at 4 (i.Std (pos 39)) ∷ at 0 i.Tick ∷ at 4 (i.Std (pos 37)) ∷ at 0 (i.EndLevel (pos 0)) ∷ [])) { texts = codes "x" ∷ codes "AB" ∷ [] }
+
 -- a `for` list of three kinds of elements with one statement; a procedure that calls itself; a sub-block with arrays, an assignment to
--- several left sides, a choice
+-- several left sides, a choice; attributes of texts, assignments of texts, `&`
 pub record WorkedCodes : Type 0 where
   pub for_list_stands : Compiled for_list for_list_code
   pub factorial_20_stands : Compiled factorial_20 factorial_20_code
   pub sub_block_stands : Compiled sub_block sub_block_apart
+  pub parts_stands : Compiled parts parts_code

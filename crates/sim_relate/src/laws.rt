@@ -12,8 +12,8 @@ pub fn compiled_code_runs_as_meant()
     ensures { (s : Source) (code : CodeOf) → Compiled s code → SameRuns s code }
 {}
 
-/// There is code that stands for a program: three worked codes do, of a `for` list, of a procedure that calls itself, and of a sub-block
-/// with arrays. So no part of what is asked of code speaks against another.
+/// There is code that stands for a program: four worked codes do, of a `for` list, of a procedure that calls itself, of a sub-block with
+/// arrays, and of a program with texts. So no part of what is asked of code speaks against another.
 #[tactic(auto, using(crate::proofs::Examples::worked_codes))]
 pub fn worked_codes_stand_for_their_programs()
     ensures { WorkedCodes }

@@ -1,5 +1,5 @@
 -- What the machine's run of compiled code says of the program.
-use Rattle.std.proofs.Common.{◌≡◌, ℕ, suc, List, [], ◌++◌, Option, Result, Ok, Err, IfOk, OnErr, length, take, refl, sym, subst, ◌∙◌}
+use Rattle.std.proofs.Common.{◌≡◌, ◌∙◌, ℕ, suc, List, Option, Some, None, Result, Ok, Err, IfOk, length, take, refl, sym, ap, subst}
 use Rattle.std.proofs.Math.Seq.{take-append_seam}
 use Rattle.std.specs.Io.KnownBytes.{Appends}
 use Rattle.sim_base.specs.declared.limits.Limits.{Limits}
@@ -8,69 +8,95 @@ use Rattle.sim_code.specs.declared.ending.Ending.TheVariants as answer
 use Rattle.sim_code.specs.Code.{CodeOf}
 use Rattle.sim_code.specs.Growing.{OutputGrows, written}
 use Rattle.sim_code.specs.Machine.{Machine}
-use Rattle.sim_code.specs.Outcome.{Ended, Ending, Going, Run}
+use Rattle.sim_code.specs.Outcome.{Ended, Ending, Going, Normal, NoRule, Run, RunFault, StorageExhausted, TickLimit, answer_of}
 use Rattle.sim_code.specs.Rows.{mrun, next_place, opening}
 use Rattle.sim_ports.specs.Bytes.{AddsPrefix}
 use Rattle.sim_scope.specs.Source.{Source}
-use Rattle.codegen.specs.BuiltProgram.{ProgramBuilt}
-use Rattle.codegen.specs.Compiled.{Compiled}
-use Rattle.object_machine.specs.Running.{FaultsAs, HasEnded, RanAs, WasBroken}
+use Rattle.object_machine.specs.Running.{HasEnded, RanAs, WasBroken, WasCut}
 use Rattle.object_machine.specs.Standing.{WrotePart, world_of}
 use Rattle.sim_relate.specs.SameRuns.{SameRuns}
-use Rattle.sim_run.specs.RunEnds.{Ran, RunEnds}
-use Rattle.sim_run.proofs.Showing.{EndsIn, begins_end, program_ends}
+use Rattle.sim_run.specs.declared.running.RunFailure.{RunFailure}
+use Rattle.sim_run.specs.declared.running.RunFailure.TheVariants as failure
+use Rattle.sim_run.specs.declared.running.RunEnd.{RunEnd}
+use Rattle.sim_run.specs.declared.running.RunEnd.TheVariants as end
+use Rattle.sim_run.specs.RunEnds.{AtAMoment, Begins, Broken, CodeBroken, CodeRan, IsRuled, Ran, end_of}
+use Rattle.sim_run.proofs.Showing.{EndsIn, begins_end, moment, program_ends}
+use Rattle.sim_run.proofs.Prefixes.{adds_all}
 
 -- ---- the machine's answer
 
--- an answer that is no fault of the outside and not want of memory
-pub ended_so : (code : CodeOf) (l : Limits) (a : Answer) (old new : Option (List ℕ)) → RanAs code l a old new → (a ≡ answer.InputFault → ⊥) → (a ≡ answer.WriteFault → ⊥) → (a ≡ answer.Memory → ⊥) → HasEnded code l (opening code l []) a old new
-unfolding RanAs
-ended_so code l answer.Normal old new h i w m = h []
-ended_so code l (answer.RunFault e line) old new h i w m = h []
-ended_so code l (answer.StorageExhausted line used wanted) old new h i w m = h []
-ended_so code l (answer.TickLimit ticks) old new h i w m = h []
-ended_so code l answer.InputFault old new h i w m = absurd (i refl)
-ended_so code l answer.WriteFault old new h i w m = absurd (w refl)
-ended_so code l answer.Memory old new h i w m = absurd (m refl)
-ended_so code l (answer.BadCode at) old new h i w m = h []
+-- the end of a run by this answer
+abbrev pub end_by : Answer → Option RunEnd
+end_by answer.Normal = Some end.Normal
+end_by (answer.RunFault error line) = Some (end.RunFault error line)
+end_by (answer.StorageExhausted line used wanted) = Some (end.StorageExhausted line used wanted)
+end_by (answer.TickLimit ticks) = Some (end.TickLimit ticks)
+end_by _ = None
 
-pub broken_by_memory : (code : CodeOf) (l : Limits) (old new : Option (List ℕ)) → RanAs code l answer.Memory old new → WasBroken code l (opening code l []) old new
-unfolding RanAs
-broken_by_memory code l old new h = h []
+end_by_ending : (e : Ending) (at : ℕ) → end_by (answer_of e at) ≡ end_of e
+end_by_ending Normal at = refl
+end_by_ending (RunFault error line) at = refl
+end_by_ending (StorageExhausted line used wanted) at = refl
+end_by_ending (TickLimit ticks) at = refl
+end_by_ending NoRule at = refl
 
-pub broken_by_output : (code : CodeOf) (l : Limits) (old new : Option (List ℕ)) → RanAs code l answer.WriteFault old new → WasBroken code l (opening code l []) old new
-unfolding RanAs
-broken_by_output code l old new h = h []
+ended_so : (code : CodeOf) (l : Limits) (input : List ℕ) (a : Answer) (end : RunEnd) (old new : Option (List ℕ)) → end_by a ≡ Some end → HasEnded code l (opening code l input) a old new → CodeRan code l input end old new
+ended_so code l input a e old new is h = record {
+  steps = suc h.steps;
+  world = h.last;
+  ending = h.ending;
+  is = sym (end_by_ending h.ending (next_place h.state)) ∙ ap end_by (sym h.answer) ∙ is;
+  ends = h.ended;
+  writes = h.written;
+}
 
-pub no_input_fault : (code : CodeOf) (l : Limits) (old new : Option (List ℕ)) → RanAs code l answer.InputFault old new → ⊥
+-- code that the machine ran to its end
+pub code_ran : (code : CodeOf) (l : Limits) (input : List ℕ) (a : Answer) (end : RunEnd) (old new : Option (List ℕ)) → end_by a ≡ Some end → RanAs code l input a old new → CodeRan code l input end old new
 unfolding RanAs
-no_input_fault code l old new h = h []
+code_ran code l input answer.Normal e old new is h = ended_so code l input answer.Normal e old new is h
+code_ran code l input (answer.RunFault error line) e old new is h = ended_so code l input (answer.RunFault error line) e old new is h
+code_ran code l input (answer.StorageExhausted line used wanted) e old new is h = ended_so code l input (answer.StorageExhausted line used wanted) e old new is h
+code_ran code l input (answer.TickLimit ticks) e old new is h = ended_so code l input (answer.TickLimit ticks) e old new is h
+code_ran code l input answer.InputFault e old new is h = cc is
+code_ran code l input answer.WriteFault e old new is h = cc is
+code_ran code l input answer.Memory e old new is h = cc is
+code_ran code l input (answer.BadCode at) e old new is h = cc is
 
--- no write has failed but where the answer says so
-pub none_failed : {S : Type 0} (written : S → Option (List ℕ)) (faults : S → ℕ) (a : Answer) (old new : S) → (a ≡ answer.WriteFault → ⊥) → FaultsAs written faults a old new → faults new ≡ faults old
-none_failed written faults answer.Normal old new w is = is
-none_failed written faults (answer.RunFault e line) old new w is = is
-none_failed written faults (answer.StorageExhausted line used wanted) old new w is = is
-none_failed written faults (answer.TickLimit ticks) old new w is = is
-none_failed written faults answer.InputFault old new w is = is
-none_failed written faults answer.WriteFault old new w is = absurd (w refl)
-none_failed written faults answer.Memory old new w is = is
-none_failed written faults (answer.BadCode at) old new w is = is
+-- it has a rule for each step
+never_lost : (e : Ending) (at place : ℕ) → answer.BadCode at ≡ answer_of e place → e ≡ NoRule
+never_lost Normal at place is = cc is
+never_lost (RunFault error line) at place is = cc is
+never_lost (StorageExhausted line used wanted) at place is = cc is
+never_lost (TickLimit ticks) at place is = cc is
+never_lost NoRule at place is = refl
+
+pub not_lost : (code : CodeOf) (l : Limits) (input : List ℕ) (at : ℕ) (old new : Option (List ℕ)) → IsRuled code l → RanAs code l input (answer.BadCode at) old new → ⊥
+unfolding RanAs
+not_lost code l input at old new ruled h =
+    ruled input (suc h.steps) h.last (h.ended ∙ ap (λ e. Ended h.last e) (never_lost h.ending at (next_place h.state) h.answer))
+
+pub broken_by_memory : (code : CodeOf) (l : Limits) (input : List ℕ) (old new : Option (List ℕ)) → RanAs code l input answer.Memory old new → WasBroken code l (opening code l input) old new
+unfolding RanAs
+broken_by_memory code l input old new h = h
+
+pub broken_by_output : (code : CodeOf) (l : Limits) (input : List ℕ) (old new : Option (List ℕ)) → RanAs code l input answer.WriteFault old new → WasBroken code l (opening code l input) old new
+unfolding RanAs
+broken_by_output code l input old new h = h
+
+pub cut_by_input : (code : CodeOf) (l : Limits) (input : List ℕ) (old new : Option (List ℕ)) → RanAs code l input answer.InputFault old new → WasCut code l (opening code l input) old new
+unfolding RanAs
+cut_by_input code l input old new h = h
 
 -- ---- the program
 
 -- the code has ended, so the program has
-pub has_ended : (s : Source) (code : CodeOf) → SameRuns s code → ProgramBuilt s → (l : Limits) (a : Answer) (old new : Option (List ℕ)) → HasEnded code l (opening code l []) a old new → Ran s l a old new
-has_ended s code same built l a old new h =
-    let ends : EndsIn (mrun code l [] (suc h.steps)) h.ending h.last.store.written = record { world = h.last; is = h.ended; writes = refl } in
+pub has_ended : (s : Source) (code : CodeOf) → SameRuns s code → (l : Limits) (input : List ℕ) (end : RunEnd) (old new : Option (List ℕ)) → CodeRan code l input end old new → Ran s l input end old new
+has_ended s code same l input e old new h =
+    let ends : EndsIn (mrun code l input h.steps) h.ending h.world.store.written = record { world = h.world; is = h.ends; writes = refl } in
     record {
-      built = built;
-      ending = h.ending;
-      output = h.last.store.written;
-      place = next_place h.state;
-      ends = program_ends s code same l (suc h.steps) h.ending h.last.store.written ends;
-      says = h.answer;
-      writes = h.written;
+      output = h.world.store.written;
+      ends = record { ending = h.ending; is = h.is; ends = program_ends s code same l input h.steps h.ending h.world.store.written ends };
+      writes = h.writes;
     }
 
 world_written : (r : Run Machine) → (world_of r).store.written ≡ written r
@@ -82,20 +108,29 @@ part_adds old new xs (bytes, more, adds, is) =
     (length bytes, subst (λ (l : List ℕ). Appends old new (take (length bytes) l)) (sym is) (subst (Appends old new) (sym (take-append_seam bytes more)) adds))
 
 -- what was broken off wrote a part of what the program writes
-pub was_broken : OutputGrows → (s : Source) (code : CodeOf) → SameRuns s code → (l : Limits) (old new : Option (List ℕ)) → WasBroken code l (opening code l []) old new
-    → (ending : Ending) (output : List ℕ) → RunEnds s l ending output → AddsPrefix old new output
-was_broken grows s code same l old new (steps, part) ending output ends =
-    let r : Run Machine = mrun code l [] steps in
-    begins_end s code same l grows old new steps (subst (λ xs. AddsPrefix old new xs) (world_written r) (part_adds old new (world_of r).store.written part)) ending output ends
+pub was_broken : OutputGrows → (s : Source) (code : CodeOf) → SameRuns s code → (l : Limits) (input : List ℕ) (old new : Option (List ℕ)) → WasBroken code l (opening code l input) old new → Begins s l input old new
+was_broken grows s code same l input old new (steps, part) =
+    let r : Run Machine = mrun code l input steps in
+    begins_end s code same l input grows old new steps (subst (λ xs. AddsPrefix old new xs) (world_written r) (part_adds old new (world_of r).store.written part))
+
+-- what was cut off had written what the program has written at some moment
+cut_written : (code : CodeOf) (l : Limits) (input : List ℕ) (old new : Option (List ℕ)) (cut : WasCut code l (opening code l input) old new) → Appends old new (written (mrun code l input cut.0))
+cut_written code l input old new (steps, o, s, come, adds) = subst (λ (r : Run Machine). Appends old new (written r)) (sym come) adds
+
+pub was_cut : OutputGrows → (s : Source) (code : CodeOf) → SameRuns s code → (l : Limits) (input : List ℕ) (old new : Option (List ℕ)) → WasCut code l (opening code l input) old new → AtAMoment s l input old new × Begins s l input old new
+was_cut grows s code same l input old new cut =
+    let adds = cut_written code l input old new cut in
+    (moment s code same l input old new cut.0 adds, begins_end s code same l input grows old new cut.0 (adds_all old new (written (mrun code l input cut.0)) adds))
 
 -- ---- by the result
 
-pub ran_of : {E : Type 0} (s : Source) (code : CodeOf) → SameRuns s code → ProgramBuilt s → (l : Limits) (old new : Option (List ℕ)) (r : Result Answer E)
-    → IfOk r (λ a. HasEnded code l (opening code l []) a old new) → IfOk r (λ a. Ran s l a old new)
-ran_of s code same built l old new (Ok a) h = has_ended s code same built l a old new h
-ran_of s code same built l old new (Err e) h = tt
+pub ran_of : {E : Type 0} (s : Source) (code : CodeOf) → SameRuns s code → (l : Limits) (input : List ℕ) (old new : Option (List ℕ)) (r : Result RunEnd E)
+    → IfOk r (λ e. CodeRan code l input e old new) → IfOk r (λ e. Ran s l input e old new)
+ran_of s code same l input old new (Ok e) h = has_ended s code same l input e old new h
+ran_of s code same l input old new (Err e) h = tt
 
-pub part_of_all : {E : Type 0} → OutputGrows → (s : Source) (code : CodeOf) → SameRuns s code → (l : Limits) (old new : Option (List ℕ)) (r : Result Answer E)
-    → OnErr r (WasBroken code l (opening code l []) old new) → OnErr r ((ending : Ending) (output : List ℕ) → RunEnds s l ending output → AddsPrefix old new output)
-part_of_all grows s code same l old new (Ok a) h = tt
-part_of_all grows s code same l old new (Err e) h = was_broken grows s code same l old new h
+pub broken_of : OutputGrows → (s : Source) (code : CodeOf) → SameRuns s code → (l : Limits) (input : List ℕ) (old new : Option (List ℕ)) (r : Result RunEnd RunFailure) → CodeBroken code l input old new r → Broken s l input old new r
+broken_of grows s code same l input old new (Ok e) h = tt
+broken_of grows s code same l input old new (Err failure.Memory) h = was_broken grows s code same l input old new h
+broken_of grows s code same l input old new (Err failure.Input) h = was_cut grows s code same l input old new h
+broken_of grows s code same l input old new (Err failure.Output) h = was_broken grows s code same l input old new h

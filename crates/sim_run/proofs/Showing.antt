@@ -1,17 +1,18 @@
 -- From a run of code that shows what its program means to the end of the program's own run, and back.
-use Rattle.std.proofs.Common.{◌≡◌, ℕ, ◌+◌, ◌-◌, ◌≤◌, List, [], ◌++◌, Option, Some, None, inl, inr, refl, sym, ap, subst, ◌∙◌, arith}
+use Rattle.std.proofs.Common.{◌≡◌, ℕ, ◌+◌, ◌-◌, List, ◌++◌, Option, Some, None, inl, inr, refl, sym, ap, subst, ◌∙◌, arith}
 use Rattle.std.proofs.lemmas.Bool.{cases_lt}
+use Rattle.std.specs.Io.KnownBytes.{Appends}
 use Rattle.sim_base.specs.declared.limits.Limits.{Limits}
 use Rattle.sim_code.specs.Code.{CodeOf}
 use Rattle.sim_code.specs.Growing.{OutputGrows, written}
-use Rattle.sim_code.specs.Outcome.{Ended, Ending, Going, Run, Shown, World, shown, shown_world}
+use Rattle.sim_code.specs.Outcome.{Ended, Ending, Going, NoRule, Run, Shown, World, shown, shown_world}
 use Rattle.sim_code.specs.Machine.{Machine}
 use Rattle.sim_code.specs.Rows.{mrun, mstep, opening}
 use Rattle.sim_meaning.specs.Meaning.{run}
 use Rattle.sim_meaning.specs.Pending.{Configuration}
 use Rattle.sim_ports.specs.Bytes.{AddsPrefix}
 use Rattle.sim_scope.specs.Source.{Source}
-use Rattle.sim_run.specs.RunEnds.{RunEnds}
+use Rattle.sim_run.specs.RunEnds.{AtAMoment, Begins, IsRunnable, MeaningEnds}
 use Rattle.sim_relate.specs.SameRuns.{SameRuns}
 use Rattle.sim_run.proofs.OneEnd.{ended_later}
 use Rattle.sim_run.proofs.Prefixes.{adds_more}
@@ -40,37 +41,56 @@ ends_too S M r q e output ends same =
     let there : EndsIn r e ends.world.store.written = ended_alike S r ends.world e (sym (ap shown ends.is) ∙ same) in
     record { world = there.world; is = there.is; writes = ends.writes ∙ there.writes }
 
-module _ (s : Source) (code : CodeOf) (same : SameRuns s code) (l : Limits) where
+module _ (s : Source) (code : CodeOf) (same : SameRuns s code) (l : Limits) (input : List ℕ) where
   -- where the code has ended the program has
-  pub program_ends : (n : ℕ) (e : Ending) (output : List ℕ) → EndsIn (mrun code l [] n) e output → RunEnds s l e output
+  pub program_ends : (n : ℕ) (e : Ending) (output : List ℕ) → EndsIn (mrun code l input n) e output → MeaningEnds s l input e output
   program_ends n e output ends =
-      let k = same.only l [] n in
-      let there : EndsIn (run s l [] k.0) e output = ends_too Configuration Machine (run s l [] k.0) (mrun code l [] n) e output ends k.1 in
+      let k = same.only l input n in
+      let there : EndsIn (run s l input k.0) e output = ends_too Configuration Machine (run s l input k.0) (mrun code l input n) e output ends k.1 in
       record { steps = k.0; world = there.world; ends = there.is; writes = there.writes }
 
   -- and where the program has the code has
-  pub code_ends : (e : Ending) (output : List ℕ) → RunEnds s l e output → (n : ℕ) × EndsIn (mrun code l [] n) e output
+  pub code_ends : (e : Ending) (output : List ℕ) → MeaningEnds s l input e output → (n : ℕ) × EndsIn (mrun code l input n) e output
   code_ends e output ends =
-      let m = same.shows l [] ends.steps in
-      let here : EndsIn (run s l [] ends.steps) e output = record { world = ends.world; is = ends.ends; writes = ends.writes } in
-      (m.0, ends_too Machine Configuration (mrun code l [] m.0) (run s l [] ends.steps) e output here (sym m.1))
+      let m = same.shows l input ends.steps in
+      let here : EndsIn (run s l input ends.steps) e output = record { world = ends.world; is = ends.ends; writes = ends.writes } in
+      (m.0, ends_too Machine Configuration (mrun code l input m.0) (run s l input ends.steps) e output here (sym m.1))
 
   -- what begins the output of a moment begins that of the end
-  pub begins_end : OutputGrows → (old new : Option (List ℕ)) (n : ℕ) → AddsPrefix old new (written (mrun code l [] n)) → (e : Ending) (output : List ℕ) → RunEnds s l e output → AddsPrefix old new output
-  begins_end grows old new n adds e output ends =
+  begins_ending : OutputGrows → (old new : Option (List ℕ)) (n : ℕ) → AddsPrefix old new (written (mrun code l input n)) → (e : Ending) (output : List ℕ) → MeaningEnds s l input e output → AddsPrefix old new output
+  begins_ending grows old new n adds e output ends =
       let m = code_ends e output ends in
-      let whole : output ≡ written (mrun code l [] m.0) = m.1.writes ∙ sym (ap written m.1.is) in
+      let whole : output ≡ written (mrun code l input m.0) = m.1.writes ∙ sym (ap written m.1.is) in
       subst (λ xs. AddsPrefix old new xs) (sym whole)
       (elim (cases_lt m.0 n) [
         | inl later ↦ (
             let k : n ≡ m.0 + (n - m.0) = omega (arith, later) in
-            let stays : mrun code l [] n ≡ mrun code l [] m.0 = ap (mrun code l []) k ∙ ended_later Machine (mstep code l) m.0 (n - m.0) (opening code l []) m.1.world e m.1.is ∙ sym m.1.is in
+            let stays : mrun code l input n ≡ mrun code l input m.0 = ap (mrun code l input) k ∙ ended_later Machine (mstep code l) m.0 (n - m.0) (opening code l input) m.1.world e m.1.is ∙ sym m.1.is in
             subst (λ (r : Run Machine). AddsPrefix old new (written r)) stays adds
             )
         | inr sooner ↦ (
             let k : m.0 ≡ n + (m.0 - n) = omega (arith, sooner) in
-            let more = grows code l [] n (m.0 - n) in
-            let longer : written (mrun code l [] m.0) ≡ written (mrun code l [] n) ++ more.0 = ap (λ z. written (mrun code l [] z)) k ∙ more.1 in
-            subst (λ xs. AddsPrefix old new xs) (sym longer) (adds_more old new (written (mrun code l [] n)) more.0 adds)
+            let more = grows code l input n (m.0 - n) in
+            let longer : written (mrun code l input m.0) ≡ written (mrun code l input n) ++ more.0 = ap (λ z. written (mrun code l input z)) k ∙ more.1 in
+            subst (λ xs. AddsPrefix old new xs) (sym longer) (adds_more old new (written (mrun code l input n)) more.0 adds)
             )
       ])
+
+  pub begins_end : OutputGrows → (old new : Option (List ℕ)) (n : ℕ) → AddsPrefix old new (written (mrun code l input n)) → Begins s l input old new
+  begins_end grows old new n adds end output ends = begins_ending grows old new n adds ends.ending output ends.ends
+
+  -- code of a program that can be run is never without a rule
+  pub is_ruled : IsRunnable s → (n : ℕ) (o : World) → mrun code l input n ≡ Ended o NoRule → ⊥
+  is_ruled runs n o is =
+      let there = program_ends n NoRule o.store.written (record { world = o; is = is; writes = refl }) in
+      runs.ruled l input there.steps there.world there.ends
+
+  -- what was written at a moment of the code's run was written at one of the program's
+  pub moment : (old new : Option (List ℕ)) (n : ℕ) → Appends old new (written (mrun code l input n)) → AtAMoment s l input old new
+  moment old new n adds =
+      let k = same.only l input n in
+      (k.0, subst (λ xs. Appends old new xs) (shows_written (mrun code l input n) ∙ ap (λ (x : Shown). x.output) k.1 ∙ sym (shows_written (run s l input k.0))) adds)
+    where
+      shows_written : {S : Type 0} (r : Run S) → written r ≡ (shown r).output
+      shows_written (Going o p) = refl
+      shows_written (Ended o e) = refl

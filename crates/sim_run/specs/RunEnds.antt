@@ -1,37 +1,98 @@
 -- How the run of a program ends, and what it has written then.
-use Rattle.std.specs.Prelude.{◌≡◌, ℕ, List, [], Option, Result, Ok, Err}
+use Rattle.std.specs.Prelude.{◌≡◌, ◌≤◌, ℕ, List, Option, Some, None, Result, Ok, Err, ⊤}
 use Rattle.std.specs.Io.KnownBytes.{Appends}
 use Rattle.sim_base.specs.declared.limits.Limits.{Limits}
-use Rattle.sim_code.specs.declared.ending.Ending.{Ending as Answer}
-use Rattle.sim_code.specs.Outcome.{Ended, Ending, World, answer_of}
+use Rattle.sim_code.specs.Code.{CodeOf}
+use Rattle.sim_code.specs.Growing.{written}
+use Rattle.sim_code.specs.Outcome.{Ended, Ending, Normal, NoRule, RunFault, StorageExhausted, TickLimit, World}
+use Rattle.sim_code.specs.Rows.{mrun, opening}
 use Rattle.sim_meaning.specs.Meaning.{run}
-use Rattle.sim_ports.specs.Faults.{StopsAt}
+use Rattle.sim_ports.specs.Bytes.{AddsPrefix}
+use Rattle.sim_ports.specs.Faults.{Rose, StopsAt}
 use Rattle.sim_scope.specs.Source.{Source}
 use Rattle.codegen.specs.BuiltProgram.{ProgramBuilt}
+use Rattle.object_machine.specs.Running.{WasBroken, WasCut}
+use Rattle.sim_run.specs.declared.running.RunEnd.{RunEnd}
+use Rattle.sim_run.specs.declared.running.RunEnd.TheVariants as end
 use Rattle.sim_run.specs.declared.running.RunFailure.{RunFailure}
 use Rattle.sim_run.specs.declared.running.RunFailure.TheVariants as failure
 
--- After some steps the run has ended so, with this output. No program reads its input yet.
-pub record RunEnds (s : Source) (l : Limits) (ending : Ending) (output : List ℕ) : Type 0 where
+-- The program is built, and no run of it comes to where its meaning has no rule.
+pub record IsRunnable (s : Source) : Type 0 where
+  pub built : ProgramBuilt s
+  pub ruled : (l : Limits) (input : List ℕ) (steps : ℕ) (world : World) → run s l input steps ≡ Ended world NoRule → ⊥
+
+-- the end of a run, by how its meaning ends
+abbrev pub end_of : Ending → Option RunEnd
+end_of Normal = Some end.Normal
+end_of (RunFault error line) = Some (end.RunFault error (record { 0 = line }))
+end_of (StorageExhausted line used wanted) = Some (end.StorageExhausted (record { 0 = line }) used wanted)
+end_of (TickLimit ticks) = Some (end.TickLimit ticks)
+end_of NoRule = None
+
+-- With this input the meaning's run has ended so after some steps, with this output.
+pub record MeaningEnds (s : Source) (l : Limits) (input : List ℕ) (ending : Ending) (output : List ℕ) : Type 0 where
   pub steps : ℕ
   pub world : World
-  pub ends : run s l [] steps ≡ Ended world ending
+  pub ends : run s l input steps ≡ Ended world ending
   pub writes : output ≡ world.store.written
 
--- The program was run to its end: this answer says how it ended, and its whole output was written. Where it came to no rule, the answer
--- has a place in its code.
-pub record Ran (s : Source) (l : Limits) (answer : Answer) (old new : Option (List ℕ)) : Type 0 where
-  pub built : ProgramBuilt s
+-- the run of a program ends so, with this output
+pub record RunEnds (s : Source) (l : Limits) (input : List ℕ) (end : RunEnd) (output : List ℕ) : Type 0 where
   pub ending : Ending
+  pub is : end_of ending ≡ Some end
+  pub ends : MeaningEnds s l input ending output
+
+-- the run comes to an end
+abbrev pub HasEnd : Source → Limits → (input : List ℕ) → Type 0
+HasEnd s l input = (end : RunEnd) × (output : List ℕ) × RunEnds s l input end output
+
+-- The program was run to its end, and its whole output was written.
+pub record Ran (s : Source) (l : Limits) (input : List ℕ) (end : RunEnd) (old new : Option (List ℕ)) : Type 0 where
   pub output : List ℕ
-  pub place : ℕ
-  pub ends : RunEnds s l ending output
-  pub says : answer ≡ answer_of ending place
+  pub ends : RunEnds s l input end output
   pub writes : Appends old new output
 
+-- the same of code
+pub record CodeRan (code : CodeOf) (l : Limits) (input : List ℕ) (end : RunEnd) (old new : Option (List ℕ)) : Type 0 where
+  pub steps : ℕ
+  pub world : World
+  pub ending : Ending
+  pub is : end_of ending ≡ Some end
+  pub ends : mrun code l input steps ≡ Ended world ending
+  pub writes : Appends old new world.store.written
+
+-- no run of the code comes to where the machine has no rule
+abbrev pub IsRuled : CodeOf → Limits → Type 0
+IsRuled code l = (input : List ℕ) (steps : ℕ) (world : World) → mrun code l input steps ≡ Ended world NoRule → ⊥
+
+-- what was written begins the output of the run, if it ends
+abbrev pub Begins : Source → Limits → (input : List ℕ) → (old new : Option (List ℕ)) → Type 0
+Begins s l input old new = (end : RunEnd) (output : List ℕ) → RunEnds s l input end output → AddsPrefix old new output
+
+-- what was written is all that the run had written at some moment
+abbrev pub AtAMoment : Source → Limits → (input : List ℕ) → (old new : Option (List ℕ)) → Type 0
+AtAMoment s l input old new = (steps : ℕ) × Appends old new (written (run s l input steps))
+
+-- What is known of a run that was broken off: where the input failed, all is written that the run had written before the step that reads;
+-- else what was written begins its output.
+abbrev pub Broken : Source → Limits → (input : List ℕ) → (old new : Option (List ℕ)) → Result RunEnd RunFailure → Type 0
+Broken s l input old new (Ok end) = ⊤
+Broken s l input old new (Err failure.Input) = AtAMoment s l input old new × Begins s l input old new
+Broken s l input old new (Err _) = Begins s l input old new
+
+-- the same of the run of its code
+abbrev pub CodeBroken : CodeOf → Limits → (input : List ℕ) → (old new : Option (List ℕ)) → Result RunEnd RunFailure → Type 0
+CodeBroken code l input old new (Ok end) = ⊤
+CodeBroken code l input old new (Err failure.Input) = WasCut code l (opening code l input) old new
+CodeBroken code l input old new (Err _) = WasBroken code l (opening code l input) old new
+
 -- It failed by the output where a write failed, after which nothing was written. Else no write failed.
-abbrev pub OutputAfter : {S : Type 0} → (S → Option (List ℕ)) → (S → ℕ) → S → S → Result Answer RunFailure → Type 0
-OutputAfter written faults old new (Ok ending) = faults new ≡ faults old
-OutputAfter written faults old new (Err failure.NotBuilt) = faults new ≡ faults old
-OutputAfter written faults old new (Err failure.Memory) = faults new ≡ faults old
+abbrev pub OutputAfter : {S : Type 0} → (S → Option (List ℕ)) → (S → ℕ) → S → S → Result RunEnd RunFailure → Type 0
 OutputAfter written faults old new (Err failure.Output) = StopsAt written faults old new
+OutputAfter written faults old new _ = faults new ≡ faults old
+
+-- It failed by the input where a read failed, and only there.
+abbrev pub InputAfter : (old new : ℕ) → Result RunEnd RunFailure → Type 0
+InputAfter old new (Err failure.Input) = (old ≤ new) × Rose old new
+InputAfter old new _ = new ≡ old

@@ -1,80 +1,118 @@
 //! A program compiled and run.
-ghost use Rattle.std.specs.Prelude.{◌≡◌, ℕ, List, [], Err, IfOk, OnErr};
-ghost use Rattle.std.specs.Io.KnownBytes.{Keeps};
-ghost use Rattle.codegen.specs.BuiltProgram.{ProgramBuilt};
-ghost use Rattle.object_machine.specs.Running.{HasEnded, WasBroken};
-ghost use Rattle.sim_code.specs.Outcome.{Ending as How};
-ghost use Rattle.sim_code.specs.Rows.{opening};
+ghost use Rattle.std.specs.Prelude.{◌≡◌, ℕ, List, IfOk, Some};
 ghost use Rattle.sim_code.specs.Running.{AllRun};
-ghost use Rattle.sim_ports.specs.Bytes.{AddsPrefix};
 ghost use Rattle.sim_scope.specs.Source.{source_of};
-ghost use Rattle.sim_run.specs.RunEnds.{OutputAfter, Ran, RunEnds};
+ghost use Rattle.sim_run.specs.RunEnds.{Broken, CodeBroken, CodeRan, HasEnd, InputAfter, IsRuled, IsRunnable, OutputAfter, Ran};
 
 use codegen::{Uncompiled, compile};
 use object_machine::run;
-use sim_base::Limits;
+use sim_base::{Limits, Line, RunError};
 use sim_code::laws::output_grows;
 use sim_code::{Code, Ending};
-use sim_ports::Sink;
+use sim_finite::laws::every_run_ends;
+use sim_ports::{Sink, Source};
 use sim_relate::laws::compiled_code_runs_as_meant;
 use sim_scope::Bound;
 use std::alloc::Global;
 use thiserror::Error;
 
+/// How the run of a program ends by its meaning.
+#[derive(Clone, Copy, Debug, PartialEq, Eq)]
+pub enum RunEnd {
+    /// The program came to its end.
+    Normal,
+    /// A run-time error.
+    RunFault {
+        /// The error.
+        error: RunError,
+        /// Where it came.
+        line: Line,
+    },
+    /// The words that are wanted are not left in the storage budget.
+    StorageExhausted {
+        /// Where they are wanted.
+        line: Line,
+        /// The words in use.
+        used: u64,
+        /// The words wanted.
+        wanted: u64,
+    },
+    /// All ticks are taken, and another one is wanted.
+    TickLimit {
+        /// The ticks taken.
+        ticks: u64,
+    },
+}
+
 /// Why a program did not run to an end of its own.
 #[derive(Clone, Copy, Debug, PartialEq, Eq, Error)]
 pub enum RunFailure {
-    /// The program has a form that is not built.
-    #[error("form not built")]
-    NotBuilt,
     /// The run was refused memory.
     #[error("want of memory")]
     Memory,
+    /// The outside failed to give input.
+    #[error("input fault")]
+    Input,
     /// The outside failed to take output.
     #[error("output fault")]
     Output,
 }
 
-/// Compiles a program and runs its code. The answer says how it ended by its meaning. No program reads its input yet.
-pub fn compile_and_run<O: Sink>(
+/// Compiles a program that can be run and runs its code. The answer says how it ended by its meaning, for the bytes that the input has
+/// left.
+pub fn compile_and_run<I: Source, O: Sink>(
     alloc: Global,
     bound: &Bound,
     limits: &Limits,
+    input: &mut I,
     out: &mut O,
-) -> Result<Ending, RunFailure>
-    ensures ran { IfOk result (λ ending. Ran (source_of bound.now) limits.now ending (O.written out.old) (O.written out.new)) }
-    ensures not_built { result ≡ Err RunFailure.NotBuilt → (ProgramBuilt (source_of bound.now) → ⊥) × Keeps (O.written out.old) (O.written out.new) }
-    ensures unwritten { (ProgramBuilt (source_of bound.now) → ⊥) → Keeps (O.written out.old) (O.written out.new) }
-    ensures part { OnErr result ((ending : How) (output : List ℕ) → RunEnds (source_of bound.now) limits.now ending output → AddsPrefix (O.written out.old) (O.written out.new) output) }
+) -> Result<RunEnd, RunFailure>
+    requires { IsRunnable (source_of bound.now) }
+    ensures ran { (bytes : List ℕ) → I.left input.old ≡ Some bytes → IfOk result (λ end. Ran (source_of bound.now) limits.now bytes end (O.written out.old) (O.written out.new)) }
+    ensures ends { (bytes : List ℕ) → HasEnd (source_of bound.now) limits.now bytes }
+    ensures broken { (bytes : List ℕ) → I.left input.old ≡ Some bytes → Broken (source_of bound.now) limits.now bytes (O.written out.old) (O.written out.new) result }
     ensures output { OutputAfter O.written O.faults out.old out.new result }
+    ensures input { InputAfter (I.faults input.old) (I.faults input.new) result }
 {
-    // Code shows what its program means, and what is written stays written.
+    // Code shows what its program means, whose run comes to an end, and what is written stays written.
     compiled_code_runs_as_meant();
+    every_run_ends();
     output_grows();
     match compile(alloc, bound) {
-        Ok(code) => run_code(alloc, &code, limits, out),
-        Err(Uncompiled::NotBuilt) => Err(RunFailure::NotBuilt),
+        Ok(code) => run_code(alloc, &code, limits, input, out),
+        Err(Uncompiled::NotBuilt) => unreachable!(),
         Err(Uncompiled::Memory) => Err(RunFailure::Memory),
     }
 }
 
 // Runs code, each instruction of which the machine does.
-fn run_code<O: Sink>(
+fn run_code<I: Source, O: Sink>(
     alloc: Global,
     code: &Code,
     limits: &Limits,
+    input: &mut I,
     out: &mut O,
-) -> Result<Ending, RunFailure>
-    requires { AllRun code.now.instrs }
-    ensures ended { IfOk result (λ ending. HasEnded code.now limits.now (opening code.now limits.now []) ending (O.written out.old) (O.written out.new)) }
-    ensures broken { OnErr result (WasBroken code.now limits.now (opening code.now limits.now []) (O.written out.old) (O.written out.new)) }
-    ensures built { result ≡ Err RunFailure.NotBuilt → ⊥ }
+) -> Result<RunEnd, RunFailure>
+    requires all { AllRun code.now.instrs }
+    requires ruled { IsRuled code.now limits.now }
+    ensures ran { (bytes : List ℕ) → I.left input.old ≡ Some bytes → IfOk result (λ end. CodeRan code.now limits.now bytes end (O.written out.old) (O.written out.new)) }
+    ensures broken { (bytes : List ℕ) → I.left input.old ≡ Some bytes → CodeBroken code.now limits.now bytes (O.written out.old) (O.written out.new) result }
     ensures output { OutputAfter O.written O.faults out.old out.new result }
+    ensures input { InputAfter (I.faults input.old) (I.faults input.new) result }
 {
-    match run(alloc, code, limits, out) {
-        Ending::Memory => Err(RunFailure::Memory),
-        Ending::InputFault => Err(RunFailure::Memory),
+    match run(alloc, code, limits, input, out) {
+        Ending::Normal => Ok(RunEnd::Normal),
+        Ending::RunFault { error, line } => Ok(RunEnd::RunFault { error, line }),
+        Ending::StorageExhausted { line, used, wanted } => Ok(RunEnd::StorageExhausted {
+            line,
+            used,
+            wanted,
+        }),
+        Ending::TickLimit { ticks } => Ok(RunEnd::TickLimit { ticks }),
+        Ending::InputFault => Err(RunFailure::Input),
         Ending::WriteFault => Err(RunFailure::Output),
-        ending => Ok(ending),
+        Ending::Memory => Err(RunFailure::Memory),
+        // Only with an input that does not tell its bytes, of whose run nothing is said.
+        Ending::BadCode { .. } => Err(RunFailure::Memory),
     }
 }

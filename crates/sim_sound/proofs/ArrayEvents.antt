@@ -14,7 +14,8 @@ use Rattle.sim_code.specs.Arrays.{added, are_inside, as_many, copying_array, ele
 use Rattle.sim_code.specs.Events.{computing, having, popping, taking}
 use Rattle.sim_meaning.specs.Pending.{Address, ArrayValue, Instances, Link, Of, ProcedureValue, Tree, Val, array_in, plain}
 use Rattle.sim_sound.specs.Typed.{ArrayOf}
-use Rattle.sim_sound.proofs.Sound.{AllArrays, ArrayFine, ElementFine, HandsFine, Kinds, ValFine, Value, integers}
+use Rattle.sim_sound.proofs.Sound.{AllArrays, ArrayFine, CopyFine, ElementFine, HandsFine, Hidden, Kinds, Open, Sight, ValFine, Value, integers, see}
+use Rattle.sim_sound.proofs.Changes.{more}
 use Rattle.sim_sound.proofs.Lifts.{Goes, any_popped, computed, had, integers_popped, ran, took}
 use Rattle.sim_sound.proofs.Lists.{append_at}
 
@@ -92,35 +93,49 @@ initial_is kind.Character = refl
 initial_is kind.Text = refl
 initial_is kind.Reference = refl
 
-pub added_fine : (o : AllArrays) (j : ℕ) (k : Kind) (x : OneArray) → x.owner ≡ j → x.given_back ≡ false → ((i : ℕ) (p : Plain) → slice_get x.elements i ≡ Some p → kind_of p ≡ k) → length x.elements ≡ element_count x.bounds → ArrayFine (o ++ x ∷ []) j k (length o)
-added_fine o j k x own back kinds count = record {
+-- a new array of an instance
+pub record NewArray (j : ℕ) (k : Kind) (x : OneArray) : Type 0 where
+  pub owned : x.owner ≡ j
+  pub back : x.given_back ≡ false
+  pub kinds : (i : ℕ) (p : Plain) → slice_get x.elements i ≡ Some p → kind_of p ≡ k
+  pub count : length x.elements ≡ element_count x.bounds
+
+lives_if : (x : OneArray) (b : Bool) → b ≡ false → (if b then None else Some x) ≡ Some x
+lives_if x true e = absurd (cc)
+lives_if x false e = refl
+
+sight_at : (o : AllArrays) (z : Sight) (x : OneArray) → length o.sights ≡ length o.real → slice_get (more o z x).sights (length o.real) ≡ Some z
+sight_at o z x e = ap (slice_get (o.sights ++ z ∷ [])) (sym e) ∙ append_at o.sights z
+
+pub added_fine : (o : AllArrays) (j : ℕ) (k : Kind) (x : OneArray) → length o.sights ≡ length o.real → NewArray j k x → ArrayFine (more o Open x) j k (length o.real)
+added_fine o j k x e f = record {
   it = x;
-  lives = ap unless_given (append_at o x) ∙ lives_if x.given_back back;
-  owned = omega (arith, own);
-  kinds = kinds;
-  count = count;
+  lives = ap unless_given (append_at o.real x) ∙ lives_if x x.given_back f.back;
+  known = sight_at o Open x e;
+  owned = (let own = f.owned in omega (arith, own));
+  kinds = f.kinds;
+  count = f.count;
 }
-  where
-    lives_if : (b : Bool) → b ≡ false → (if b then None else Some x) ≡ Some x
-    lives_if true e = absurd (cc)
-    lives_if false e = refl
+
+pub copied_fine : (o : AllArrays) (j d : ℕ) (k : Kind) (x : OneArray) → length o.sights ≡ length o.real → NewArray j k x → CopyFine (more o (Hidden j d) x) j d k (length o.real)
+copied_fine o j d k x e f = record { it = x; lives = ap unless_given (append_at o.real x) ∙ lives_if x x.given_back f.back; hidden = sight_at o (Hidden j d) x e; owned = f.owned; kinds = f.kinds; count = f.count }
 
 module _ {S : Type 0} (P : World → S → Type 0) where
-  pub made_array : (l : Limits) (line owner : ℕ) (k : Kind) (bounds : List (ℤ × ℤ)) (o : World) (f : ℕ → World → Run S) → ((t w : ℕ) (x : OneArray) → ArrayFine (o.arrays ++ x ∷ []) owner k (length o.arrays) → Goes P (f (length o.arrays) (added (ran o t w) x))) → Goes P (making_array l line owner k bounds o f)
+  pub made_array : (l : Limits) (line owner : ℕ) (k : Kind) (bounds : List (ℤ × ℤ)) (o : World) (f : ℕ → World → Run S) → ((t w : ℕ) (x : OneArray) → NewArray owner k x → Goes P (f (length o.arrays) (added (ran o t w) x))) → Goes P (making_array l line owner k bounds o f)
   unfolding making_array
   made_array l line owner k bounds o f go =
       let x : OneArray = record { bounds = bounds; elements = replicate (element_count bounds) (initial k); owner = owner; kept = false; given_back = false } in
       computed P line (array_words bounds) o (λ wanted. taking l line wanted o (λ p. f (length p.arrays) (added p x))) (λ wanted e.
       took P l line wanted o (λ p. f (length p.arrays) (added p x)) (λ t w.
-      go t w x (added_fine o.arrays owner k x refl refl (all_same (element_count bounds) (initial k) k (initial_is k)) (as_long (element_count bounds) (initial k)))))
+      go t w x (record { owned = refl; back = refl; kinds = all_same (element_count bounds) (initial k) k (initial_is k); count = as_long (element_count bounds) (initial k) })))
 
-  pub copied_array : (l : Limits) (line owner : ℕ) (k : Kind) (array : ℕ) (o : World) (f : ℕ → World → Run S) → ArrayFine o.arrays owner k array → ((t w : ℕ) (x : OneArray) → ArrayFine (o.arrays ++ x ∷ []) owner k (length o.arrays) → Goes P (f (length o.arrays) (added (ran o t w) x))) → Goes P (copying_array l line owner array o f)
+  pub copied_array : (l : Limits) (line owner : ℕ) (k : Kind) (array : ℕ) (o : World) (g : List Sight) (f : ℕ → World → Run S) → ArrayFine (see g o) owner k array → ((t w : ℕ) (x : OneArray) → NewArray owner k x → Goes P (f (length o.arrays) (added (ran o t w) x))) → Goes P (copying_array l line owner array o f)
   unfolding copying_array
-  copied_array l line owner k array o f h go =
+  copied_array l line owner k array o g f h go =
       let x : OneArray = record { bounds = (h.it).bounds; elements = (h.it).elements; owner = owner; kept = false; given_back = false } in
       had P (live_array o array) h.it o (λ a. taking l line (words_of_array a) o (λ p. f (length p.arrays) (added p (record { bounds = a.bounds; elements = a.elements; owner = owner; kept = false; given_back = false })))) h.lives (
       took P l line (words_of_array h.it) o (λ p. f (length p.arrays) (added p x)) (λ t w.
-      go t w x (added_fine o.arrays owner k x refl refl h.kinds h.count)))
+      go t w x (record { owned = refl; back = refl; kinds = h.kinds; count = h.count })))
 
   -- the array in hand
   pub array_is : (a : AllArrays) (j : ℕ) (k : Kind) (v : Val) (o : World) (f : ℕ → Run S) → ValFine a j (ArrayOf k) v → ((n : ℕ) → ArrayFine a j k n → v ≡ ArrayValue n → Goes P (f n)) → Goes P (having (array_in v) o f)
@@ -131,12 +146,12 @@ module _ {S : Type 0} (P : World → S → Type 0) where
   array_is a j k (ProcedureValue t i) o f h x = absurd h
   array_is a j k (Tree t) o f h x = absurd h
 
-  pub found_element : (s : Source) (m : Instances) (j : ℕ) (k : Kind) (n line : ℕ) (left : List Kinds) (vals : List Val) (o : World) (f : ℕ → ℕ → List Val → Run S) → HandsFine s o.arrays m j (integers n (Value (ArrayOf k) ∷ left)) vals → ((array index : ℕ) (rest : List Val) → ElementFine o.arrays j k array index → HandsFine s o.arrays m j left rest → Goes P (f array index rest)) → Goes P (finding_element plain array_in n line vals o f)
+  pub found_element : (s : Source) (m : Instances) (j : ℕ) (k : Kind) (n line : ℕ) (left : List Kinds) (vals : List Val) (o : World) (g : List Sight) (f : ℕ → ℕ → List Val → Run S) → HandsFine s (see g o) m j (integers n (Value (ArrayOf k) ∷ left)) vals → ((array index : ℕ) (rest : List Val) → ElementFine (see g o) j k array index → HandsFine s (see g o) m j left rest → Goes P (f array index rest)) → Goes P (finding_element plain array_in n line vals o f)
   unfolding finding_element
-  found_element s m j k n line left vals o f h go =
-      integers_popped P s o.arrays m j n (Value (ArrayOf k) ∷ left) [] vals o (λ subscripts rest. popping rest o (λ v rest. having (array_in v) o (λ array. having (live_array o array) o (λ a. computing line (element_place a.bounds subscripts) o (λ index. f array index rest))))) h (λ zs rest more.
-      any_popped P s o.arrays m j (Value (ArrayOf k)) left rest o (λ v rest. having (array_in v) o (λ array. having (live_array o array) o (λ a. computing line (element_place a.bounds zs) o (λ index. f array index rest)))) more (λ v rest is here most.
-      array_is o.arrays j k v o (λ array. having (live_array o array) o (λ a. computing line (element_place a.bounds zs) o (λ index. f array index rest))) here (λ array fine same.
+  found_element s m j k n line left vals o g f h go =
+      integers_popped P s (see g o) m j n (Value (ArrayOf k) ∷ left) [] vals o (λ subscripts rest. popping rest o (λ v rest. having (array_in v) o (λ array. having (live_array o array) o (λ a. computing line (element_place a.bounds subscripts) o (λ index. f array index rest))))) h (λ zs rest more.
+      any_popped P s (see g o) m j (Value (ArrayOf k)) left rest o (λ v rest. having (array_in v) o (λ array. having (live_array o array) o (λ a. computing line (element_place a.bounds zs) o (λ index. f array index rest)))) more (λ v rest is here most.
+      array_is (see g o) j k v o (λ array. having (live_array o array) o (λ a. computing line (element_place a.bounds zs) o (λ index. f array index rest))) here (λ array fine same.
       had P (live_array o array) fine.it o (λ a. computing line (element_place a.bounds zs) o (λ index. f array index rest)) fine.lives (
       computed P line (element_place (fine.it).bounds zs) o (λ index. f array index rest) (λ index e.
       go array index rest (record { array = fine; there = subst (λ x. index < x) (sym fine.count) (place_there (fine.it).bounds zs index e) }) most)))))

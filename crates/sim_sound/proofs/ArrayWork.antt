@@ -62,7 +62,7 @@ module _ (s : Source) (ok : Typed s) (o : AllArrays) (m : Instances) (j k : ℕ)
         (
           d ∷ arrays_named s xs more,
           Value (ArrayOf kd) ∷ [],
-          (kd, [], refl, refl, refl),
+          (kd, [], Value (ArrayOf kd), refl, refl, refl, refl),
           stored_work d kd (arrays_named s xs more) (further_arrays s j f xs w) (a.0).holds (all d (rw (a.0).at first) (ArrayOf kd) (a.0).holds) behind,
         ),
       ))

@@ -1,15 +1,16 @@
 -- Left sides and what is assigned to them.
 use Rattle.std.proofs.Common.{◌≡◌, ℕ, List, [], ◌∷◌, ◌++◌, reverse, Option, Some, refl, sym, ap, ◌∙◌, subst}
 use Rattle.std.proofs.lemmas.List.{reverse-append}
-use Rattle.sim_scope.specs.Source.{Source}
-use Rattle.sim_tree.specs.Syntax.{Expression}
+use Rattle.sim_scope.specs.Source.{Source, line_at}
+use Rattle.sim_scope.specs.Assignments.{LeftSide}
 use Rattle.sim_values.specs.declared.kind.Kind.{Kind}
-use Rattle.sim_meaning.specs.Closing.{Left, LeftAddress, LeftCell, LeftUnbuilt, close_left}
-use Rattle.sim_meaning.specs.Pending.{Do, Eval, Instances, Item, Target, ToAddress, ToCell}
+use Rattle.sim_values.specs.declared.kind.Kind.TheVariants as kind
+use Rattle.sim_meaning.specs.Closing.{Left, LeftAddress, LeftCell, LeftText, LeftUnbuilt, close_left, is_text}
+use Rattle.sim_meaning.specs.Pending.{Do, Eval, Instances, Item, Target, ToAddress, ToCell, ToText, ToTextOf}
 use Rattle.sim_meaning.specs.Statements.{Lefts, assigning, lefts}
 use Rattle.sim_meaning.specs.Statements as statements
 use Rattle.sim_sound.specs.Typed.{LeftsAre, Simply, Typed}
-use Rattle.sim_sound.proofs.Sound.{AddressOf, AllArrays, Kinds, OpFine, TargetFine, TargetsFine, Value, Whole, WorkFine, value_stored}
+use Rattle.sim_sound.proofs.Sound.{AddressOf, AllArrays, Kinds, OpFine, TargetFine, TargetsFine, Value, Whole, WorkFine, simple, value_stored}
 use Rattle.sim_sound.proofs.Lefts.{LeftFine, left_fine}
 
 reverse_first : {A : Type 0} (x : A) (xs : List A) → reverse (x ∷ xs) ≡ reverse xs ++ x ∷ []
@@ -20,6 +21,8 @@ module _ (s : Source) (ok : Typed s) (o : AllArrays) (m : Instances) (i t : ℕ)
   abbrev pub address : Target → List Kinds → List Kinds
   address (ToCell j key) ks = ks
   address ToAddress ks = AddressOf k ∷ ks
+  address (ToText line) ks = Value (Simply kind.Text) ∷ ks
+  address (ToTextOf j key line) ks = Value (Simply kind.Text) ∷ ks
 
   abbrev pub addresses : List Target → List Kinds → List Kinds
   addresses [] ks = ks
@@ -38,13 +41,16 @@ module _ (s : Source) (ok : Typed s) (o : AllArrays) (m : Instances) (i t : ℕ)
   shared (x ∷ xs) ks a = subst (λ z. TargetsFine s o m i z k (addresses xs (address x ks)) ks) (sym (reverse_first x xs)) (targets_append (reverse xs) x (addresses xs (address x ks)) (address x ks) ks (shared xs (address x ks) a.1) (a.0 ks))
 
   -- what is found of left sides
-  pub record Found (es : List Expression) : Type 0 where
+  pub record Found (es : List LeftSide) : Type 0 where
     pub is : Lefts
     pub found : lefts s m i es ≡ Some is
     pub each : EachFine is.targets
     pub works : (w : List Item) (ks : List Kinds) → WorkFine s o m Below i t w [] (addresses is.targets ks) → WorkFine s o m Below i t (is.work ++ w) [] ks
 
-  before_is : (x : Left) (es : List Expression) (e : Expression) → close_left s m i e ≡ x → LeftFine s ok o m i t whole x k → Found es → Found (e ∷ es)
+  abbrev closed : LeftSide → Left
+  closed e = close_left s m i e.sign (line_at s e.token) e.target
+
+  before_is : (x : Left) (es : List LeftSide) (e : LeftSide) → closed e ≡ x → LeftFine s ok o m i t whole x k → Found es → Found (e ∷ es)
   before_is (LeftCell j key) es e is a f = record {
     is = record { work = (f.is).work; targets = ToCell j key ∷ (f.is).targets };
     found = ap (λ z. statements.before z (lefts s m i es)) is ∙ ap (statements.before (LeftCell j key)) f.found;
@@ -57,11 +63,17 @@ module _ (s : Source) (ok : Typed s) (o : AllArrays) (m : Instances) (i t : ℕ)
     each = (λ ks. refl, f.each);
     works = λ w ks h. ([], AddressOf k ∷ ks, (Some (AddressOf k), a, refl, refl), f.works w (AddressOf k ∷ ks) h);
   }
+  before_is (LeftText line x) es e is a f = record {
+    is = record { work = Do (Eval x) ∷ (f.is).work; targets = ToText line ∷ (f.is).targets };
+    found = ap (λ z. statements.before z (lefts s m i es)) is ∙ ap (statements.before (LeftText line x)) f.found;
+    each = (λ ks. (a.0, refl), f.each);
+    works = λ w ks h. ([], Value (Simply kind.Text) ∷ ks, (simple kind.Text, a.1, refl, refl), f.works w (Value (Simply kind.Text) ∷ ks) h);
+  }
   before_is LeftUnbuilt es e is a f = absurd a
 
-  pub lefts_found : (es : List Expression) → LeftsAre s t es k → Found es
+  pub lefts_found : (es : List LeftSide) → LeftsAre s t es k → Found es
   lefts_found [] a = record { is = record { work = []; targets = [] }; found = refl; each = tt; works = λ w ks h. h }
-  lefts_found (e ∷ es) a = before_is (close_left s m i e) es e refl (left_fine s ok o m i t whole e k a.0) (lefts_found es a.1)
+  lefts_found (e ∷ es) a = before_is (closed e) es e refl (left_fine s ok o m i t whole (is_text s e.target) e.sign (line_at s e.token) e.target k a.0) (lefts_found es a.1)
 
   -- the value is in hand, on top of the addresses
   pub assigning_fine : (xs : List Target) (ks : List Kinds) → EachFine xs → OpFine s o m i t (assigning xs) [] [] (Value (Simply k) ∷ addresses xs ks) ks

@@ -7,13 +7,13 @@ use Rattle.sim_code.specs.Instances.{Instance, live}
 use Rattle.sim_meaning.specs.Pending.{ArrayValue, Connection, Declared, Held, Instances, Key, Of, Result, Val, cell, cell_set, held, held_set}
 use Rattle.sim_meaning.specs.Texts.{BlockText, ClassText, ConnectionText, PrefixedText, ProcedureText, Text, text}
 use Rattle.sim_sound.specs.Typed.{Among, ArrayOf, Holds, Simply, key_holds, result_holds}
-use Rattle.sim_sound.proofs.Sound.{AllArrays, Begun, CellIs, KeyAmong, Made, Own, ValFine, in_whole, keys_in, own_made}
+use Rattle.sim_sound.proofs.Sound.{AllArrays, Begun, CellIs, CellTarget, KeyAmong, Made, Own, ValFine, in_whole, keys_in, own_made}
 use Rattle.sim_sound.proofs.Changes.{held_fine, held_plain, set_there}
 use Rattle.sim_code.specs.Instances as instances
 
 pub val_up : (o : AllArrays) (j i : ℕ) → j ≤ i → (h : Holds) (v : Val) → ValFine o j h v → ValFine o i h v
 val_up o j i le (Simply k) (Of p) a = a
-val_up o j i le (ArrayOf k) (ArrayValue n) a = record { it = a.it; lives = a.lives; owned = (let w = a.owned in omega (arith, w, le)); kinds = a.kinds; count = a.count }
+val_up o j i le (ArrayOf k) (ArrayValue n) a = record { it = a.it; lives = a.lives; known = a.known; owned = (let w = a.owned in omega (arith, w, le)); kinds = a.kinds; count = a.count }
 val_up o j i le (Simply k) _ a = absurd a
 val_up o j i le (ArrayOf k) _ a = absurd a
 
@@ -64,6 +64,9 @@ cell_found s o m i t todo e key h b (in_whole {u = u} le w is there) =
 cell_found s o m i t todo e key h b (own_made {d = d} same name is there not) =
     let x = own_cell s o m i t todo b.now key h b.own b.made (λ c f a. not (same_among d c key todo name f a)) is there in
     (x.0, ap (λ z. cell m z key) same ∙ x.1, x.2)
+
+pub target_cell : (s : Source) (o : AllArrays) (m : Instances) (i j : ℕ) (key : Key) (k : Kind) → CellTarget s o m i j key k → (v : Val) × (cell m j key ≡ Some v) × ValFine o j (Simply k) v
+target_cell s o m i j key k c = own_cell s o m j c.around [] (c.whole).now key (Simply k) (c.whole).own (c.whole).made (λ d f a. none_among d a) c.holds c.there
 
 -- ---- a cell is set
 

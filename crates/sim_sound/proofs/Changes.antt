@@ -1,18 +1,18 @@
 -- What a step makes of arrays and instances keeps what is fine.
-use Rattle.std.proofs.Common.{◌≡◌, ◌≢◌, ◌<◌, ◌≤◌, ℕ, zero, suc, Bool, true, false, List, [], ◌∷◌, ◌++◌, length, map, Option, Some, None, ◌⊎◌, inl, inr, ⊎_elim, refl, sym, ap, ◌∙◌, subst}
+use Rattle.std.proofs.Common.{◌≡◌, ◌≢◌, ◌<◌, ◌≤◌, ℕ, zero, suc, Bool, true, false, List, [], ◌∷◌, ◌++◌, length, map, Option, Some, None, ◌⊎◌, inl, inr, ⊎_elim, refl, sym, ap, ◌∙◌, subst, arith}
 use Rattle.std.proofs.lemmas.Bool.{cases_eq}
 use Rattle.std.specs.Prelude.{if◌then◌else◌, slice_get, slice_set}
 use Rattle.sim_scope.specs.Source.{Source}
 use Rattle.sim_values.specs.declared.kind.Kind.{Kind}
 use Rattle.sim_values.specs.Plain.{Plain, kind_of}
-use Rattle.sim_code.specs.Outcome.{ArrayOf as OneArray}
-use Rattle.sim_code.specs.Arrays.{unless_given}
+use Rattle.sim_code.specs.Outcome.{ArrayOf as OneArray, World}
+use Rattle.sim_code.specs.Arrays.{owned_by, unless_given, with_array}
 use Rattle.sim_code.specs.Instances.{Instance}
 use Rattle.sim_meaning.specs.Pending.{Activation, ArrayValue, Declared, Held, Instances, Key, Of, Val, before, held, held_set, same_key}
 use Rattle.sim_meaning.specs.Pending as meaning
 use Rattle.sim_sound.specs.Typed.{ArrayOf, Holds, Simply, key_holds}
-use Rattle.sim_sound.proofs.Sound.{AllArrays, ArrayFine, CellFine, CellsFine, ElementFine, KeyAmong, Own, ValFine, first_key, key_of, later_key}
-use Rattle.sim_sound.proofs.Later.{Later}
+use Rattle.sim_sound.proofs.Sound.{AllArrays, ArrayFine, CellFine, CellsFine, CopyFine, ElementFine, Hidden, KeyAmong, Open, Own, Sight, ValFine, first_key, key_of, later_key, see}
+use Rattle.sim_sound.proofs.Later.{Copies, Later}
 use Rattle.sim_sound.proofs.Lists.{append_at, append_before, equal_numbers, if_false, if_true, no_some, numbers_equal, other_numbers, same_some, set_len, set_other, set_same}
 
 -- ---- arrays alone
@@ -44,17 +44,28 @@ arrays_later s o o' m bound f g = record {
 }
 
 -- one array more
-more_lives : (o : AllArrays) (x : OneArray) (a : ℕ) (it : OneArray) → unless_given (slice_get o a) ≡ Some it → unless_given (slice_get (o ++ x ∷ []) a) ≡ Some it
+more_lives : (o : List OneArray) (x : OneArray) (a : ℕ) (it : OneArray) → unless_given (slice_get o a) ≡ Some it → unless_given (slice_get (o ++ x ∷ []) a) ≡ Some it
 more_lives [] x a it e = absurd (cc)
 more_lives (y ∷ o) x zero it e = e
 more_lives (y ∷ o) x (suc a) it e = more_lives o x a it e
 
-array_more : (o : AllArrays) (x : OneArray) (j : ℕ) (k : Kind) (a : ℕ) → ArrayFine o j k a → ArrayFine (o ++ x ∷ []) j k a
-array_more o x j k a f = record { it = f.it; lives = more_lives o x a f.it f.lives; owned = f.owned; kinds = f.kinds; count = f.count }
+get_more : (xs : List Sight) (x : Sight) (n : ℕ) (y : Sight) → slice_get xs n ≡ Some y → slice_get (xs ++ x ∷ []) n ≡ Some y
+get_more [] x n y e = absurd (cc)
+get_more (z ∷ xs) x zero y e = e
+get_more (z ∷ xs) x (suc n) y e = get_more xs x n y e
 
-pub later_array : (s : Source) (o : AllArrays) (m : Instances) (x : OneArray) (bound : ℕ) → Later s o m (o ++ x ∷ []) m bound
+abbrev pub more : AllArrays → Sight → OneArray → AllArrays
+more o z x = record { sights = o.sights ++ z ∷ []; real = o.real ++ x ∷ [] }
+
+array_more : (o : AllArrays) (z : Sight) (x : OneArray) (j : ℕ) (k : Kind) (a : ℕ) → ArrayFine o j k a → ArrayFine (more o z x) j k a
+array_more o z x j k a f = record { it = f.it; lives = more_lives o.real x a f.it f.lives; known = get_more o.sights z a Open f.known; owned = f.owned; kinds = f.kinds; count = f.count }
+
+pub later_array : (s : Source) (o : AllArrays) (m : Instances) (z : Sight) (x : OneArray) (bound : ℕ) → Later s o m (more o z x) m bound
 unfolding array_more
-later_array s o m x bound = arrays_later s o (o ++ x ∷ []) m bound (λ j k a lt f. array_more o x j k a f) (λ j k a n lt f. record { array = array_more o x j k a f.array; there = f.there })
+later_array s o m z x bound = arrays_later s o (more o z x) m bound (λ j k a lt f. array_more o z x j k a f) (λ j k a n lt f. record { array = array_more o z x j k a f.array; there = f.there })
+
+pub copies_array : (o : AllArrays) (z : Sight) (x : OneArray) (j d : ℕ) → Copies o (more o z x) j d
+copies_array o z x j d e k a lt f = record { it = f.it; lives = more_lives o.real x a f.it f.lives; hidden = get_more o.sights z a (Hidden j e) f.hidden; owned = f.owned; kinds = f.kinds; count = f.count }
 
 -- the array of a number, if it was not given back
 array_if : (z it : OneArray) (b : Bool) → z.given_back ≡ b → (if b then None else Some z) ≡ Some it → (z ≡ it) × (z.given_back ≡ false)
@@ -68,6 +79,9 @@ array_there (Some z) it h = let x = array_if z it z.given_back refl h in (ap Som
 array_lives : (o : Option OneArray) (it : OneArray) → o ≡ Some it → it.given_back ≡ false → unless_given o ≡ Some it
 array_lives o it e f = ap unless_given e ∙ if_false it.given_back None (Some it) f
 
+sights_differ : (g : List Sight) (a b j d : ℕ) → a ≡ b → slice_get g a ≡ Some (Hidden j d) → slice_get g b ≡ Some Open → ⊥
+sights_differ g a b j d same e f = let h : Hidden j d ≡ Open = same_some (slice_get g b) (Hidden j d) Open (subst (λ z. slice_get g z ≡ Some (Hidden j d)) same e) f in cc
+
 -- another value of an element, of the same kind
 module _ (o : AllArrays) (j0 : ℕ) (k0 : Kind) (a0 i : ℕ) (v : Plain) (at : ElementFine o j0 k0 a0 i) (is : kind_of v ≡ k0) where
   abbrev old : OneArray
@@ -77,7 +91,7 @@ module _ (o : AllArrays) (j0 : ℕ) (k0 : Kind) (a0 i : ℕ) (v : Plain) (at : E
   new = record old { elements = slice_set old.elements i v }
 
   abbrev pub changed : AllArrays
-  changed = slice_set o a0 new
+  changed = record o { real = slice_set o.real a0 new }
 
   pub old_value : (p : Plain) × (slice_get old.elements i ≡ Some p)
   old_value = Rattle.sim_sound.proofs.Lists.there_get old.elements i at.there
@@ -97,12 +111,13 @@ module _ (o : AllArrays) (j0 : ℕ) (k0 : Kind) (a0 i : ℕ) (v : Plain) (at : E
     where
       here : a ≡ a0 → (y : ArrayFine changed j k a) × (n < length (f.it).elements → n < length (y.it).elements)
       here same =
-          let w = array_there (slice_get o a0) old (at.array).lives in
-          let is_old : f.it ≡ old = same_some (unless_given (slice_get o a)) f.it old f.lives (ap (λ x. unless_given (slice_get o x)) same ∙ (at.array).lives) in
+          let w = array_there (slice_get o.real a0) old (at.array).lives in
+          let is_old : f.it ≡ old = same_some (unless_given (slice_get o.real a)) f.it old f.lives (ap (λ x. unless_given (slice_get o.real x)) same ∙ (at.array).lives) in
           let len : length new.elements ≡ length old.elements = set_len old.elements i v in (
             record {
               it = new;
-              lives = array_lives (slice_get changed a) new (ap (slice_get changed) same ∙ set_same o a0 old new w.0) w.1;
+              lives = array_lives (slice_get changed.real a) new (ap (slice_get changed.real) same ∙ set_same o.real a0 old new w.0) w.1;
+              known = f.known;
               owned = subst (λ x. x.owner ≤ j) is_old f.owned;
               kinds = new_kinds k (subst (λ x. (q : ℕ) (p : Plain) → slice_get x.elements q ≡ Some p → kind_of p ≡ k) is_old f.kinds);
               count = len ∙ (at.array).count;
@@ -111,10 +126,58 @@ module _ (o : AllArrays) (j0 : ℕ) (k0 : Kind) (a0 i : ℕ) (v : Plain) (at : E
           )
 
       other : a ≢ a0 → (y : ArrayFine changed j k a) × (n < length (f.it).elements → n < length (y.it).elements)
-      other differ = (record { it = f.it; lives = ap unless_given (set_other o a0 a new differ) ∙ f.lives; owned = f.owned; kinds = f.kinds; count = f.count }, λ lt. lt)
+      other differ = (record { it = f.it; lives = ap unless_given (set_other o.real a0 a new differ) ∙ f.lives; known = f.known; owned = f.owned; kinds = f.kinds; count = f.count }, λ lt. lt)
 
   pub later_element : (s : Source) (m : Instances) (bound : ℕ) → Later s o m changed m bound
   later_element s m bound = arrays_later s o changed m bound (λ j k a lt f. (element_array j k a 0 f).0) (λ j k a n lt f. let y = element_array j k a n f.array in record { array = y.0; there = y.1 f.there })
+
+  pub copies_element : (j d : ℕ) → Copies o changed j d
+  copies_element j d e k a lt f =
+      let differ : a ≢ a0 = λ same. sights_differ o.sights a a0 j e same f.hidden (at.array).known in
+      record { it = f.it; lives = ap unless_given (set_other o.real a0 a new differ) ∙ f.lives; hidden = f.hidden; owned = f.owned; kinds = f.kinds; count = f.count }
+
+-- ---- a copy goes over to an instance
+
+module _ (o : World) (g : List Sight) (i d : ℕ) (k0 : Kind) (a0 : ℕ) (copy : CopyFine (see g o) i d k0 a0) (n : ℕ) where
+  abbrev moved : OneArray
+  moved = record copy.it { owner = n }
+
+  abbrev pub handed_sights : List Sight
+  handed_sights = slice_set g a0 Open
+
+  abbrev pub handed_world : World
+  handed_world = with_array o a0 moved
+
+  abbrev Now : AllArrays
+  Now = see handed_sights handed_world
+
+  pub handed_is : owned_by n (slice_get o.arrays a0) o a0 ≡ handed_world
+  handed_is = ap (λ x. owned_by n x o a0) (array_there (slice_get o.arrays a0) copy.it copy.lives).0
+
+  pub handed_long : length g ≡ length o.arrays → length handed_sights ≡ length handed_world.arrays
+  handed_long e = set_len g a0 Open ∙ e ∙ sym (set_len o.arrays a0 moved)
+
+  handed_array : (j : ℕ) (k : Kind) (a : ℕ) → ArrayFine (see g o) j k a → ArrayFine Now j k a
+  handed_array j k a f =
+      let differ : a ≢ a0 = λ same. sights_differ g a0 a i d (sym same) copy.hidden f.known in
+      record { it = f.it; lives = ap unless_given (set_other o.arrays a0 a moved differ) ∙ f.lives; known = set_other g a0 a Open differ ∙ f.known; owned = f.owned; kinds = f.kinds; count = f.count }
+
+  pub handed_later : (s : Source) (m : Instances) (bound : ℕ) → Later s (see g o) m Now m bound
+  unfolding handed_array
+  handed_later s m bound = arrays_later s (see g o) Now m bound (λ j k a lt f. handed_array j k a f) (λ j k a n lt f. record { array = handed_array j k a f.array; there = f.there })
+
+  pub handed_copy : (j e : ℕ) (k : Kind) (a : ℕ) → (j ≡ i → e ≢ d) → CopyFine (see g o) j e k a → CopyFine Now j e k a
+  handed_copy j e k a apart f =
+      let differ : a ≢ a0 = λ same. hidden_apart (same_some (slice_get g a0) (Hidden j e) (Hidden i d) (subst (λ z. slice_get g z ≡ Some (Hidden j e)) same f.hidden) copy.hidden) apart in
+      record { it = f.it; lives = ap unless_given (set_other o.arrays a0 a moved differ) ∙ f.lives; hidden = set_other g a0 a Open differ ∙ f.hidden; owned = f.owned; kinds = f.kinds; count = f.count }
+    where
+      hidden_apart : Hidden j e ≡ Hidden i d → (j ≡ i → e ≢ d) → ⊥
+      hidden_apart same apart = let x : j ≡ i = cc in let y : e ≡ d = cc in apart x y
+
+  pub handed_over_array : ArrayFine Now n k0 a0
+  handed_over_array =
+      let w = array_there (slice_get o.arrays a0) copy.it copy.lives in
+      record { it = moved; lives = array_lives (slice_get (slice_set o.arrays a0 moved) a0) moved (set_same o.arrays a0 copy.it moved w.0) w.1; known = set_same g a0 (Hidden i d) Open copy.hidden; owned = omega arith; kinds = copy.kinds; count = copy.count }
 
 -- ---- cells
 

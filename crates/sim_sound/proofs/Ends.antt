@@ -1,5 +1,5 @@
 -- An instance ends, and the one below goes on.
-use Rattle.std.proofs.Common.{◌≡◌, ℕ, ◌<◌, Bool, true, false, List, [], ◌∷◌, length, Option, Some, None, ap, subst, arith}
+use Rattle.std.proofs.Common.{◌≡◌, ℕ, ◌<◌, Bool, true, false, List, [], ◌∷◌, length, Option, Some, None, sym, ap, ◌∙◌, subst, arith}
 use Rattle.sim_base.specs.declared.limits.Limits.{Limits}
 use Rattle.sim_base.specs.declared.numbering.DeclNo.{DeclNo}
 use Rattle.sim_scope.specs.Source.{Source}
@@ -15,37 +15,40 @@ use Rattle.sim_sound.proofs.Cells.{own_cell}
 use Rattle.sim_sound.proofs.Evals.{IsFine}
 use Rattle.sim_sound.proofs.Later.{chain_later}
 use Rattle.sim_sound.proofs.Lifts.{Goes, had}
-use Rattle.sim_sound.proofs.Moves.{later_left, left_len}
+use Rattle.sim_sound.proofs.Moves.{copies_left, later_left, left_len, world_len}
 use Rattle.sim_sound.proofs.Reach.{key_of_result}
-use Rattle.sim_sound.proofs.Sound.{Begun, ChainFine, Fine, HandsFine, Kinds, ValFine, Value, given, held_kinds, runs}
+use Rattle.sim_sound.proofs.Sound.{Begun, ChainFine, HandsFine, Kinds, Sight, ValFine, Value, given, held_kinds, runs, see}
 
-module _ (s : Source) (ok : Typed s) (l : Limits) (o : World) (m : Instances) (i t : ℕ) (lt : i < length m.instances) where
+module _ (s : Source) (ok : Typed s) (l : Limits) (o : World) (g : List Sight) (long : length g ≡ length o.arrays) (m : Instances) (i t : ℕ) (lt : i < length m.instances) where
   -- the value that is left, if there is one
   abbrev Left : Option Kinds → Option Val → Type 0
   Left None None = Unit {0}
-  Left (Some (Value (Simply k))) (Some v) = ValFine o.arrays i (Simply k) v
+  Left (Some (Value (Simply k))) (Some v) = ValFine (see g o) i (Simply k) v
   Left _ _ = ⊥
 
-  plain_anywhere : (j : ℕ) (k : Kind) (v : Val) → ValFine o.arrays i (Simply k) v → ValFine (world_left s i o m).arrays j (Simply k) v
+  plain_anywhere : (j : ℕ) (k : Kind) (v : Val) → ValFine (see g o) i (Simply k) v → ValFine (see g (world_left s i o m)) j (Simply k) v
   plain_anywhere j k (Rattle.sim_meaning.specs.Pending.Of p) a = a
   plain_anywhere j k _ a = absurd a
 
-  pub leaves : (rest : List Activation) (waits : Option Kinds) (v : Option Val) → Left waits v → ChainFine s o.arrays m i rest waits → Goes (IsFine s) (leaving s rest v i o m)
+  pub leaves : (rest : List Activation) (waits : Option Kinds) (v : Option Val) → Left waits v → ChainFine s (see g o) m i rest waits → Goes (IsFine s) (leaving s rest v i o m)
   unfolding leaving
   leaves [] waits v f c = absurd c
   leaves (a ∷ rest) waits v f c =
-      let n = chain_later s o.arrays m (world_left s i o m).arrays (instances_left i m) i (later_left s o m i) (a ∷ rest) waits c in
-      runs (record {
-        before = (let less = n.before in let same = left_len m i in omega (arith, less, same, lt));
-        of_text = n.of_text;
-        todo = n.todo;
-        begun = n.begun;
-        kinds = given waits n.kinds;
-        hands = more waits v f n.kinds n.hands;
-        goes = n.goes;
-      })
+      let n = chain_later s (see g o) m (see g (world_left s i o m)) (instances_left i m) i (later_left s g o m i) (λ j d lt. copies_left s g o m i j d lt) (a ∷ rest) waits c in (
+        g,
+        long ∙ sym (world_len s o m i),
+        runs (record {
+          before = (let less = n.before in let same = left_len m i in omega (arith, less, same, lt));
+          of_text = n.of_text;
+          todo = n.todo;
+          begun = n.begun;
+          kinds = given waits n.kinds;
+          hands = more waits v f n.kinds n.hands;
+          goes = n.goes;
+        }),
+      )
     where
-      more : (waits : Option Kinds) (v : Option Val) → Left waits v → (ks : List Kinds) → HandsFine s (world_left s i o m).arrays (instances_left i m) a.instance ks a.values → HandsFine s (world_left s i o m).arrays (instances_left i m) a.instance (given waits ks) (with_any v a.values)
+      more : (waits : Option Kinds) (v : Option Val) → Left waits v → (ks : List Kinds) → HandsFine s (see g (world_left s i o m)) (instances_left i m) a.instance ks a.values → HandsFine s (see g (world_left s i o m)) (instances_left i m) a.instance (given waits ks) (with_any v a.values)
       more None None f ks h = h
       more None (Some v) f ks h = absurd f
       more (Some (Value (Simply k))) (Some v) f ks h = (plain_anywhere a.instance k v f, h)
@@ -53,13 +56,15 @@ module _ (s : Source) (ok : Typed s) (l : Limits) (o : World) (m : Instances) (i
       more (Some (Value (Rattle.sim_sound.specs.Typed.ArrayOf k))) v f ks h = absurd f
       more (Some (Rattle.sim_sound.proofs.Sound.AddressOf k)) v f ks h = absurd f
       more (Some (Rattle.sim_sound.proofs.Sound.LinkTo k)) v f ks h = absurd f
+      more (Some Rattle.sim_sound.proofs.Sound.ImageAddress) v f ks h = absurd f
+      more (Some (Rattle.sim_sound.proofs.Sound.Copied k)) v f ks h = absurd f
 
-  pub procedure_ends : (leaves' : Bool) (w : List Item) (vals : List Val) (rest : List Activation) (todo : List DeclNo) (result : Option TypeName) (heading : Heading) (body : Statement) → text s t ≡ Some (ProcedureText result heading body) → has_result result ≡ leaves' → Begun s o.arrays m i t todo → ChainFine s o.arrays m i rest (held_kinds (result_holds (text s t))) → Goes (IsFine s) (do_item s l o m i w vals rest (EndProcedure leaves'))
-  procedure_ends false w vals rest todo None heading body is e b c = leaves rest None None tt (subst (λ z. ChainFine s o.arrays m i rest (held_kinds (result_holds z))) is c)
+  pub procedure_ends : (leaves' : Bool) (w : List Item) (vals : List Val) (rest : List Activation) (todo : List DeclNo) (result : Option TypeName) (heading : Heading) (body : Statement) → text s t ≡ Some (ProcedureText result heading body) → has_result result ≡ leaves' → Begun s (see g o) m i t todo → ChainFine s (see g o) m i rest (held_kinds (result_holds (text s t))) → Goes (IsFine s) (do_item s l o m i w vals rest (EndProcedure leaves'))
+  procedure_ends false w vals rest todo None heading body is e b c = leaves rest None None tt (subst (λ z. ChainFine s (see g o) m i rest (held_kinds (result_holds z))) is c)
   procedure_ends true w vals rest todo None heading body is e b c = absurd (cc)
   procedure_ends false w vals rest todo (Some type) heading body is e b c = absurd (cc)
   procedure_ends true w vals rest todo (Some type) heading body is e b c =
       let holds : result_holds (text s t) ≡ Some (Simply (kind_named type)) = ap result_holds is in
-      let x = own_cell s o.arrays m i t todo b.now Result (Simply (kind_named type)) b.own b.made (λ d f. absurd (cc)) holds (key_of_result s ok t type heading body is) in
+      let x = own_cell s (see g o) m i t todo b.now Result (Simply (kind_named type)) b.own b.made (λ d f. absurd (cc)) holds (key_of_result s ok t type heading body is) in
       had (IsFine s) (cell m i Result) x.0 o (λ v. leaving s rest (Some v) i o m) x.1
-      (leaves rest (Some (Value (Simply (kind_named type)))) (Some x.0) x.2 (subst (λ z. ChainFine s o.arrays m i rest (held_kinds z)) holds c))
+      (leaves rest (Some (Value (Simply (kind_named type)))) (Some x.0) x.2 (subst (λ z. ChainFine s (see g o) m i rest (held_kinds z)) holds c))

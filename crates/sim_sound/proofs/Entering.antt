@@ -21,26 +21,27 @@ use Rattle.sim_meaning.specs.Texts.{BlockText, ProcedureText, Text, is_class_fre
 use Rattle.sim_sound.specs.Typed.{BlockTyped, ProcedureTyped, Typed, arrays_of_block, result_holds}
 use Rattle.sim_sound.proofs.ArrayWork.{block_arrays}
 use Rattle.sim_sound.proofs.Evals.{IsFine, Work}
-use Rattle.sim_sound.proofs.FirstCells.{ValsFine, all_taken, block_cells, block_key, formals_some, held_there, none_by_value, procedure_cells, taken, vals_up}
-use Rattle.sim_sound.proofs.Later.{begun_later, chain_later}
+use Rattle.sim_sound.proofs.FirstCells.{ActualsAre, all_taken, block_cells, block_key, formals_some, held_there, procedure_cells, taken}
+use Rattle.sim_sound.proofs.Handing.{hand_all, handed_same}
+use Rattle.sim_sound.proofs.Later.{begun_later, chain_later, hands_later, later_under, work_later}
 use Rattle.sim_sound.proofs.Lifts.{Goes, any_popped, enters, had, ran, whens}
 use Rattle.sim_sound.proofs.Lists.{append_at}
 use Rattle.sim_sound.proofs.Moves.{later_entered}
 use Rattle.sim_sound.proofs.Reach.{key_there}
-use Rattle.sim_sound.proofs.Sound.{Begun, CallOpFine, CellsFine, ChainFine, Enclosed, Fine, HandFine, HandsFine, KeyAmong, Kinds, LinkTo, Made, Own, Whole, WorkFine, alone, formal_kinds, given, held_kinds, key_of, keys_in, runs, within}
+use Rattle.sim_sound.proofs.Sound.{Begun, CallOpFine, CellsFine, ChainFine, Enclosed, Fine, HandFine, HandsFine, KeyAmong, Kinds, LinkTo, Made, Own, Sight, Whole, WorkFine, alone, formal_kinds, given, held_kinds, key_of, keys_in, runs, see, within}
 
 len_more : (xs : List (Instance (List Held))) (x : Instance (List Held)) → length (xs ++ x ∷ []) ≡ suc (length xs)
 len_more [] x = refl
 len_more (y ∷ xs) x = ap suc (len_more xs x)
 
-module _ (s : Source) (ok : Typed s) (o : World) (m : Instances) (k : ℕ) (e : Option ℕ) (cells : List Held) (x : Text) (is : text s k ≡ Some x) (keys : map key_of cells ≡ map key_of (first_cells s k x)) (fine : CellsFine s o.arrays (length m.instances) k cells) where
+module _ (s : Source) (ok : Typed s) (o : World) (sights : List Sight) (long : length sights ≡ length o.arrays) (m : Instances) (k : ℕ) (e : Option ℕ) (cells : List Held) (x : Text) (is : text s k ≡ Some x) (keys : map key_of cells ≡ map key_of (first_cells s k x)) (fine : CellsFine s (see sights o) (length m.instances) k cells) where
   abbrev pub made_new : Instance (List Held)
   made_new = new_instance s k e cells
 
   abbrev pub now : Instances
   now = entered m made_new (NoObject None)
 
-  own_new : Own s o.arrays now (length m.instances) k made_new
+  own_new : Own s (see sights o) now (length m.instances) k made_new
   own_new = record {
     lives = ap instances.unless_given (append_at m.instances made_new);
     of_text = refl;
@@ -51,32 +52,36 @@ module _ (s : Source) (ok : Typed s) (o : World) (m : Instances) (k : ℕ) (e : 
     cells = fine;
   }
 
-  pub begun_new : (todo : List DeclNo) → Made s k todo cells → Enclosed s o.arrays now (length m.instances) k made_new → Begun s o.arrays now (length m.instances) k todo
+  pub begun_new : (todo : List DeclNo) → Made s k todo cells → Enclosed s (see sights o) now (length m.instances) k made_new → Begun s (see sights o) now (length m.instances) k todo
   begun_new todo made out = record { now = made_new; own = own_new; made = made; out = out }
 
-  pub enters_fine : (todo : List DeclNo) (b : Begun s o.arrays now (length m.instances) k todo) (work : List Item) (rest : List Activation) → WorkFine s o.arrays now (λ v. ChainFine s o.arrays now (length m.instances) rest v) (length m.instances) k work todo [] → Fine s o.arrays (record { chain = record { instance = length m.instances; work = work; values = [] } ∷ rest; memory = now })
-  enters_fine todo b work rest w = runs (record { before = (let n = len_more m.instances made_new in omega (arith, n)); of_text = k; todo = todo; begun = b; kinds = []; hands = tt; goes = w })
+  pub enters_fine : (todo : List DeclNo) (b : Begun s (see sights o) now (length m.instances) k todo) (work : List Item) (rest : List Activation) → WorkFine s (see sights o) now (λ v. ChainFine s (see sights o) now (length m.instances) rest v) (length m.instances) k work todo [] → IsFine s o (record { chain = record { instance = length m.instances; work = work; values = [] } ∷ rest; memory = now })
+  enters_fine todo b work rest w = (sights, long, runs (record { before = (let n = len_more m.instances made_new in omega (arith, n)); of_text = k; todo = todo; begun = b; kinds = []; hands = tt; goes = w }))
 
   -- below it the chain stands as before
-  pub below_new : (chain : List Activation) (v : Option Kinds) → ChainFine s o.arrays m (length m.instances) chain v → ChainFine s o.arrays now (length m.instances) chain v
-  below_new chain v c = chain_later s o.arrays m o.arrays now (length m.instances) (later_entered s o.arrays m made_new (NoObject None)) chain v c
+  pub below_new : (chain : List Activation) (v : Option Kinds) → ChainFine s (see sights o) m (length m.instances) chain v → ChainFine s (see sights o) now (length m.instances) chain v
+  below_new chain v c = chain_later s (see sights o) m (see sights o) now (length m.instances) (later_entered s (see sights o) m made_new (NoObject None)) (λ j d lt e kd a less f. f) chain v c
 
-  pub inside_new : (out u : ℕ) → e ≡ Some out → encloser s.tables k ≡ Some u → out < length m.instances → Whole s o.arrays m out u → Enclosed s o.arrays now (length m.instances) k made_new
+  pub inside_new : (out u : ℕ) → e ≡ Some out → encloser s.tables k ≡ Some u → out < length m.instances → Whole s (see sights o) m out u → Enclosed s (see sights o) now (length m.instances) k made_new
   inside_new out u is_out is_in lt whole =
-      let w = begun_later s o.arrays m o.arrays now (length m.instances) (later_entered s o.arrays m made_new (NoObject None)) out u [] lt whole in
+      let w = begun_later s (see sights o) m (see sights o) now (length m.instances) (later_entered s (see sights o) m made_new (NoObject None)) out u [] lt whole in
       within is_out is_in lt w.own w.made w.out
+
+-- the arrays alone tell whether a configuration is fine
+same_arrays : {s : Source} (o p : World) (c : Configuration) → o.arrays ≡ p.arrays → IsFine s o c → IsFine s p c
+same_arrays {s = s} o p c e f = subst (λ z. (g : List Sight) × (length g ≡ length z) × Fine s (record { sights = g; real = z }) c) e f
 
 -- ---- blocks
 
-module _ (s : Source) (ok : Typed s) (o : World) (m : Instances) (k : ℕ) (e : Option ℕ) (begin : ℕ) (ds : Declarations) (ss : Statements) (is : text s k ≡ Some (BlockText begin ds ss)) where
+module _ (s : Source) (ok : Typed s) (o : World) (sights : List Sight) (long : length sights ≡ length o.arrays) (m : Instances) (k : ℕ) (e : Option ℕ) (begin : ℕ) (ds : Declarations) (ss : Statements) (is : text s k ≡ Some (BlockText begin ds ss)) where
   abbrev typed : BlockTyped s k ds ss
   typed = ok.texts k (BlockText begin ds ss) is
 
   abbrev cells : List Held
   cells = first_cells s k (BlockText begin ds ss)
 
-  cells_fine : CellsFine s o.arrays (length m.instances) k cells
-  cells_fine = block_cells s o.arrays (length m.instances) k begin ds ss (typed.no_formals)
+  cells_fine : CellsFine s (see sights o) (length m.instances) k cells
+  cells_fine = block_cells s (see sights o) (length m.instances) k begin ds ss (typed.no_formals)
 
   abbrev pub after : Instances
   after = entered m (new_instance s k e cells) (NoObject None)
@@ -84,36 +89,36 @@ module _ (s : Source) (ok : Typed s) (o : World) (m : Instances) (k : ℕ) (e : 
   block_made : Made s k (arrays_of_block s ds) cells
   block_made d kd holds there none = typed.made d kd (block_key s k begin ds ss d (subst (λ z. KeyAmong (Declared d.0) (keys_in s k z)) is there)) holds
 
-  pub block_begun : Enclosed s o.arrays after (length m.instances) k (new_instance s k e cells) → Begun s o.arrays after (length m.instances) k (arrays_of_block s ds)
-  block_begun out = begun_new s ok o m k e cells (BlockText begin ds ss) is refl cells_fine (arrays_of_block s ds) block_made out
+  pub block_begun : Enclosed s (see sights o) after (length m.instances) k (new_instance s k e cells) → Begun s (see sights o) after (length m.instances) k (arrays_of_block s ds)
+  block_begun out = begun_new s ok o sights long m k e cells (BlockText begin ds ss) is refl cells_fine (arrays_of_block s ds) block_made out
 
-  pub block_works : (out : Enclosed s o.arrays after (length m.instances) k (new_instance s k e cells)) (Below : Option Kinds → Type 0) (end : Item) → WorkFine s o.arrays after Below (length m.instances) k (end ∷ []) [] [] → WorkFine s o.arrays after Below (length m.instances) k (block_work s after (length m.instances) ds ss end) (arrays_of_block s ds) []
+  pub block_works : (out : Enclosed s (see sights o) after (length m.instances) k (new_instance s k e cells)) (Below : Option Kinds → Type 0) (end : Item) → WorkFine s (see sights o) after Below (length m.instances) k (end ∷ []) [] [] → WorkFine s (see sights o) after Below (length m.instances) k (block_work s after (length m.instances) ds ss end) (arrays_of_block s ds) []
   block_works out Below end x =
       let b = block_begun out in
-      block_arrays s ok o.arrays after (length m.instances) k (arrays_of_block s ds) b Below ds (Do (Execs ss) ∷ end ∷ []) typed.arrays typed.distinct
-      (λ d a h holds. key_there s ok o.arrays after (length m.instances) k b.now d h b.own holds (typed.own d a))
+      block_arrays s ok (see sights o) after (length m.instances) k (arrays_of_block s ds) b Below ds (Do (Execs ss) ∷ end ∷ []) typed.arrays typed.distinct
+      (λ d a h holds. key_there s ok (see sights o) after (length m.instances) k b.now d h b.own holds (typed.own d a))
       ([], [], (refl, refl, refl, typed.statements), x)
 
 -- ---- a sub-block
 
-module _ (s : Source) (ok : Typed s) (l : Limits) (o : World) (m : Instances) (i t : ℕ) (rest : List Activation) (lt : i < length m.instances) (w : List Item) (vals : List Val) where
+module _ (s : Source) (ok : Typed s) (l : Limits) (o : World) (sights : List Sight) (long : length sights ≡ length o.arrays) (m : Instances) (i t : ℕ) (rest : List Activation) (lt : i < length m.instances) (w : List Item) (vals : List Val) where
   abbrev Chain : List Val → List Activation
   Chain vs = record { instance = i; work = w; values = vs } ∷ rest
 
   -- what is on the chain waits for a value or for none
-  pub waits_on : (vs : List Val) (todo : List DeclNo) (ks : List Kinds) (v : Option Kinds) → Begun s o.arrays m i t todo → HandsFine s o.arrays m i ks vs → Work s o m i t rest lt w todo (given v ks) → ChainFine s o.arrays m (length m.instances) (Chain vs) v
+  pub waits_on : (vs : List Val) (todo : List DeclNo) (ks : List Kinds) (v : Option Kinds) → Begun s (see sights o) m i t todo → HandsFine s (see sights o) m i ks vs → Work s o sights long m i t rest lt w todo (given v ks) → ChainFine s (see sights o) m (length m.instances) (Chain vs) v
   waits_on vs todo ks v b h work = record { before = lt; of_text = t; todo = todo; begun = b; kinds = ks; hands = h; goes = work }
 
-  pub block_entered : (k line begin : ℕ) (ds : Declarations) (ss : Statements) (ks : List Kinds) → text s k ≡ Some (BlockText begin ds ss) → encloser s.tables k ≡ Some t → Whole s o.arrays m i t → HandsFine s o.arrays m i ks vals → Work s o m i t rest lt w [] ks → Goes (IsFine s) (sub_block_entered s l o m i w vals rest k line (Some (BlockText begin ds ss)))
+  pub block_entered : (k line begin : ℕ) (ds : Declarations) (ss : Statements) (ks : List Kinds) → text s k ≡ Some (BlockText begin ds ss) → encloser s.tables k ≡ Some t → Whole s (see sights o) m i t → HandsFine s (see sights o) m i ks vals → Work s o sights long m i t rest lt w [] ks → Goes (IsFine s) (sub_block_entered s l o m i w vals rest k line (Some (BlockText begin ds ss)))
   block_entered k line begin ds ss ks is stands b h work =
       let x = BlockText begin ds ss in
       let hs = first_cells s k x in
-      let fine = block_cells s o.arrays (length m.instances) k begin ds ss (typed_block.no_formals) in
-      let out = inside_new s ok o m k (Some i) hs x is refl fine i t refl stands lt b in
+      let fine = block_cells s (see sights o) (length m.instances) k begin ds ss (typed_block.no_formals) in
+      let out = inside_new s ok o sights long m k (Some i) hs x is refl fine i t refl stands lt b in
       enters (IsFine s) l line (words_of_cells hs) o (λ p. in_instance s p m k (Some i) hs (λ now. block_work s now (length m.instances) ds ss EndBlock) (Chain vals)) (λ t' w'.
-      enters_fine s ok o m k (Some i) hs x is refl fine (arrays_of_block s ds) (block_begun s ok o m k (Some i) begin ds ss is out) (block_work s (after s ok o m k (Some i) begin ds ss is) (length m.instances) ds ss EndBlock) (Chain vals)
-      (block_works s ok o m k (Some i) begin ds ss is out (λ v. ChainFine s o.arrays (after s ok o m k (Some i) begin ds ss is) (length m.instances) (Chain vals) v) EndBlock
-      (below_new s ok o m k (Some i) hs x is refl fine (Chain vals) None (waits_on vals [] ks None b h work))))
+      enters_fine s ok o sights long m k (Some i) hs x is refl fine (arrays_of_block s ds) (block_begun s ok o sights long m k (Some i) begin ds ss is out) (block_work s (after s ok o sights long m k (Some i) begin ds ss is) (length m.instances) ds ss EndBlock) (Chain vals)
+      (block_works s ok o sights long m k (Some i) begin ds ss is out (λ v. ChainFine s (see sights o) (after s ok o sights long m k (Some i) begin ds ss is) (length m.instances) (Chain vals) v) EndBlock
+      (below_new s ok o sights long m k (Some i) hs x is refl fine (Chain vals) None (waits_on vals [] ks None b h work))))
     where
       typed_block : BlockTyped s k ds ss
       typed_block = ok.texts k (BlockText begin ds ss) is
@@ -123,7 +128,7 @@ module _ (s : Source) (ok : Typed s) (l : Limits) (o : World) (m : Instances) (i
   not_kept : (k : ℕ) (chain : List Activation) → is_class_free s k ≡ true → instances_kept s k chain m ≡ m
   not_kept k chain e = ap (λ b. if not b && list_any is_held (formals_of s k) then kept_on owner chain m else m) e
 
-  link_is : (u : ℕ) (v : Val) (f : ℕ → Run Configuration) → HandFine s o.arrays m i (LinkTo u) v → ((j : ℕ) → j ≤ i → Whole s o.arrays m j u → Goes (IsFine s) (f j)) → Goes (IsFine s) (having (instance_in v) o f)
+  link_is : (u : ℕ) (v : Val) (f : ℕ → Run Configuration) → HandFine s (see sights o) m i (LinkTo u) v → ((j : ℕ) → j ≤ i → Whole s (see sights o) m j u → Goes (IsFine s) (f j)) → Goes (IsFine s) (having (instance_in v) o f)
   link_is u (Link j) f a go = had (IsFine s) (Some j) j o f refl (go j a.0 a.1)
   link_is u (Of z) f a go = absurd a
   link_is u (Address z) f a go = absurd a
@@ -134,41 +139,59 @@ module _ (s : Source) (ok : Typed s) (l : Limits) (o : World) (m : Instances) (i
   lives_is : (j : ℕ) (x : Instance (List Held)) → live m j ≡ Some x → is_live m j ≡ true
   lives_is j x e = ap instances.is_live_in e
 
-  procedure_goes : (k line : ℕ) (result : Option TypeName) (g : Heading) (a : Statement) (vs : List Val) (vs' : List Val) (j u : ℕ) (todo : List DeclNo) (left : List Kinds) → text s k ≡ Some (ProcedureText result g a) → encloser s.tables k ≡ Some u → j ≤ i → Whole s o.arrays m j u → ((z : ℕ) → ValsFine s o.arrays i z (formal_kinds (formals_of s k)) vs) → Begun s o.arrays m i t todo → HandsFine s o.arrays m i left vs' → Work s o m i t rest lt w todo (given (held_kinds (result_holds (text s k))) left) → Goes (IsFine s) (procedure_entered s l o m i w vs' rest k line vs j (Some (ProcedureText result g a)))
-  unfolding handed_over
-  procedure_goes k line result g a vs vs' j u todo left is stands le whole fine b h work =
-      let x = ProcedureText result g a in
+  procedure_goes : (k line : ℕ) (result : Option TypeName) (h : Heading) (a : Statement) (vs : List Val) (vs' : List Val) (d j u : ℕ) (todo : List DeclNo) (left : List Kinds) → text s k ≡ Some (ProcedureText result h a) → encloser s.tables k ≡ Some u → j ≤ i → Whole s (see sights o) m j u → ActualsAre s (see sights o) m i d (formal_kinds (formals_of s k)) vs → length vs' < d → Begun s (see sights o) m i t todo → HandsFine s (see sights o) m i left vs' → Work s o sights long m i t rest lt w todo (given (held_kinds (result_holds (text s k))) left) → Goes (IsFine s) (procedure_entered s l o m i w vs' rest k line vs j (Some (ProcedureText result h a)))
+  procedure_goes k line result h a vs vs' d j u todo left is stands le whole acts less b hands work =
+      let x = ProcedureText result h a in
       let cells = first_cells s k x in
       let n = length m.instances in
-      let f = procedure_cells s o.arrays n k result g a (formals_of s k) vs is typed_procedure.formals (vals_up s o.arrays i n k (omega (arith, lt)) (formal_kinds (formals_of s k)) vs (fine k)) in
-      let out = inside_new s ok o m k (Some j) f.cells x is f.same_keys f.fine j u refl stands (omega (arith, le, lt)) whole in
-      let begun = begun_new s ok o m k (Some j) f.cells x is f.same_keys f.fine [] (λ d kd holds there none. absurd (held_there s o.arrays n k (Declared d.0) f.cells f.held_all (subst (KeyAmong (Declared d.0)) (ap (keys_in s k) is ∙ sym f.same_keys) there) none)) out in
-      had (IsFine s) (filled_behind result vs cells) f.cells o (λ filled. entering l line (words_of_cells cells) o (λ p. in_instance s (handed_over n (arrays_by_value (formals_of s k) vs) p) (instances_kept s k (Chain vs') m) k (Some j) filled (λ now. Do (Exec a) ∷ EndProcedure (has_result result) ∷ []) (Chain vs'))) f.filled_is
-      (enters (IsFine s) l line (words_of_cells cells) o (λ p. in_instance s (handed_over n (arrays_by_value (formals_of s k) vs) p) (instances_kept s k (Chain vs') m) k (Some j) f.cells (λ now. Do (Exec a) ∷ EndProcedure (has_result result) ∷ []) (Chain vs')) (λ t' w'.
-      subst (λ z. Goes (IsFine s) (in_instance s (handed_over n z (ran o t' w')) (instances_kept s k (Chain vs') m) k (Some j) f.cells (λ now. Do (Exec a) ∷ EndProcedure (has_result result) ∷ []) (Chain vs'))) (sym (none_by_value s (numbers_of s k) (formals_of s k) vs typed_procedure.formals))
-      (subst (λ z. Goes (IsFine s) (in_instance s (ran o t' w') z k (Some j) f.cells (λ now. Do (Exec a) ∷ EndProcedure (has_result result) ∷ []) (Chain vs'))) (sym (not_kept k (Chain vs') (ok.class_free k)))
-      (enters_fine s ok o m k (Some j) f.cells x is f.same_keys f.fine [] begun (Do (Exec a) ∷ EndProcedure (has_result result) ∷ []) (Chain vs')
-      ([], [], (refl, refl, refl, typed_procedure.body), (result, g, a, is, refl, below_new s ok o m k (Some j) f.cells x is f.same_keys f.fine (Chain vs') (held_kinds (result_holds (text s k))) (waits_on vs' todo left (held_kinds (result_holds (text s k))) b h work)))))))
+      let ns = arrays_by_value (formals_of s k) vs in
+      let r = hand_all s m i n lt (formals_of s k) vs o sights long d acts in
+      let p = handed_over n ns o in
+      let now = see r.sights p in
+      let e = r.later n in
+      let f = procedure_cells s now n k result h a (formals_of s k) vs is typed_procedure.formals (r.values k) in
+      let whole' = begun_later s (see sights o) m now m n e j u [] (omega (arith, le, lt)) whole in
+      let out = inside_new s ok p r.sights r.long m k (Some j) f.cells x is f.same_keys f.fine j u refl stands (omega (arith, le, lt)) whole' in
+      let begun = begun_new s ok p r.sights r.long m k (Some j) f.cells x is f.same_keys f.fine [] (λ dn kd holds there none. absurd (held_there s now n k (Declared dn.0) f.cells f.held_all (subst (KeyAmong (Declared dn.0)) (ap (keys_in s k) is ∙ sym f.same_keys) there) none)) out in
+      let under = later_under s (see sights o) m now m n i (omega (arith, lt)) e in
+      let chain : ChainFine s now m n (Chain vs') (held_kinds (result_holds (text s k))) = record {
+        before = lt;
+        of_text = t;
+        todo = todo;
+        begun = begun_later s (see sights o) m now m n e i t todo lt b;
+        kinds = left;
+        hands = hands_later s (see sights o) m now m n e i lt left vs' (λ z kd c deep copy. r.copies i z kd c (λ q. omega (arith, deep, less)) copy) hands;
+        goes = work_later s (see sights o) m now m n e i t lt (λ v. ChainFine s (see sights o) m i rest v) (λ v. ChainFine s now m i rest v) (λ v c. chain_later s (see sights o) m now m i under (λ z y deep q kd c' small copy. r.copies z q kd c' (λ same. absurd (let g : ⊥ = omega (arith, same, deep) in g)) copy) rest v c) w todo (given (held_kinds (result_holds (text s k))) left) work;
+      } in
+      had (IsFine s) (filled_behind result vs cells) f.cells o (λ filled. entering l line (words_of_cells cells) o (λ q. in_instance s (handed_over n ns q) (instances_kept s k (Chain vs') m) k (Some j) filled (λ now. Do (Exec a) ∷ EndProcedure (has_result result) ∷ []) (Chain vs'))) f.filled_is
+      (enters (IsFine s) l line (words_of_cells cells) o (λ q. in_instance s (handed_over n ns q) (instances_kept s k (Chain vs') m) k (Some j) f.cells (λ now. Do (Exec a) ∷ EndProcedure (has_result result) ∷ []) (Chain vs')) (λ t' w'.
+      subst (λ z. Goes (IsFine s) (in_instance s (handed_over n ns (ran o t' w')) z k (Some j) f.cells (λ now. Do (Exec a) ∷ EndProcedure (has_result result) ∷ []) (Chain vs'))) (sym (not_kept k (Chain vs') (ok.class_free k)))
+      (same_arrays p (handed_over n ns (ran o t' w')) _ (handed_same n ns o (ran o t' w') refl)
+      (enters_fine s ok p r.sights r.long m k (Some j) f.cells x is f.same_keys f.fine [] begun (Do (Exec a) ∷ EndProcedure (has_result result) ∷ []) (Chain vs')
+      ([], [], (refl, refl, refl, typed_procedure.body), (result, h, a, is, refl, below_new s ok p r.sights r.long m k (Some j) f.cells x is f.same_keys f.fine (Chain vs') (held_kinds (result_holds (text s k))) chain))))))
     where
       typed_procedure : ProcedureTyped s k a
-      typed_procedure = ok.texts k (ProcedureText result g a) is
+      typed_procedure = ok.texts k (ProcedureText result h a) is
 
-  pub called_goes : (k n line : ℕ) (todo : List DeclNo) (before behind : List Kinds) → CallOpFine s k n before behind → Begun s o.arrays m i t todo → HandsFine s o.arrays m i before vals → Work s o m i t rest lt w todo behind → Goes (IsFine s) (called s l o m i w vals rest k n line)
+  pub called_goes : (k n line : ℕ) (todo : List DeclNo) (before behind : List Kinds) → CallOpFine s k n before behind → Begun s (see sights o) m i t todo → HandsFine s (see sights o) m i before vals → Work s o sights long m i t rest lt w todo behind → Goes (IsFine s) (called s l o m i w vals rest k n line)
   called_goes k n line todo before behind c b h work =
       let typed : ProcedureTyped s k c.body = ok.texts k (ProcedureText c.result c.heading c.body) c.is in
-      let r = taken s o.arrays m i (formal_kinds (formals_of s k)) (LinkTo c.around ∷ c.left) vals (formals_some s (numbers_of s k) (formals_of s k) typed.formals) (subst (λ z. HandsFine s o.arrays m i z vals) (c.«in») h) in
+      let r = taken s (see sights o) m i (formal_kinds (formals_of s k)) (LinkTo c.around ∷ c.left) vals (formals_some s (numbers_of s k) (formals_of s k) typed.formals) (subst (λ z. HandsFine s (see sights o) m i z vals) (c.«in») h) in
       let many : n ≡ length r.values = c.count ∙ sym (formals_many (formals_of s k)) ∙ sym r.count in
       subst (λ z. Goes (IsFine s) (pop_many z [] vals o next)) (sym many)
       (subst (λ z. Goes (IsFine s) (pop_many (length r.values) [] z o next)) (sym r.are)
       (subst (Goes (IsFine s)) (sym (all_taken r.values r.rest o next))
-      (any_popped (IsFine s) s o.arrays m i (LinkTo c.around) c.left r.rest o (λ v vs. having (instance_in v) o (λ j. when (is_live m j) o (procedure_entered s l o m i w vs rest k line r.values j (text s k)))) r.more (λ v vs same here more.
+      (any_popped (IsFine s) s (see sights o) m i (LinkTo c.around) c.left r.rest o (λ v vs. having (instance_in v) o (λ j. when (is_live m j) o (procedure_entered s l o m i w vs rest k line r.values j (text s k)))) r.more (λ v vs same here more.
       link_is c.around v (λ j. when (is_live m j) o (procedure_entered s l o m i w vs rest k line r.values j (text s k))) here (λ j le whole.
       whens (IsFine s) (is_live m j) o (procedure_entered s l o m i w vs rest k line r.values j (text s k)) (lives_is j whole.now (whole.own).lives)
       (subst (λ z. Goes (IsFine s) (procedure_entered s l o m i w vs rest k line r.values j z)) (sym c.is)
-      (procedure_goes k line c.result c.heading c.body r.values vs j c.around todo c.left c.is c.stands_in le whole r.fine b more (subst (λ z. Work s o m i t rest lt w todo z) c.out work))))))))
+      (procedure_goes k line c.result c.heading c.body r.values vs (length r.rest) j c.around todo c.left c.is c.stands_in le whole r.fine (below_top r.rest v vs same) b more (subst (λ z. Work s o sights long m i t rest lt w todo z) c.out work))))))))
     where
       next : List Val → List Val → Run Configuration
       next values vals = popping vals o (λ v vals. having (instance_in v) o (λ j. when (is_live m j) o (procedure_entered s l o m i w vals rest k line values j (text s k))))
+
+      below_top : (rest : List Val) (v : Val) (vs : List Val) → rest ≡ v ∷ vs → length vs < length rest
+      below_top rest v vs e = let f : length rest ≡ suc (length vs) = ap length e in omega (arith, f)
 
       formals_many : (fs : List Rattle.sim_scope.specs.declared.types.Formal.Formal) → length (formal_kinds fs) ≡ length fs
       formals_many [] = refl
@@ -176,14 +199,14 @@ module _ (s : Source) (ok : Typed s) (l : Limits) (o : World) (m : Instances) (i
 
 -- ---- the program
 
-pub first_goes : (s : Source) (ok : Typed s) (l : Limits) (o : World) (m : Instances) → m.instances ≡ [] → Goes (IsFine s) (first_step s l o m)
-first_goes s ok l o m none =
+pub first_goes : (s : Source) (ok : Typed s) (l : Limits) (o : World) (sights : List Sight) (long : length sights ≡ length o.arrays) (m : Instances) → m.instances ≡ [] → Goes (IsFine s) (first_step s l o m)
+first_goes s ok l o sights long m none =
     let zero_long : (length m.instances == 0) ≡ true = ap (λ z. length z == 0) none in
     whens (IsFine s) (length m.instances == 0) o (program_entered s l o m (text s 0)) zero_long
     (subst (λ z. Goes (IsFine s) (program_entered s l o m z)) (sym ok.starts)
     (enters (IsFine s) l (line_at s ok.begin) (words_of_cells hs) o (λ p. in_instance s p m 0 None hs (λ now. Do PastOp ∷ block_work s now (length m.instances) ok.declarations ok.statements EndProgram) []) (λ t' w'.
-    enters_fine s ok o m 0 None hs x ok.starts refl fine (arrays_of_block s ok.declarations) (block_begun s ok o m 0 None ok.begin ok.declarations ok.statements ok.starts out) (Do PastOp ∷ block_work s (after s ok o m 0 None ok.begin ok.declarations ok.statements ok.starts) (length m.instances) ok.declarations ok.statements EndProgram) []
-    (arrays_of_block s ok.declarations, [], (refl, refl), block_works s ok o m 0 None ok.begin ok.declarations ok.statements ok.starts out (λ v. ChainFine s o.arrays (after s ok o m 0 None ok.begin ok.declarations ok.statements ok.starts) (length m.instances) [] v) EndProgram tt))))
+    enters_fine s ok o sights long m 0 None hs x ok.starts refl fine (arrays_of_block s ok.declarations) (block_begun s ok o sights long m 0 None ok.begin ok.declarations ok.statements ok.starts out) (Do PastOp ∷ block_work s (after s ok o sights long m 0 None ok.begin ok.declarations ok.statements ok.starts) (length m.instances) ok.declarations ok.statements EndProgram) []
+    (arrays_of_block s ok.declarations, [], (refl, refl), block_works s ok o sights long m 0 None ok.begin ok.declarations ok.statements ok.starts out (λ v. ChainFine s (see sights o) (after s ok o sights long m 0 None ok.begin ok.declarations ok.statements ok.starts) (length m.instances) [] v) EndProgram tt))))
   where
     x : Text
     x = BlockText ok.begin ok.declarations ok.statements
@@ -191,8 +214,8 @@ first_goes s ok l o m none =
     hs : List Held
     hs = first_cells s 0 (BlockText ok.begin ok.declarations ok.statements)
 
-    fine : CellsFine s o.arrays (length m.instances) 0 (first_cells s 0 (BlockText ok.begin ok.declarations ok.statements))
-    fine = let typed : BlockTyped s 0 ok.declarations ok.statements = ok.texts 0 (BlockText ok.begin ok.declarations ok.statements) ok.starts in block_cells s o.arrays (length m.instances) 0 ok.begin ok.declarations ok.statements typed.no_formals
+    fine : CellsFine s (see sights o) (length m.instances) 0 (first_cells s 0 (BlockText ok.begin ok.declarations ok.statements))
+    fine = let typed : BlockTyped s 0 ok.declarations ok.statements = ok.texts 0 (BlockText ok.begin ok.declarations ok.statements) ok.starts in block_cells s (see sights o) (length m.instances) 0 ok.begin ok.declarations ok.statements typed.no_formals
 
-    out : Enclosed s o.arrays (after s ok o m 0 None ok.begin ok.declarations ok.statements ok.starts) (length m.instances) 0 (new_instance s 0 None (first_cells s 0 (BlockText ok.begin ok.declarations ok.statements)))
+    out : Enclosed s (see sights o) (after s ok o sights long m 0 None ok.begin ok.declarations ok.statements ok.starts) (length m.instances) 0 (new_instance s 0 None (first_cells s 0 (BlockText ok.begin ok.declarations ok.statements)))
     out = alone refl ok.outermost

@@ -1,15 +1,10 @@
 -- The cells with which an instance begins.
-use Rattle.std.proofs.Common.{◌≡◌, ℕ, suc, ◌+◌, ◌≤◌, Bool, true, false, List, [], ◌∷◌, ◌++◌, length, map, Option, Some, None, refl, sym, ap, ◌∙◌, subst, arith}
+use Rattle.std.proofs.Common.{◌≡◌, ℕ, suc, ◌+◌, Bool, true, false, List, [], ◌∷◌, ◌++◌, length, map, Option, Some, None, refl, sym, ap, ◌∙◌, subst, arith}
 use Rattle.std.specs.Prelude.{if◌then◌else◌}
 use Rattle.sim_base.specs.declared.numbering.DeclNo.{DeclNo}
 use Rattle.sim_scope.specs.declared.types.Entry.{Entry}
 use Rattle.sim_scope.specs.declared.types.Entry.TheVariants as entry
 use Rattle.sim_scope.specs.declared.types.Formal.{Formal}
-use Rattle.sim_scope.specs.declared.types.FormalKind.{FormalKind}
-use Rattle.sim_scope.specs.declared.types.FormalKind.TheVariants as shape
-use Rattle.sim_scope.specs.declared.types.Mode.{Mode}
-use Rattle.sim_scope.specs.declared.types.Mode.TheVariants as mode
-use Rattle.sim_scope.specs.declared.types.SimType.{SimType}
 use Rattle.sim_scope.specs.Scopes.{entry_of}
 use Rattle.sim_scope.specs.Source.{Source}
 use Rattle.sim_tree.specs.declared.stmt.TypeName.{TypeName}
@@ -17,14 +12,13 @@ use Rattle.sim_tree.specs.Syntax.{Declarations, Heading, Statement, Statements}
 use Rattle.sim_values.specs.Plain.{initial}
 use Rattle.sim_code.specs.Events.{pop_many}
 use Rattle.sim_code.specs.Outcome.{Run, World}
-use Rattle.sim_meaning.specs.Entries.{arrays_by_value, cells_from, filled, filled_behind, first_cells, held_before, is_array_by_value, numbers_of, with_array_of, with_cell, with_result}
+use Rattle.sim_meaning.specs.Entries.{cells_from, filled, filled_behind, first_cells, held_before, is_array_by_value, numbers_of, with_cell, with_result}
 use Rattle.sim_meaning.specs.Pending.{Declared, Held, Instances, Key, Of, Result, Val, held, same_key}
 use Rattle.sim_meaning.specs.Texts.{BlockText, ProcedureText, kind_named, kind_of_type, text}
-use Rattle.sim_sound.specs.Typed.{Among, FormalsAre, Holds, NoFormal, NoFormals, entry_holds, first, formal_holds, key_holds, later, result_holds}
+use Rattle.sim_sound.specs.Typed.{Among, ArrayOf, FormalsAre, Holds, NoFormal, NoFormals, entry_holds, first, formal_holds, key_holds, later, result_holds, Simply}
 use Rattle.sim_sound.proofs.ArrayEvents.{initial_is}
-use Rattle.sim_sound.proofs.Cells.{val_up}
 use Rattle.sim_sound.proofs.Changes.{cell_of, equal_same}
-use Rattle.sim_sound.proofs.Sound.{AllArrays, CellFine, CellsFine, HandsFine, KeyAmong, Kinds, ValFine, Value, first_key, formal_kinds, key_of, later_key, onto}
+use Rattle.sim_sound.proofs.Sound.{AllArrays, CellFine, CellsFine, DeepFine, HandsFine, KeyAmong, Kinds, ValFine, first_key, formal_kinds, holds_of, in_hand, key_of, later_key, onto}
 
 module _ (s : Source) (o : AllArrays) (j k : ℕ) where
   cell_first : (d : DeclNo) (e : Option Entry) (hs : List Held) → entry_of s.tables d ≡ e → NoFormal e → CellsFine s o j k hs → CellsFine s o j k (with_cell d e hs)
@@ -44,7 +38,7 @@ module _ (s : Source) (o : AllArrays) (j k : ℕ) where
 
   -- ---- values fill the cells of formal parameters
 
-  abbrev SomeFine : Option Holds → Val → Type 0
+  abbrev pub SomeFine : Option Holds → Val → Type 0
   SomeFine None v = ⊥
   SomeFine (Some h) v = ValFine o j h v
 
@@ -76,7 +70,7 @@ module _ (s : Source) (o : AllArrays) (j k : ℕ) where
         held_all = (v, refl, r.held_all);
       })
 
-  fill_all : (ds : List DeclNo) (fs : List Formal) (vs : List Val) → FormalsAre s ds fs → ValsFine (formal_kinds fs) vs → Filled vs (cells_from s ds)
+  fill_all : (ds : List DeclNo) (fs : List Formal) (vs : List Val) → FormalsAre s ds fs → ValsFine (holds_of fs) vs → Filled vs (cells_from s ds)
   fill_all [] [] [] a b = record { cells = []; filled_is = refl; same_keys = refl; fine = tt; held_all = tt }
   fill_all [] [] (v ∷ vs) a b = absurd b
   fill_all [] (f ∷ fs) vs a b = absurd a
@@ -101,7 +95,7 @@ module _ (s : Source) (o : AllArrays) (j k : ℕ) where
     held_all = (Of (initial (kind_named type)), refl, r.held_all);
   }
 
-  pub procedure_cells : (result : Option TypeName) (h : Heading) (a : Statement) (fs : List Formal) (vs : List Val) → text s k ≡ Some (ProcedureText result h a) → FormalsAre s (numbers_of s k) fs → ValsFine (formal_kinds fs) vs → FilledBehind result vs (first_cells s k (ProcedureText result h a))
+  pub procedure_cells : (result : Option TypeName) (h : Heading) (a : Statement) (fs : List Formal) (vs : List Val) → text s k ≡ Some (ProcedureText result h a) → FormalsAre s (numbers_of s k) fs → ValsFine (holds_of fs) vs → FilledBehind result vs (first_cells s k (ProcedureText result h a))
   unfolding first_cells
   procedure_cells result h a fs vs is f v = behind_result result h a vs (cells_from s (numbers_of s k)) is (fill_all (numbers_of s k) fs vs f v)
 
@@ -156,52 +150,52 @@ abbrev pub back : List Val → List Val → List Val
 back [] rest = rest
 back (v ∷ vs) rest = back vs (v ∷ rest)
 
-pub record Taken (s : Source) (o : AllArrays) (m : Instances) (i : ℕ) (hs : List (Option Holds)) (left : List Kinds) (vals : List Val) : Type 0 where
+-- values that are the actuals of formal parameters, the first one on top of so many others
+abbrev pub SomeDeep : Source → AllArrays → Instances → (j depth : ℕ) → Option Kinds → Val → Type 0
+SomeDeep s o m j d None v = ⊥
+SomeDeep s o m j d (Some x) v = DeepFine s o m j d x v
+
+abbrev pub ActualsAre : Source → AllArrays → Instances → (j depth : ℕ) → List (Option Kinds) → List Val → Type 0
+ActualsAre s o m j d [] [] = Unit {0}
+ActualsAre s o m j d [] (v ∷ vs) = ⊥
+ActualsAre s o m j d (x ∷ xs) [] = ⊥
+ActualsAre s o m j d (x ∷ xs) (v ∷ vs) = SomeDeep s o m j d x v × ActualsAre s o m j (suc d) xs vs
+
+pub record Taken (s : Source) (o : AllArrays) (m : Instances) (i : ℕ) (hs : List (Option Kinds)) (left : List Kinds) (vals : List Val) : Type 0 where
   pub values : List Val
   pub rest : List Val
   pub are : vals ≡ back values rest
-  pub fine : (k : ℕ) → ValsFine s o i k hs values
+  pub fine : ActualsAre s o m i (length rest) hs values
   pub more : HandsFine s o m i left rest
   pub count : length values ≡ length hs
 
-abbrev pub AllSome : List (Option Holds) → Type 0
+abbrev pub AllSome : List (Option Kinds) → Type 0
 AllSome [] = Unit {0}
 AllSome (None ∷ hs) = ⊥
 AllSome (Some h ∷ hs) = AllSome hs
 
-pub taken : (s : Source) (o : AllArrays) (m : Instances) (i : ℕ) (hs : List (Option Holds)) (left : List Kinds) (vals : List Val) → AllSome hs → HandsFine s o m i (onto hs left) vals → Taken s o m i hs left vals
-taken s o m i [] left vals a h = record { values = []; rest = vals; are = refl; fine = λ k. tt; more = h; count = refl }
+pub taken : (s : Source) (o : AllArrays) (m : Instances) (i : ℕ) (hs : List (Option Kinds)) (left : List Kinds) (vals : List Val) → AllSome hs → HandsFine s o m i (onto hs left) vals → Taken s o m i hs left vals
+taken s o m i [] left vals a h = record { values = []; rest = vals; are = refl; fine = tt; more = h; count = refl }
 taken s o m i (None ∷ hs) left vals a h = absurd a
-taken s o m i (Some x ∷ hs) left vals a h = one_more_taken (taken s o m i hs (Value x ∷ left) vals a h)
+taken s o m i (Some x ∷ hs) left vals a h = one_more_taken (taken s o m i hs (x ∷ left) vals a h)
   where
-    with_rest : (vs rest : List Val) → vals ≡ back vs rest → ((k : ℕ) → ValsFine s o i k hs vs) → length vs ≡ length hs → HandsFine s o m i (Value x ∷ left) rest → Taken s o m i (Some x ∷ hs) left vals
+    with_rest : (vs rest : List Val) → vals ≡ back vs rest → ActualsAre s o m i (length rest) hs vs → length vs ≡ length hs → HandsFine s o m i (x ∷ left) rest → Taken s o m i (Some x ∷ hs) left vals
     with_rest vs [] e f c h = absurd h
-    with_rest vs (v ∷ rest) e f c h = record { values = v ∷ vs; rest = rest; are = e; fine = λ k. (h.0, f k); more = h.1; count = ap suc c }
+    with_rest vs (v ∷ rest) e f c h = record { values = v ∷ vs; rest = rest; are = e; fine = (h.0, f); more = h.1; count = ap suc c }
 
-    one_more_taken : Taken s o m i hs (Value x ∷ left) vals → Taken s o m i (Some x ∷ hs) left vals
+    one_more_taken : Taken s o m i hs (x ∷ left) vals → Taken s o m i (Some x ∷ hs) left vals
     one_more_taken t = with_rest t.values t.rest t.are t.fine t.count t.more
+
+some_first : (b : Bool) (h : Holds) (hs : List (Option Kinds)) → AllSome hs → AllSome (in_hand b (Some h) ∷ hs)
+some_first true (ArrayOf k) hs a = a
+some_first true (Simply k) hs a = a
+some_first false h hs a = a
 
 pub formals_some : (s : Source) (ds : List DeclNo) (fs : List Formal) → FormalsAre s ds fs → AllSome (formal_kinds fs)
 formals_some s [] [] a = tt
 formals_some s [] (f ∷ fs) a = absurd a
 formals_some s (d ∷ ds) [] a = absurd a
-formals_some s (d ∷ ds) (f ∷ fs) a = subst (λ z. AllSome (z ∷ formal_kinds fs)) (sym a.2) (formals_some s ds fs a.3)
-
--- no array goes over by value
-by_value : (f : Mode) (g : FormalKind) (ty : Option SimType) (h : Holds) → formal_holds f g ty ≡ Some h → is_array_by_value f g ≡ false
-by_value mode.ByValue shape.Array ty h e = absurd (cc)
-by_value mode.ByValue shape.Simple ty h e = refl
-by_value mode.ByValue shape.Procedure ty h e = refl
-by_value mode.ByReference g ty h e = refl
-by_value mode.ByName g ty h e = refl
-
-pub none_by_value : (s : Source) (ds : List DeclNo) (fs : List Formal) (vs : List Val) → FormalsAre s ds fs → arrays_by_value fs vs ≡ []
-none_by_value s [] [] vs a = refl
-none_by_value s [] (f ∷ fs) vs a = absurd a
-none_by_value s (d ∷ ds) [] vs a = absurd a
-none_by_value s (d ∷ ds) (f ∷ fs) [] a = refl
-none_by_value s (d ∷ ds) (f ∷ fs) (v ∷ vs) a =
-    ap (λ b. if b then with_array_of v (arrays_by_value fs vs) else arrays_by_value fs vs) (by_value f.mode f.kind f.ty a.0 a.2) ∙ none_by_value s ds fs vs a.3
+formals_some s (d ∷ ds) (f ∷ fs) a = subst (λ z. AllSome (in_hand (is_array_by_value f.mode f.kind) z ∷ formal_kinds fs)) (sym a.2) (some_first (is_array_by_value f.mode f.kind) a.0 (formal_kinds fs) (formals_some s ds fs a.3))
 
 -- as many values are taken in the order in which they came
 many_from : {S : Type 0} (n : ℕ) (vs got rest : List Val) (o : World) (f : List Val → List Val → Run S) → pop_many (length vs + n) got (back vs rest) o f ≡ pop_many n (vs ++ got) rest o f
@@ -220,10 +214,3 @@ unfolding pop_many
 all_taken vs rest o f =
     let e : length vs ≡ length vs + 0 = omega arith in
     ap (λ z. pop_many z [] (back vs rest) o f) e ∙ many_from 0 vs [] rest o f ∙ ap (λ z. f z rest) (append_none vs)
-
-pub vals_up : (s : Source) (o : AllArrays) (i j k : ℕ) → i ≤ j → (hs : List (Option Holds)) (vs : List Val) → ValsFine s o i k hs vs → ValsFine s o j k hs vs
-vals_up s o i j k le [] [] a = a
-vals_up s o i j k le [] (v ∷ vs) a = absurd a
-vals_up s o i j k le (h ∷ hs) [] a = absurd a
-vals_up s o i j k le (None ∷ hs) (v ∷ vs) a = absurd a.0
-vals_up s o i j k le (Some h ∷ hs) (v ∷ vs) a = (val_up o i j le h v a.0, vals_up s o i j k le hs vs a.1)

@@ -1,12 +1,12 @@
 -- What is fine stays so in later stores.
-use Rattle.std.proofs.Common.{◌≡◌, ◌<◌, ◌≤◌, ℕ, List, [], ◌∷◌, Option, Some, None, ◌∙◌, arith}
+use Rattle.std.proofs.Common.{◌≡◌, ◌<◌, ◌≤◌, ℕ, suc, List, [], ◌∷◌, length, Option, Some, None, refl, ◌∙◌, arith}
 use Rattle.sim_base.specs.declared.numbering.DeclNo.{DeclNo}
 use Rattle.sim_scope.specs.Source.{Source}
 use Rattle.sim_values.specs.declared.kind.Kind.{Kind}
 use Rattle.sim_code.specs.Instances.{CellPlace, ElementPlace, ImagePlace, Instance}
-use Rattle.sim_meaning.specs.Pending.{Activation, Address, ArrayValue, BackOp, BranchOp, CallOf, Cell, CopyOf, Do, Either, ElementOf, ElementsOp, EndBlock, EndProcedure, EndProgram, Eval, Further, Given, GiveOp, Held, IfOp, Instances, Item, Key, Link, NoTerm, Of, One, Op, RaiseOp, ShareOp, StandardOf, StepTestOp, StoreOp, Target, Term, Terms, ToAddress, ToCell, Two, Unbuilt, Val, ValueAt, WhileElementOp}
+use Rattle.sim_meaning.specs.Pending.{Activation, Address, ArrayValue, BackOp, BranchOp, CallOf, Cell, CopyOf, Do, Either, ElementOf, ElementsOp, EndBlock, EndProcedure, EndProgram, Eval, Further, Given, GiveOp, Held, IfOp, ImageOf, Instances, Item, Joined, Key, Link, NoTerm, Of, One, Op, PlaceOf, ProcedureValue, RaiseOp, ShareOp, StandardOf, StepTestOp, StoreOp, Target, Term, Terms, ToAddress, ToCell, ToText, ToTextOf, Tree, Two, Unbuilt, Val, ValueAt, WhileElementOp}
 use Rattle.sim_sound.specs.Typed.{ArrayOf, Holds, Simply}
-use Rattle.sim_sound.proofs.Sound.{AddressOf, AllArrays, ArrayFine, Begun, CellIs, CellTarget, ChainFine, ElementFine, Enclosed, HandFine, HandsFine, IntegersFine, Kinds, LinkTo, Made, OpFine, Own, StoreFine, TargetFine, TargetsFine, TermFine, TermsFine, ValFine, Value, VariableFine, WorkFine, alone, array_stored, in_whole, own_made, value_stored, within}
+use Rattle.sim_sound.proofs.Sound.{AddressOf, AllArrays, ArrayFine, Begun, CellIs, CellTarget, ChainFine, Copied, CopyFine, DeepFine, ElementFine, Enclosed, HandFine, HandsFine, ImageAddress, IntegersFine, Kinds, LinkTo, Made, OpFine, OperandsFine, Own, StoreFine, TargetFine, TargetsFine, TermFine, TermsFine, ValFine, Value, VariableFine, WorkFine, alone, array_stored, in_whole, own_made, value_stored, within}
 
 -- an instance in a later store, with no fewer arrays
 pub record OwnLater (s : Source) (o : AllArrays) (m : Instances) (j t : ℕ) (x : Instance (List Held)) : Type 0 where
@@ -19,6 +19,10 @@ pub record Later (s : Source) (o : AllArrays) (m : Instances) (o' : AllArrays) (
   pub arrays : (j : ℕ) (k : Kind) (a : ℕ) → j < bound → ArrayFine o j k a → ArrayFine o' j k a
   pub elements : (j : ℕ) (k : Kind) (a n : ℕ) → j < bound → ElementFine o j k a n → ElementFine o' j k a n
   pub own : (j t : ℕ) (x : Instance (List Held)) → j < bound → Own s o m j t x → OwnLater s o' m' j t x
+
+-- the copies in hand of an instance that have fewer values below them than d
+abbrev pub Copies : AllArrays → AllArrays → (j d : ℕ) → Type 0
+Copies o o' j d = (e : ℕ) (k : Kind) (a : ℕ) → e < d → CopyFine o j e k a → CopyFine o' j e k a
 
 module _ (s : Source) (o : AllArrays) (m : Instances) (o' : AllArrays) (m' : Instances) (bound : ℕ) (e : Later s o m o' m' bound) where
   pub val_later : (j : ℕ) → j < bound → (h : Holds) (v : Val) → ValFine o j h v → ValFine o' j h v
@@ -44,21 +48,42 @@ module _ (s : Source) (o : AllArrays) (m : Instances) (o' : AllArrays) (m' : Ins
   hand_later j lt (AddressOf k) (Address (ElementPlace n i None)) a = e.elements j k n i lt a
   hand_later j lt (LinkTo u) (Link n) a = let less : n < bound = omega (arith, a.0, lt) in (a.0, begun_later n u [] less a.1)
   hand_later j lt (AddressOf k) (Address (ElementPlace n i (Some c))) a = absurd a
-  hand_later j lt (AddressOf k) (Address (CellPlace n i c)) a = absurd a
+  hand_later j lt (AddressOf k) (Address (CellPlace n key None)) a = let less : n < bound = omega (arith, a.before, lt) in record { around = a.around; before = a.before; whole = begun_later n a.around [] less a.whole; holds = a.holds; there = a.there }
+  hand_later j lt (AddressOf k) (Address (CellPlace n key (Some c))) a = absurd a
+  hand_later j lt ImageAddress (Address (ImagePlace n)) a = a
+  hand_later j lt ImageAddress (Address (CellPlace n key c)) a = absurd a
+  hand_later j lt ImageAddress (Address (ElementPlace n i c)) a = absurd a
+  hand_later j lt ImageAddress _ a = absurd a
   hand_later j lt (AddressOf k) (Address (ImagePlace n)) a = absurd a
   hand_later j lt (AddressOf k) _ a = absurd a
   hand_later j lt (LinkTo u) _ a = absurd a
+  hand_later j lt (Copied k) v a = absurd a
 
-  pub hands_later : (j : ℕ) → j < bound → (ks : List Kinds) (vs : List Val) → HandsFine s o m j ks vs → HandsFine s o' m' j ks vs
-  hands_later j lt [] [] a = a
-  hands_later j lt [] (v ∷ vs) a = absurd a
-  hands_later j lt (k ∷ ks) [] a = absurd a
-  hands_later j lt (k ∷ ks) (v ∷ vs) a = (hand_later j lt k v a.0, hands_later j lt ks vs a.1)
+  pub deep_later : (j : ℕ) → j < bound → (d : ℕ) → Copies o o' j (suc d) → (k : Kinds) (v : Val) → DeepFine s o m j d k v → DeepFine s o' m' j d k v
+  deep_later j lt d c (Copied k) (ArrayValue a) f = c d k a (omega arith) f
+  deep_later j lt d c (Copied k) (Of p) f = absurd f
+  deep_later j lt d c (Copied k) (Link z) f = absurd f
+  deep_later j lt d c (Copied k) (Address z) f = absurd f
+  deep_later j lt d c (Copied k) (ProcedureValue z y) f = absurd f
+  deep_later j lt d c (Copied k) (Tree z) f = absurd f
+  deep_later j lt d c (Value h) v f = val_later j lt h v f
+  deep_later j lt d c (AddressOf k) v f = hand_later j lt (AddressOf k) v f
+  deep_later j lt d c ImageAddress v f = hand_later j lt ImageAddress v f
+  deep_later j lt d c (LinkTo u) v f = hand_later j lt (LinkTo u) v f
+
+  pub hands_later : (j : ℕ) → j < bound → (ks : List Kinds) (vs : List Val) → Copies o o' j (length vs) → HandsFine s o m j ks vs → HandsFine s o' m' j ks vs
+  hands_later j lt [] [] c a = a
+  hands_later j lt [] (v ∷ vs) c a = absurd a
+  hands_later j lt (k ∷ ks) [] c a = absurd a
+  hands_later j lt (k ∷ ks) (v ∷ vs) c a = (deep_later j lt (length vs) c k v a.0, hands_later j lt ks vs (λ d x n less f. c d x n (omega (arith, less)) f) a.1)
 
   module _ (j t : ℕ) (lt : j < bound) where
     cell_later : (todo : List DeclNo) (n : ℕ) (key : Key) (h : Holds) → CellIs s o m j t todo n key h → CellIs s o' m' j t todo n key h
     cell_later todo n key h (in_whole {u = u} le b holds there) = let less : n < bound = omega (arith, le, lt) in in_whole le (begun_later n u [] less b) holds there
     cell_later todo n key h (own_made is same holds there not) = own_made is same holds there not
+
+    pub cell_target_later : (n : ℕ) (key : Key) (k : Kind) → CellTarget s o m j n key k → CellTarget s o' m' j n key k
+    cell_target_later n key k a = let less : n < bound = omega (arith, a.before, lt) in record { around = a.around; before = a.before; whole = begun_later n a.around [] less a.whole; holds = a.holds; there = a.there }
 
     mutual
       pub term_later : (todo : List DeclNo) (x : Term) (g : Option Kinds) → TermFine s o m j t todo x g → TermFine s o' m' j t todo x g
@@ -68,8 +93,11 @@ module _ (s : Source) (o : AllArrays) (m : Instances) (o' : AllArrays) (m' : Ins
       term_later todo (Two op line x y) g a = (a.0, a.1, a.2, a.3, term_later todo x _ a.4, term_later todo y _ a.5)
       term_later todo (Either c x y) g a = (a.0, a.1, term_later todo c _ a.2, term_later todo x g a.3, term_later todo y g a.4)
       term_later todo (ElementOf line x ts) g a = (a.0, a.1, term_later todo x _ a.2, integers_later todo ts a.3)
-      term_later todo (ValueAt x) g a = (a.0, a.1, term_later todo x _ a.2)
-      term_later todo (CopyOf line x) g a = a
+      term_later todo (ValueAt x) g a = (a.0, a.1, a.2, a.3, term_later todo x _ a.4)
+      term_later todo (PlaceOf n key) g a = (a.0, a.1, cell_target_later n key a.0 a.2)
+      term_later todo (ImageOf n) g a = a
+      term_later todo (Joined line x y) g a = (a.0, term_later todo x _ a.1, term_later todo y _ a.2)
+      term_later todo (CopyOf line x) g a = (a.0, a.1, term_later todo x _ a.2)
       term_later todo (CallOf n k ts line) g a = let less : n < bound = omega (arith, a.before, lt) in record {
         around = a.around;
         before = a.before;
@@ -82,23 +110,26 @@ module _ (s : Source) (o : AllArrays) (m : Instances) (o' : AllArrays) (m' : Ins
         gives = a.gives;
         actuals = terms_later todo ts _ a.actuals;
       }
-      term_later todo (StandardOf name ts line) g a = (a.0, a.1, terms_later todo ts _ a.2)
+      term_later todo (StandardOf name ts line) g a = (a.0, a.1, a.2, a.3, operands_later todo ts a.2 a.4)
       term_later todo Unbuilt g a = a
 
       pub integers_later : (todo : List DeclNo) (ts : Terms) → IntegersFine s o m j t todo ts → IntegersFine s o' m' j t todo ts
       integers_later todo NoTerm a = a
       integers_later todo (Further x xs) a = (term_later todo x _ a.0, integers_later todo xs a.1)
 
-      pub terms_later : (todo : List DeclNo) (ts : Terms) (hs : List (Option Holds)) → TermsFine s o m j t todo ts hs → TermsFine s o' m' j t todo ts hs
+      operands_later : (todo : List DeclNo) (ts : Terms) (xs : List Kinds) → OperandsFine s o m j t todo ts xs → OperandsFine s o' m' j t todo ts xs
+      operands_later todo NoTerm xs a = a
+      operands_later todo (Further y ys) xs a = (a.0, a.1, a.2, term_later todo y _ a.3, operands_later todo ys a.1 a.4)
+
+      pub terms_later : (todo : List DeclNo) (ts : Terms) (hs : List (Option Kinds)) → TermsFine s o m j t todo ts hs → TermsFine s o' m' j t todo ts hs
       terms_later todo NoTerm hs a = a
       terms_later todo (Further x xs) hs a = (a.0, a.1, a.2, term_later todo x _ a.3, terms_later todo xs a.1 a.4)
-
-    pub cell_target_later : (n : ℕ) (key : Key) (k : Kind) → CellTarget s o m j n key k → CellTarget s o' m' j n key k
-    cell_target_later n key k a = let less : n < bound = omega (arith, a.before, lt) in record { around = a.around; before = a.before; whole = begun_later n a.around [] less a.whole; holds = a.holds; there = a.there }
 
     target_later : (x : Target) (k : Kind) (before behind : List Kinds) → TargetFine s o m j x k before behind → TargetFine s o' m' j x k before behind
     target_later (ToCell n key) k before behind a = (cell_target_later n key k a.0, a.1)
     target_later ToAddress k before behind a = a
+    target_later (ToText line) k before behind a = a
+    target_later (ToTextOf n key line) k before behind a = a
 
     targets_later : (ts : List Target) (k : Kind) (before behind : List Kinds) → TargetsFine s o m j ts k before behind → TargetsFine s o' m' j ts k before behind
     targets_later [] k before behind a = a
@@ -107,6 +138,8 @@ module _ (s : Source) (o : AllArrays) (m : Instances) (o' : AllArrays) (m' : Ins
     variable_later : (x : Target) (k : Kind) → VariableFine s o m j x k → VariableFine s o' m' j x k
     variable_later (ToCell n key) k a = cell_target_later n key k a
     variable_later ToAddress k a = a
+    variable_later (ToText line) k a = a
+    variable_later (ToTextOf n key line) k a = (cell_target_later n key k a.0, a.1)
 
     store_later : (todo todo' : List DeclNo) (x : Target) (before behind : List Kinds) → StoreFine s o m j t todo todo' x before behind → StoreFine s o' m' j t todo todo' x before behind
     store_later todo todo' x before behind (value_stored k next is a same) = value_stored k next is (target_later x k next behind a) same
@@ -140,9 +173,9 @@ later_under s o m o' m' bound less le e = record {
   own = λ j t x lt. e.own j t x (omega (arith, lt, le));
 }
 
-pub chain_later : (s : Source) (o : AllArrays) (m : Instances) (o' : AllArrays) (m' : Instances) (bound : ℕ) → Later s o m o' m' bound → (chain : List Activation) (v : Option Kinds) → ChainFine s o m bound chain v → ChainFine s o' m' bound chain v
-chain_later s o m o' m' bound e [] v c = c
-chain_later s o m o' m' bound e (a ∷ rest) v c =
+pub chain_later : (s : Source) (o : AllArrays) (m : Instances) (o' : AllArrays) (m' : Instances) (bound : ℕ) → Later s o m o' m' bound → ((j d : ℕ) → j < bound → Copies o o' j d) → (chain : List Activation) (v : Option Kinds) → ChainFine s o m bound chain v → ChainFine s o' m' bound chain v
+chain_later s o m o' m' bound e all [] v c = c
+chain_later s o m o' m' bound e all (a ∷ rest) v c =
     let le : a.instance ≤ bound = omega (arith, c.before) in
     record {
       before = c.before;
@@ -150,6 +183,20 @@ chain_later s o m o' m' bound e (a ∷ rest) v c =
       todo = c.todo;
       begun = begun_later s o m o' m' bound e a.instance c.of_text c.todo c.before c.begun;
       kinds = c.kinds;
-      hands = hands_later s o m o' m' bound e a.instance c.before c.kinds a.values c.hands;
-      goes = work_later s o m o' m' bound e a.instance c.of_text c.before (λ w. ChainFine s o m a.instance rest w) (λ w. ChainFine s o' m' a.instance rest w) (λ w b. chain_later s o m o' m' a.instance (later_under s o m o' m' bound a.instance le e) rest w b) a.work c.todo _ c.goes;
+      hands = hands_later s o m o' m' bound e a.instance c.before c.kinds a.values (all a.instance (length a.values) c.before) c.hands;
+      goes = work_later s o m o' m' bound e a.instance c.of_text c.before (λ w. ChainFine s o m a.instance rest w) (λ w. ChainFine s o' m' a.instance rest w) (λ w b. chain_later s o m o' m' a.instance (later_under s o m o' m' bound a.instance le e) (λ j d less. all j d (omega (arith, less, le))) rest w b) a.work c.todo _ c.goes;
     }
+
+-- one after the other
+pub later_then : (s : Source) (o : AllArrays) (m : Instances) (o' : AllArrays) (m' : Instances) (o'' : AllArrays) (m'' : Instances) (bound : ℕ) → Later s o m o' m' bound → Later s o' m' o'' m'' bound → Later s o m o'' m'' bound
+later_then s o m o' m' o'' m'' bound e f = record {
+  arrays = λ j k a lt x. f.arrays j k a lt (e.arrays j k a lt x);
+  elements = λ j k a n lt x. f.elements j k a n lt (e.elements j k a n lt x);
+  own = λ j t x lt a.
+      let y = e.own j t x lt a in
+      let z = f.own j t y.now lt y.own in
+      record { now = z.now; own = z.own; encloser = z.encloser ∙ y.encloser; made = λ todo w. z.made todo (y.made todo w) };
+}
+
+pub later_none : (s : Source) (o : AllArrays) (m : Instances) (bound : ℕ) → Later s o m o m bound
+later_none s o m bound = record { arrays = λ j k a lt x. x; elements = λ j k a n lt x. x; own = λ j t x lt a. record { now = x; own = a; encloser = refl; made = λ todo w. w } }

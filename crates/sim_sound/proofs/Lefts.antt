@@ -1,5 +1,5 @@
 -- The left sides of a typed assignment: cells of whole instances, and fine trees of addresses.
-use Rattle.std.proofs.Common.{◌≡◌, ℕ, [], Option, Some, None, refl, sym, ap, ◌∙◌, subst}
+use Rattle.std.proofs.Common.{◌≡◌, ℕ, Bool, true, false, [], Option, Some, None, refl, sym, ap, ◌∙◌, subst}
 use Rattle.sim_base.specs.declared.numbering.DeclNo.{DeclNo}
 use Rattle.sim_scope.specs.declared.scopes.Denotation.{Denotation}
 use Rattle.sim_scope.specs.declared.scopes.Denotation.TheVariants as denotation
@@ -17,18 +17,23 @@ use Rattle.sim_tree.specs.Syntax.{Expression, Expressions, Heading, NoMore, Stat
 use Rattle.sim_tree.specs.Syntax as syntax
 use Rattle.sim_values.specs.declared.kind.Kind.{Kind}
 use Rattle.sim_code.specs.Instances.{at_level}
-use Rattle.sim_meaning.specs.Closing.{Left, LeftAddress, LeftCell, LeftUnbuilt, array_left, close_all, close_left, close_left_of, declared_left, formal_left, home_of, left_in, named_left, result_left, variable_left}
-use Rattle.sim_meaning.specs.Pending.{Cell, Declared, ElementOf, Instances, Result}
+use Rattle.sim_scope.specs.Calls.{is_inside}
+use Rattle.sim_tree.specs.declared.stmt.Assignment.{Assignment}
+use Rattle.sim_tree.specs.declared.stmt.Assignment.TheVariants as assignment
+use Rattle.sim_values.specs.declared.kind.Kind.TheVariants as kind
+use Rattle.sim_meaning.specs.Closing.{Left, LeftAddress, LeftCell, LeftText, LeftUnbuilt, array_left, block_if, close, close_all, close_left_of, declared_left, formal_left, home_of, in_instance, left_in, left_variable, named_left, own_block, own_block_denoted, own_result, result_left, result_or, variable_left}
+use Rattle.sim_meaning.specs.Pending.{Cell, Declared, ElementOf, Instances, Result, Term}
 use Rattle.sim_meaning.specs.Texts.{ProcedureText, kind_of_type, text}
-use Rattle.sim_sound.specs.Typed.{AreIntegers, ArrayOf, Around, LeftDeclared, LeftDenoted, LeftHeld, LeftIs, Simply, Typed, entry_holds, formal_holds, named_kind}
-use Rattle.sim_sound.proofs.Sound.{AddressOf, AllArrays, CellTarget, KeyAmong, Kinds, TargetFine, TargetsFine, TermFine, Whole, WorkFine, keys_in}
-use Rattle.sim_sound.proofs.Closing.{gives_same, integers_fine}
+use Rattle.sim_sound.specs.Typed.{AreIntegers, ArrayOf, Around, LeftDeclared, LeftDenoted, LeftHeld, LeftIs, LeftOf, Simply, TextLeft, Typed, entry_holds, formal_holds, named_kind}
+use Rattle.sim_sound.proofs.Sound.{AddressOf, AllArrays, CellTarget, KeyAmong, TermFine, Whole, in_whole, keys_in, simple}
+use Rattle.sim_sound.proofs.Closing.{expr_fine, gives_same, integers_fine}
 use Rattle.sim_sound.proofs.Reach.{Reaches, among_block, key_of_result, key_there, reaches_whole}
 
 module _ (s : Source) (ok : Typed s) (o : AllArrays) (m : Instances) (i t : ℕ) (whole : Whole s o m i t) where
   abbrev pub LeftFine : Left → Kind → Type 0
   LeftFine (LeftCell j key) k = CellTarget s o m i j key k
   LeftFine (LeftAddress x) k = TermFine s o m i t [] x (Some (AddressOf k))
+  LeftFine (LeftText line x) k = (k ≡ kind.Text) × TermFine s o m i t [] x (simple kind.Text)
   LeftFine LeftUnbuilt k = ⊥
 
   reach : Reaches s o m i (Some t)
@@ -85,8 +90,10 @@ module _ (s : Source) (ok : Typed s) (o : AllArrays) (m : Instances) (i t : ℕ)
   formal_is d mode.ByReference shape.Array (Some ty) line (Then x es) k e a = array_is d line x es (kind_of_type ty) k e a.0 a.1 a.2
   formal_is d mode.ByName g ty line NoMore k e a = absurd a
   formal_is d mode.ByName g ty line (Then x es) k e a = absurd a
-  formal_is d mode.ByValue shape.Array ty line NoMore k e a = absurd a
-  formal_is d mode.ByValue shape.Array ty line (Then x es) k e a = absurd a
+  formal_is d mode.ByValue shape.Array (Some ty) line NoMore k e a = absurd a
+  formal_is d mode.ByValue shape.Array (Some ty) line (Then x es) k e a = array_is d line x es (kind_of_type ty) k e a.0 a.1 a.2
+  formal_is d mode.ByValue shape.Array None line NoMore k e a = absurd a
+  formal_is d mode.ByValue shape.Array None line (Then x es) k e a = absurd a
   formal_is d mode.ByValue shape.Procedure ty line NoMore k e a = absurd a
   formal_is d mode.ByValue shape.Procedure ty line (Then x es) k e a = absurd a
   formal_is d mode.ByReference shape.Procedure ty line NoMore k e a = absurd a
@@ -120,7 +127,41 @@ module _ (s : Source) (ok : Typed s) (o : AllArrays) (m : Instances) (i t : ℕ)
   denoted_is line es (Some (denotation.Declared d)) k a = declared_is d line es (entry_of s.tables d) k refl a
   denoted_is line es _ k a = absurd a
 
-  pub left_fine : (e : Expression) (k : Kind) → LeftIs s t e k → LeftFine (close_left s m i e) k
-  left_fine (syntax.Named name es) k a =
-      subst (λ b. LeftFine (close_left_of b s m i (syntax.Named name es)) k) (sym a.0) (denoted_is (line_at s name.token.0) es (denoted s name.token.0) k a.1)
-  left_fine _ k a = absurd a
+  pub variable_fine : (e : Expression) (k : Kind) → LeftIs s t e k → LeftFine (left_variable s m i e) k
+  variable_fine (syntax.Named name es) k a = denoted_is (line_at s name.token.0) es (denoted s name.token.0) k a
+  variable_fine _ k a = absurd a
+
+  -- the result of a procedure that is assigned to as a text
+  cell_term : (x : Option ℕ) → LeftFine (left_in x (λ j. LeftCell j Result)) kind.Text → TermFine s o m i t [] (in_instance x (λ j. Cell j Result)) (simple kind.Text)
+  cell_term None a = absurd a
+  cell_term (Some j) a = (Simply kind.Text, refl, in_whole a.before a.whole a.holds a.there)
+
+  own_entry : (d : DeclNo) (e : Option Entry) (token block : ℕ) (text : Term) → entry_of s.tables d ≡ e → own_block s token e ≡ Some block → LeftDeclared s t d NoMore (AreIntegers s (Some t) NoMore) e kind.Text → TermFine s o m i t [] (result_or s m i (Some block) text) (simple kind.Text)
+  own_entry d (Some (entry.Procedure (Some type) u)) token block text is own a = by_inside (is_inside s.tables token u) own
+    where
+      by_inside : (b : Bool) → block_if b u ≡ Some block → TermFine s o m i t [] (result_or s m i (Some block) text) (simple kind.Text)
+      by_inside true e = let same : u ≡ block = cc in subst (λ z. TermFine s o m i t [] (result_or s m i (Some z) text) (simple kind.Text)) same (cell_term (at_level m (level_of s u) i) (result_is d type u kind.Text is a.0 a.1))
+      by_inside false e = absurd (cc)
+  own_entry d (Some (entry.Procedure None u)) token block text is own a = absurd a
+  own_entry d None token block text is own a = absurd a
+  own_entry d (Some _) token block text is own a = absurd (cc)
+
+  own_denoted : (x : Option Denotation) (token block : ℕ) (text : Term) → own_block_denoted s token x ≡ Some block → LeftDenoted s t x NoMore (AreIntegers s (Some t) NoMore) kind.Text → TermFine s o m i t [] (result_or s m i (Some block) text) (simple kind.Text)
+  own_denoted (Some (denotation.Declared d)) token block text own a = own_entry d (entry_of s.tables d) token block text refl own a
+  own_denoted _ token block text own a = absurd a
+
+  own_fine : (e : Expression) (block : ℕ) (text : Term) → own_result s e ≡ Some block → LeftIs s t e kind.Text → TermFine s o m i t [] (result_or s m i (Some block) text) (simple kind.Text)
+  unfolding own_result
+  own_fine (syntax.Named name NoMore) block text own a = own_denoted (denoted s name.token.0) name.token.0 block text own a
+  own_fine (syntax.Named name (Then e es)) block text own a = absurd (cc)
+  own_fine _ block text own a = absurd a
+
+  text_fine : (e : Expression) (own : Option ℕ) → own_result s e ≡ own → TextLeft s t e own → TermFine s o m i t [] (result_or s m i own (close s m i e)) (simple kind.Text)
+  text_fine e None is a = expr_fine s ok o m i t [] (Some t) reach e (Simply kind.Text) a
+  text_fine e (Some block) is a = own_fine e block (close s m i e) is a
+
+  pub left_fine : (text : Bool) (sign : Assignment) (line : ℕ) (e : Expression) (k : Kind) → LeftOf text sign s t e k → LeftFine (close_left_of text sign s m i line e) k
+  left_fine true assignment.Value line e k a = (a.0, text_fine e (own_result s e) refl a.1)
+  left_fine true assignment.Reference line e k a = variable_fine e k a
+  left_fine false assignment.Value line e k a = variable_fine e k a
+  left_fine false assignment.Reference line e k a = absurd a

@@ -17,6 +17,7 @@ pub mod Operators
 pub mod Statements
 pub mod Ends
 pub mod FirstCells
+pub mod Handing
 pub mod ArrayWork
 pub mod Entering
 pub mod Main

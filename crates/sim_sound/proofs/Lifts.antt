@@ -1,5 +1,5 @@
 -- What each event goes on with, where its operands are fine.
-use Rattle.std.proofs.Common.{◌≡◌, ◌≢◌, ℕ, zero, suc, Bool, true, false, List, [], ◌∷◌, Option, Some, None, refl, sym, subst}
+use Rattle.std.proofs.Common.{◌≡◌, ◌≢◌, ℕ, zero, suc, Bool, true, false, List, [], ◌∷◌, length, Option, Some, None, refl, sym, subst}
 use Rattle.std.specs.Prelude.{ℤ, ◌+◌, Result, Ok, Err, if◌then◌else◌, nat_lt}
 use Rattle.sim_base.specs.declared.limits.Limits.{Limits}
 use Rattle.sim_base.specs.declared.run_error.RunError.{RunError}
@@ -10,16 +10,17 @@ use Rattle.sim_values.specs.declared.operators.Dyadic.TheVariants as dyadic
 use Rattle.sim_values.specs.declared.operators.Monadic.{Monadic}
 use Rattle.sim_values.specs.declared.operators.Monadic.TheVariants as monadic
 use Rattle.sim_values.specs.declared.value.TextVal.{TextVal}
-use Rattle.sim_values.specs.Operators.{Answer, an_integer, calculate, compare, connect, one_of, step_test, two_of}
+use Rattle.sim_values.specs.Operators.{Answer, an_integer, calculate, compare, compare_as_texts, connect, one_of, same_objects, same_texts, step_test, two_of}
 use Rattle.sim_values.specs.Plain.{Character, Integer, Nothing, Object, Plain, Text, Truth, kind_of}
+use Rattle.sim_values.specs.Texts.{Frame, assign, concatenated}
 use Rattle.sim_values.specs.Words.{is_exhausted}
 use Rattle.sim_values.specs.Store.{Store}
 use Rattle.sim_code.specs.Outcome.{Ended, Ending, Going, NoRule, Run, RunFault, StorageExhausted, TickLimit, World}
-use Rattle.sim_code.specs.Events.{answering, applying_one, applying_two, choosing, computing, entering, having, integer_in, pop_integers, pop_plain, pop_truth, popping, stopping, taking, testing_step, ticking, truth_in, when}
+use Rattle.sim_code.specs.Events.{answering, applying_one, applying_two, assigning, choosing, computing, entering, having, integer_in, joining, making_text, pop_integers, pop_plain, pop_text, pop_truth, popping, stopping, taking, testing_step, text_val, ticking, truth_in, when, with_texts}
 use Rattle.sim_meaning.specs.Pending.{Address, ArrayValue, Instances, Link, Of, ProcedureValue, Tree, Val, plain}
 use Rattle.sim_scope.specs.Source.{Source}
 use Rattle.sim_sound.specs.Typed.{Simply, TwoKinds}
-use Rattle.sim_sound.proofs.Sound.{AllArrays, HandFine, HandsFine, Kinds, OneKinds, ValFine, Value, integers}
+use Rattle.sim_sound.proofs.Sound.{AllArrays, DeepFine, HandsFine, Kinds, OneKinds, ValFine, Value, integers}
 
 abbrev pub Goes : {S : Type 0} → (P : World → S → Type 0) → Run S → Type 0
 Goes P (Going o c) = P o c
@@ -77,7 +78,7 @@ module _ {S : Type 0} (P : World → S → Type 0) where
 
   module _ (s : Source) (a : AllArrays) (m : Instances) (j : ℕ) where
     -- whatever is on top
-    pub any_popped : (k : Kinds) (ks : List Kinds) (vals : List Val) (o : World) (f : Val → List Val → Run S) → HandsFine s a m j (k ∷ ks) vals → ((v : Val) (rest : List Val) → vals ≡ v ∷ rest → HandFine s a m j k v → HandsFine s a m j ks rest → Goes P (f v rest)) → Goes P (popping vals o f)
+    pub any_popped : (k : Kinds) (ks : List Kinds) (vals : List Val) (o : World) (f : Val → List Val → Run S) → HandsFine s a m j (k ∷ ks) vals → ((v : Val) (rest : List Val) → vals ≡ v ∷ rest → DeepFine s a m j (length rest) k v → HandsFine s a m j ks rest → Goes P (f v rest)) → Goes P (popping vals o f)
     any_popped k ks [] o f h x = absurd h
     any_popped k ks (v ∷ rest) o f h x = popped v rest o f (x v rest refl h.0 h.1)
 
@@ -142,15 +143,16 @@ module _ {S : Type 0} (P : World → S → Type 0) where
     a_bool : (b : Bool) → Shape (Truth b) kind.Boolean
     a_char : (c : ℕ) → Shape (Character c) kind.Character
     a_text : (t : TextVal) → Shape (Text t) kind.Text
-    a_ref : (p : Plain) → Shape p kind.Reference
+    an_object : (z : ℕ) → Shape (Object z) kind.Reference
+    no_object : Shape Nothing kind.Reference
 
   pub shape : (p : Plain) (k : Kind) → kind_of p ≡ k → Shape p k
   shape (Integer z) k e = subst (Shape (Integer z)) e (an_int z)
   shape (Truth z) k e = subst (Shape (Truth z)) e (a_bool z)
   shape (Character z) k e = subst (Shape (Character z)) e (a_char z)
   shape (Text z) k e = subst (Shape (Text z)) e (a_text z)
-  shape (Object z) k e = subst (Shape (Object z)) e (a_ref (Object z))
-  shape Nothing k e = subst (Shape Nothing) e (a_ref Nothing)
+  shape (Object z) k e = subst (Shape (Object z)) e (an_object z)
+  shape Nothing k e = subst (Shape Nothing) e no_object
 
   one_is : (op : Monadic) (k : Kind) (p : Plain) → OneKinds op k → kind_of p ≡ k → AnswerIs k (one_of op p)
   unfolding one_of
@@ -168,7 +170,7 @@ module _ {S : Type 0} (P : World → S → Type 0) where
   one_is monadic.Not k Nothing a e = absurd (cc)
 
   two_shaped : (op : Dyadic) (k v : Kind) (store : Store) {x y : Plain} → TwoKinds op k v → Shape x k → Shape y k → AnswerIs v (two_of op store.frames x y)
-  unfolding two_of calculate compare connect
+  unfolding two_of calculate compare compare_as_texts connect same_objects same_texts
   two_shaped (dyadic.Calculate c) kind.Integer v store a (an_int x) (an_int y) = subst (λ v. AnswerIs v (two_of (dyadic.Calculate c) store.frames (Integer x) (Integer y))) (sym a.1) (integer_is _)
   two_shaped (dyadic.Calculate c) kind.Boolean v store a _ _ = absurd (cc)
   two_shaped (dyadic.Calculate c) kind.Character v store a _ _ = absurd (cc)
@@ -184,9 +186,24 @@ module _ {S : Type 0} (P : World → S → Type 0) where
   two_shaped (dyadic.Connect c) kind.Character v store a _ _ = absurd (cc)
   two_shaped (dyadic.Connect c) kind.Text v store a _ _ = absurd (cc)
   two_shaped (dyadic.Connect c) kind.Reference v store a _ _ = absurd (cc)
-  two_shaped (dyadic.CompareTexts r) k v store a _ _ = absurd a
-  two_shaped dyadic.SameObject k v store a _ _ = absurd a
-  two_shaped dyadic.SameText k v store a _ _ = absurd a
+  two_shaped (dyadic.CompareTexts r) kind.Text v store a (a_text x) (a_text y) = sym a.1
+  two_shaped (dyadic.CompareTexts r) kind.Boolean v store a _ _ = absurd (cc)
+  two_shaped (dyadic.CompareTexts r) kind.Integer v store a _ _ = absurd (cc)
+  two_shaped (dyadic.CompareTexts r) kind.Character v store a _ _ = absurd (cc)
+  two_shaped (dyadic.CompareTexts r) kind.Reference v store a _ _ = absurd (cc)
+  two_shaped dyadic.SameObject kind.Reference v store a (an_object x) (an_object y) = sym a.1
+  two_shaped dyadic.SameObject kind.Reference v store a (an_object x) no_object = sym a.1
+  two_shaped dyadic.SameObject kind.Reference v store a no_object (an_object y) = sym a.1
+  two_shaped dyadic.SameObject kind.Reference v store a no_object no_object = sym a.1
+  two_shaped dyadic.SameObject kind.Boolean v store a _ _ = absurd (cc)
+  two_shaped dyadic.SameObject kind.Integer v store a _ _ = absurd (cc)
+  two_shaped dyadic.SameObject kind.Character v store a _ _ = absurd (cc)
+  two_shaped dyadic.SameObject kind.Text v store a _ _ = absurd (cc)
+  two_shaped dyadic.SameText kind.Text v store a (a_text x) (a_text y) = sym a.1
+  two_shaped dyadic.SameText kind.Boolean v store a _ _ = absurd (cc)
+  two_shaped dyadic.SameText kind.Integer v store a _ _ = absurd (cc)
+  two_shaped dyadic.SameText kind.Character v store a _ _ = absurd (cc)
+  two_shaped dyadic.SameText kind.Reference v store a _ _ = absurd (cc)
 
   step_shaped : {x y z : Plain} → Shape x kind.Integer → Shape y kind.Integer → Shape z kind.Integer → AnswerIs kind.Boolean (step_test x y z)
   unfolding step_test
@@ -203,6 +220,34 @@ module _ {S : Type 0} (P : World → S → Type 0) where
         plain_popped s a m j k (Value (Simply k) ∷ ks) vals o (λ y rest. pop_plain plain rest o (λ x rest. answering line (two_of op o.store.frames x y) o (λ z. f z rest))) h (λ q rest e more.
         plain_popped s a m j k ks rest o (λ x rest. answering line (two_of op o.store.frames x q) o (λ z. f z rest)) more (λ p rest d most.
         answered line v (two_of op o.store.frames p q) o (λ z. f z rest) (two_shaped op k v o.store is (shape p k d) (shape q k e)) (λ z e. x z rest e most)))
+
+    pub text_popped : (ks : List Kinds) (vals : List Val) (o : World) (f : TextVal → List Val → Run S) → HandsFine s a m j (Value (Simply kind.Text) ∷ ks) vals → ((x : TextVal) (rest : List Val) → HandsFine s a m j ks rest → Goes P (f x rest)) → Goes P (pop_text plain vals o f)
+    unfolding pop_text
+    text_popped ks vals o f h x = plain_popped s a m j kind.Text ks vals o (λ v rest. having (text_val v) o (λ z. f z rest)) h (λ p rest e more. is_text p rest (shape p kind.Text e) (λ z. x z rest more))
+      where
+        is_text : (p : Plain) (rest : List Val) → Shape p kind.Text → ((z : TextVal) → Goes P (f z rest)) → Goes P (having (text_val p) o (λ z. f z rest))
+        is_text _ rest (a_text z) y = had (Some z) z o (λ z. f z rest) refl (y z)
+
+    -- a text is assigned to another one
+    pub assigning_goes : (line : ℕ) (ks : List Kinds) (vals : List Val) (o : World) (f : World → List Val → Run S) → HandsFine s a m j (Value (Simply kind.Text) ∷ Value (Simply kind.Text) ∷ ks) vals → ((frames : List Frame) (rest : List Val) → HandsFine s a m j ks rest → Goes P (f (with_texts o frames) rest)) → Goes P (assigning plain line vals o f)
+    unfolding assigning
+    assigning_goes line ks vals o f h go =
+        text_popped (Value (Simply kind.Text) ∷ ks) vals o (λ right rest. pop_text plain rest o (λ left rest. computing line (assign o.store.frames left right).answer o (λ done. f (with_texts o (assign o.store.frames left right).frames) rest))) h (λ y rest more.
+        text_popped ks rest o (λ left rest. computing line (assign o.store.frames left y).answer o (λ done. f (with_texts o (assign o.store.frames left y).frames) rest)) more (λ x rest most.
+        computed line (assign o.store.frames x y).answer o (λ done. f (with_texts o (assign o.store.frames x y).frames) rest) (λ z e. go (assign o.store.frames x y).frames rest most)))
+
+    -- `&`
+    pub joining_goes : (l : Limits) (line : ℕ) (ks : List Kinds) (vals : List Val) (o : World) (f : Plain → World → List Val → Run S) → HandsFine s a m j (Value (Simply kind.Text) ∷ Value (Simply kind.Text) ∷ ks) vals → ((z : TextVal) (t w : ℕ) (frames : List Frame) (rest : List Val) → HandsFine s a m j ks rest → Goes P (f (Text z) (with_texts (ran o t w) frames) rest)) → Goes P (joining plain l line vals o f)
+    unfolding joining making_text
+    joining_goes l line ks vals o f h go =
+        text_popped (Value (Simply kind.Text) ∷ ks) vals o (λ y rest. pop_text plain rest o (λ x rest. taking l line 0 o (λ p. made x y p rest))) h (λ y rest more.
+        text_popped ks rest o (λ x rest. taking l line 0 o (λ p. made x y p rest)) more (λ x rest most.
+        took l line 0 o (λ p. made x y p rest) (λ t w.
+        took l line (concatenated o.store.frames x y).wanted (ran o t w) (λ p. computing line (concatenated o.store.frames x y).answer (with_texts p (concatenated o.store.frames x y).frames) (λ z. f (Text z) (with_texts p (concatenated o.store.frames x y).frames) rest)) (λ t' w'.
+        computed line (concatenated o.store.frames x y).answer (with_texts (ran o t' w') (concatenated o.store.frames x y).frames) (λ z. f (Text z) (with_texts (ran o t' w') (concatenated o.store.frames x y).frames) rest) (λ z e. go z t' w' (concatenated o.store.frames x y).frames rest most)))))
+      where
+        made : (x y : TextVal) (p : World) (rest : List Val) → Run S
+        made x y p rest = making_text l line (concatenated p.store.frames x y) p (λ z p. f (Text z) p rest)
 
     pub step_applied : (line : ℕ) (ks : List Kinds) (vals : List Val) (o : World) (f : Plain → List Val → Run S) → HandsFine s a m j (integers 3 ks) vals → ((p : Plain) (rest : List Val) → kind_of p ≡ kind.Boolean → HandsFine s a m j ks rest → Goes P (f p rest)) → Goes P (testing_step plain line vals o f)
     unfolding testing_step

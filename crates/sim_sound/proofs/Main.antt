@@ -7,26 +7,26 @@ use Rattle.sim_values.specs.declared.kind.Kind.{Kind}
 use Rattle.sim_values.specs.declared.kind.Kind.TheVariants as kind
 use Rattle.sim_code.specs.Outcome.{Ended, Ending, Going, NoRule, Normal, Run, World, after, next}
 use Rattle.sim_meaning.specs.Meaning.{do_chain, do_item, do_op, do_work, opening, run, step, sub_block_entered}
-use Rattle.sim_meaning.specs.Pending.{Activation, AgainOp, ArrayOp, BackOp, BranchOp, CallOp, ChooseOp, Configuration, CopyOp, Do, DropOp, ElementOp, ElementsOp, EndBlock, EndProcedure, EndProgram, EnterOp, Eval, Exec, Execs, FetchOp, GiveOp, IfOp, Instances, Item, OneOp, Op, PastOp, RaiseOp, ShareOp, StandardOp, StepOp, StepTestOp, StoreOp, TestOp, TwoOp, Val, WhileElementOp}
+use Rattle.sim_meaning.specs.Pending.{Activation, AgainOp, ArrayOp, BackOp, BranchOp, CallOp, ChooseOp, Configuration, CopyOp, Do, DropOp, ElementOp, ElementsOp, EndBlock, EndProcedure, EndProgram, EnterOp, Eval, Exec, Execs, FetchOp, GiveOp, IfOp, Instances, Item, JoinOp, OneOp, Op, PastOp, RaiseOp, ShareOp, StandardOp, StepOp, StepTestOp, StoreOp, TestOp, TwoOp, Val, WhileElementOp}
 use Rattle.sim_sound.specs.Typed.{Simply, Typed}
 use Rattle.sim_sound.proofs.Ends.{leaves, procedure_ends}
 use Rattle.sim_sound.proofs.Entering.{block_entered, called_goes, first_goes}
 use Rattle.sim_sound.proofs.Evals.{IsFine, Work, goes_on}
 use Rattle.sim_sound.proofs.Lifts.{Goes, stops}
-use Rattle.sim_sound.proofs.Operators.{again_op, array_op, copy_op, drop_op, element_op, eval_op, fetch_op, give_op, if_op, one_op, past_op, share_op, standard_op, step_op, store_op, two_op}
-use Rattle.sim_sound.proofs.Sound.{Begun, ChainFine, Fine, HandsFine, Kinds, OpFine, Value, opens, runs}
+use Rattle.sim_sound.proofs.Operators.{again_op, array_op, copy_op, drop_op, element_op, eval_op, fetch_op, give_op, if_op, join_op, one_op, past_op, share_op, standard_op, step_op, store_op, two_op}
+use Rattle.sim_sound.proofs.Sound.{Begun, ChainFine, Fine, HandsFine, Kinds, OpFine, Sight, Value, opens, runs, see}
 use Rattle.sim_sound.proofs.Statements.{branch_goes, choose_goes, elements_goes, exec_goes, execs_goes, raise_goes, step_goes, test_goes, while_goes}
 
-module _ (s : Source) (ok : Typed s) (l : Limits) (o : World) where
+module _ (s : Source) (ok : Typed s) (l : Limits) (o : World) (sights : List Sight) (long : length sights ≡ length o.arrays) where
   module _ (m : Instances) (i t : ℕ) (rest : List Activation) (lt : i < length m.instances) (w : List Item) (vals : List Val) where
     abbrev Wk : List Item → List DeclNo → List Kinds → Type 0
-    Wk w todo ks = Work s o m i t rest lt w todo ks
+    Wk w todo ks = Work s o sights long m i t rest lt w todo ks
 
     abbrev Bg : List DeclNo → Type 0
-    Bg todo = Begun s o.arrays m i t todo
+    Bg todo = Begun s (see sights o) m i t todo
 
     abbrev Hd : List Kinds → Type 0
-    Hd ks = HandsFine s o.arrays m i ks vals
+    Hd ks = HandsFine s (see sights o) m i ks vals
 
     abbrev Stepped : Op → Type 0
     Stepped op = Goes (IsFine s) (do_op s l o m i w vals rest op)
@@ -40,74 +40,75 @@ module _ (s : Source) (ok : Typed s) (l : Limits) (o : World) where
     waiting : (k : Kind) (todo todo' : List DeclNo) (before behind : List Kinds) (X : Type 0) → todo ≡ [] → todo' ≡ [] → before ≡ Value (Simply k) ∷ behind → Bg todo → Hd before → Wk w todo' behind → (Bg [] → Hd (Value (Simply k) ∷ behind) → Wk w [] behind → X) → X
     waiting k todo todo' before behind X e f g b h work go = go (subst Bg e b) (subst Hd g h) (subst (λ z. Wk w z behind) f work)
 
-    op_goes : (op : Op) (todo todo' : List DeclNo) (before behind : List Kinds) → OpFine s o.arrays m i t op todo todo' before behind → Bg todo → Hd before → Wk w todo' behind → Stepped op
-    op_goes (Eval x) todo todo' before behind a b h work = eval_op s ok l o m i t rest lt w vals todo todo' before behind b h work x a
-    op_goes (OneOp op line) todo todo' before behind a b h work = one_op s ok l o m i t rest lt w vals todo todo' before behind b h work op line a
-    op_goes (TwoOp op line) todo todo' before behind a b h work = two_op s ok l o m i t rest lt w vals todo todo' before behind b h work op line a
-    op_goes (IfOp x y) todo todo' before behind a b h work = if_op s ok l o m i t rest lt w vals todo todo' before behind b h work x y a
-    op_goes (ElementOp n line) todo todo' before behind a b h work = element_op s ok l o m i t rest lt w vals todo todo' before behind b h work n line a
-    op_goes FetchOp todo todo' before behind a b h work = fetch_op s ok l o m i t rest lt w vals todo todo' before behind b h work a
-    op_goes (CopyOp line) todo todo' before behind a b h work = copy_op s ok l o m i t rest lt w vals todo todo' before behind b h work line a
-    op_goes (CallOp k n line) todo todo' before behind a b h work = called_goes s ok l o m i t rest lt w vals k n line todo before behind a.0 b h (subst (λ z. Wk w z behind) a.1 work)
-    op_goes (StandardOp name line) todo todo' before behind a b h work = standard_op s ok l o m i t rest lt w vals todo todo' before behind b h work name line a
-    op_goes DropOp todo todo' before behind a b h work = drop_op s ok l o m i t rest lt w vals todo todo' before behind b h work a
-    op_goes AgainOp todo todo' before behind a b h work = again_op s ok l o m i t rest lt w vals todo todo' before behind b h work a
-    op_goes (StoreOp x) todo todo' before behind a b h work = store_op s ok l o m i t rest lt w vals todo todo' before behind b h work x a
-    op_goes (ShareOp ts) todo todo' before behind a b h work = share_op s ok l o m i t rest lt w vals todo todo' before behind b h work ts a
-    op_goes (GiveOp v ts) todo todo' before behind a b h work = give_op s ok l o m i t rest lt w vals todo todo' before behind b h work v ts a
-    op_goes (ArrayOp k n line) todo todo' before behind a b h work = array_op s ok l o m i t rest lt w vals todo todo' before behind b h work k n line a
+    op_goes : (op : Op) (todo todo' : List DeclNo) (before behind : List Kinds) → OpFine s (see sights o) m i t op todo todo' before behind → Bg todo → Hd before → Wk w todo' behind → Stepped op
+    op_goes (Eval x) todo todo' before behind a b h work = eval_op s ok l o sights long m i t rest lt w vals todo todo' before behind b h work x a
+    op_goes (OneOp op line) todo todo' before behind a b h work = one_op s ok l o sights long m i t rest lt w vals todo todo' before behind b h work op line a
+    op_goes (TwoOp op line) todo todo' before behind a b h work = two_op s ok l o sights long m i t rest lt w vals todo todo' before behind b h work op line a
+    op_goes (IfOp x y) todo todo' before behind a b h work = if_op s ok l o sights long m i t rest lt w vals todo todo' before behind b h work x y a
+    op_goes (ElementOp n line) todo todo' before behind a b h work = element_op s ok l o sights long m i t rest lt w vals todo todo' before behind b h work n line a
+    op_goes FetchOp todo todo' before behind a b h work = fetch_op s ok l o sights long m i t rest lt w vals todo todo' before behind b h work a
+    op_goes (JoinOp line) todo todo' before behind a b h work = join_op s ok l o sights long m i t rest lt w vals todo todo' before behind b h work line a
+    op_goes (CopyOp line) todo todo' before behind a b h work = copy_op s ok l o sights long m i t rest lt w vals todo todo' before behind b h work line a
+    op_goes (CallOp k n line) todo todo' before behind a b h work = called_goes s ok l o sights long m i t rest lt w vals k n line todo before behind a.0 b h (subst (λ z. Wk w z behind) a.1 work)
+    op_goes (StandardOp name line) todo todo' before behind a b h work = standard_op s ok l o sights long m i t rest lt w vals todo todo' before behind b h work name line a
+    op_goes DropOp todo todo' before behind a b h work = drop_op s ok l o sights long m i t rest lt w vals todo todo' before behind b h work a
+    op_goes AgainOp todo todo' before behind a b h work = again_op s ok l o sights long m i t rest lt w vals todo todo' before behind b h work a
+    op_goes (StoreOp x) todo todo' before behind a b h work = store_op s ok l o sights long m i t rest lt w vals todo todo' before behind b h work x a
+    op_goes (ShareOp ts) todo todo' before behind a b h work = share_op s ok l o sights long m i t rest lt w vals todo todo' before behind b h work ts a
+    op_goes (GiveOp v ts) todo todo' before behind a b h work = give_op s ok l o sights long m i t rest lt w vals todo todo' before behind b h work v ts a
+    op_goes (ArrayOp k n line) todo todo' before behind a b h work = array_op s ok l o sights long m i t rest lt w vals todo todo' before behind b h work k n line a
     op_goes (Exec x) todo todo' before behind a b h work =
-        ready todo todo' before behind (Stepped (Exec x)) a.0 a.1 a.2 b h work (λ b h work. exec_goes s ok l o m i t rest lt w vals before b h work x a.3)
+        ready todo todo' before behind (Stepped (Exec x)) a.0 a.1 a.2 b h work (λ b h work. exec_goes s ok l o sights long m i t rest lt w vals before b h work x a.3)
     op_goes (Execs ss) todo todo' before behind a b h work =
-        ready todo todo' before behind (Stepped (Execs ss)) a.0 a.1 a.2 b h work (λ b h work. execs_goes s ok l o m i t rest lt w vals before b h work ss a.3)
+        ready todo todo' before behind (Stepped (Execs ss)) a.0 a.1 a.2 b h work (λ b h work. execs_goes s ok l o sights long m i t rest lt w vals before b h work ss a.3)
     op_goes (EnterOp k line) todo todo' before behind a b h work =
         let x = a.3 in
         ready todo todo' before behind (Stepped (EnterOp k line)) a.0 a.1 a.2 b h work (λ b h work.
-        subst (λ z. Goes (IsFine s) (sub_block_entered s l o m i w vals rest k line z)) (sym x.4) (block_entered s ok l o m i t rest lt w vals k line x.1 x.2 x.3 before x.4 x.0 b h work))
+        subst (λ z. Goes (IsFine s) (sub_block_entered s l o m i w vals rest k line z)) (sym x.4) (block_entered s ok l o sights long m i t rest lt w vals k line x.1 x.2 x.3 before x.4 x.0 b h work))
     op_goes (ChooseOp x y) todo todo' before behind a b h work =
-        waiting kind.Boolean todo todo' before behind (Stepped (ChooseOp x y)) a.0 a.1 a.2 b h work (λ b h work. choose_goes s ok l o m i t rest lt w vals behind b h work x y a.3 a.4)
+        waiting kind.Boolean todo todo' before behind (Stepped (ChooseOp x y)) a.0 a.1 a.2 b h work (λ b h work. choose_goes s ok l o sights long m i t rest lt w vals behind b h work x y a.3 a.4)
     op_goes (TestOp c x) todo todo' before behind a b h work =
         let y = a.3 in
-        ready todo todo' before behind (Stepped (TestOp c x)) a.0 a.1 a.2 b h work (λ b h work. test_goes s ok l o m i t rest lt w vals before b h work c x y.0 y.1)
+        ready todo todo' before behind (Stepped (TestOp c x)) a.0 a.1 a.2 b h work (λ b h work. test_goes s ok l o sights long m i t rest lt w vals before b h work c x y.0 y.1)
     op_goes (BranchOp x again) todo todo' before behind a b h work =
-        waiting kind.Boolean todo todo' before behind (Stepped (BranchOp x again)) a.0 a.1 a.2 b h work (λ b h work. branch_goes s ok l o m i t rest lt w vals behind b h work x again a.3 a.4)
-    op_goes (BackOp op) todo todo' before behind a b h work = goes_on s o m i t rest lt (Do op ∷ w) vals todo before b h (todo', behind, a, work)
-    op_goes PastOp todo todo' before behind a b h work = past_op s ok l o m i t rest lt w vals todo todo' before behind b h work a
+        waiting kind.Boolean todo todo' before behind (Stepped (BranchOp x again)) a.0 a.1 a.2 b h work (λ b h work. branch_goes s ok l o sights long m i t rest lt w vals behind b h work x again a.3 a.4)
+    op_goes (BackOp op) todo todo' before behind a b h work = goes_on s o sights long m i t rest lt (Do op ∷ w) vals todo before b h (todo', behind, a, work)
+    op_goes PastOp todo todo' before behind a b h work = past_op s ok l o sights long m i t rest lt w vals todo todo' before behind b h work a
     op_goes (ElementsOp x es c) todo todo' before behind a b h work =
         let y = a.3 in
-        ready todo todo' before behind (Stepped (ElementsOp x es c)) a.0 a.1 a.2 b h work (λ b h work. elements_goes s ok l o m i t rest lt w vals before b h work x es c y.0 y.1 y.2 y.3)
+        ready todo todo' before behind (Stepped (ElementsOp x es c)) a.0 a.1 a.2 b h work (λ b h work. elements_goes s ok l o sights long m i t rest lt w vals before b h work x es c y.0 y.1 y.2 y.3)
     op_goes (WhileElementOp x e c d) todo todo' before behind a b h work =
         let y = a.3 in
-        ready todo todo' before behind (Stepped (WhileElementOp x e c d)) a.0 a.1 a.2 b h work (λ b h work. while_goes s ok l o m i t rest lt w vals before b h work x e c d y.0 y.1 y.2 y.3 y.4)
+        ready todo todo' before behind (Stepped (WhileElementOp x e c d)) a.0 a.1 a.2 b h work (λ b h work. while_goes s ok l o sights long m i t rest lt w vals before b h work x e c d y.0 y.1 y.2 y.3 y.4)
     op_goes (StepTestOp x line f g c) todo todo' before behind a b h work =
         waiting kind.Integer todo todo' before behind (Stepped (StepTestOp x line f g c)) a.0 a.1 a.2 b h work (λ b h work.
-        step_goes s ok l o m i t rest lt (EndProgram ∷ []) vals (Value (Simply kind.Integer) ∷ behind) b h tt x line f g c behind refl a.3 a.4 a.5 a.6 w work)
-    op_goes (StepOp line) todo todo' before behind a b h work = step_op s ok l o m i t rest lt w vals todo todo' before behind b h work line a
+        step_goes s ok l o sights long m i t rest lt (EndProgram ∷ []) vals (Value (Simply kind.Integer) ∷ behind) b h tt x line f g c behind refl a.3 a.4 a.5 a.6 w work)
+    op_goes (StepOp line) todo todo' before behind a b h work = step_op s ok l o sights long m i t rest lt w vals todo todo' before behind b h work line a
     op_goes (RaiseOp x line f g c) todo todo' before behind a b h work =
         let y = a.3 in
-        ready todo todo' before behind (Stepped (RaiseOp x line f g c)) a.0 a.1 a.2 b h work (λ b h work. raise_goes s ok l o m i t rest lt w vals before b h work x line f g c y.0 y.1 y.2 y.3)
+        ready todo todo' before behind (Stepped (RaiseOp x line f g c)) a.0 a.1 a.2 b h work (λ b h work. raise_goes s ok l o sights long m i t rest lt w vals before b h work x line f g c y.0 y.1 y.2 y.3)
 
     item_goes : (x : Item) (todo : List DeclNo) (ks : List Kinds) → Bg todo → Hd ks → Wk (x ∷ w) todo ks → Goes (IsFine s) (do_item s l o m i w vals rest x)
     item_goes (Do op) todo ks b h a = op_goes op todo a.0 ks a.1 a.2 b h a.3
-    item_goes EndBlock todo ks b h a = leaves s ok l o m i t lt rest None None tt a
-    item_goes (EndProcedure leaves') todo ks b h a = procedure_ends s ok l o m i t lt leaves' w vals rest todo a.0 a.1 a.2 a.3 a.4 b a.5
+    item_goes EndBlock todo ks b h a = leaves s ok l o sights long m i t lt rest None None tt a
+    item_goes (EndProcedure leaves') todo ks b h a = procedure_ends s ok l o sights long m i t lt leaves' w vals rest todo a.0 a.1 a.2 a.3 a.4 b a.5
     item_goes EndProgram todo ks b h a = stops (IsFine s) Normal o (λ e. cc)
 
-  work_goes : (m : Instances) (i t : ℕ) (rest : List Activation) (lt : i < length m.instances) (vals : List Val) (work : List Item) (todo : List DeclNo) (ks : List Kinds) → Begun s o.arrays m i t todo → HandsFine s o.arrays m i ks vals → Work s o m i t rest lt work todo ks → Goes (IsFine s) (do_work s l o m i vals rest work)
+  work_goes : (m : Instances) (i t : ℕ) (rest : List Activation) (lt : i < length m.instances) (vals : List Val) (work : List Item) (todo : List DeclNo) (ks : List Kinds) → Begun s (see sights o) m i t todo → HandsFine s (see sights o) m i ks vals → Work s o sights long m i t rest lt work todo ks → Goes (IsFine s) (do_work s l o m i vals rest work)
   work_goes m i t rest lt vals [] todo ks b h a = absurd a
   work_goes m i t rest lt vals (x ∷ w) todo ks b h a = item_goes m i t rest lt w vals x todo ks b h a
 
-  chain_goes : (m : Instances) (chain : List Activation) → ChainFine s o.arrays m (length m.instances) chain None → Goes (IsFine s) (do_chain s l o m chain)
+  chain_goes : (m : Instances) (chain : List Activation) → ChainFine s (see sights o) m (length m.instances) chain None → Goes (IsFine s) (do_chain s l o m chain)
   chain_goes m [] c = absurd c
   chain_goes m (a ∷ rest) c = work_goes m a.instance c.of_text rest c.before a.values a.work c.todo c.kinds c.begun c.hands c.goes
 
   -- a step from where there is a rule leads to where there is one, or to an end
-  pub fine_step : (c : Configuration) → Fine s o.arrays c → Goes (IsFine s) (step s l o c)
-  fine_step c (opens none empty) = subst (λ z. Goes (IsFine s) (do_chain s l o c.memory z)) (sym none) (first_goes s ok l o c.memory empty)
+  pub fine_step : (c : Configuration) → Fine s (see sights o) c → Goes (IsFine s) (step s l o c)
+  fine_step c (opens none empty) = subst (λ z. Goes (IsFine s) (do_chain s l o c.memory z)) (sym none) (first_goes s ok l o sights long c.memory empty)
   fine_step c (runs f) = chain_goes c.memory c.chain f
 
 next_goes : (s : Source) → Typed s → (l : Limits) (r : Run Configuration) → Goes (IsFine s) r → Goes (IsFine s) (next (step s l) r)
-next_goes s ok l (Going o c) f = fine_step s ok l o c f
+next_goes s ok l (Going o c) f = fine_step s ok l o f.0 f.1 c f.2
 next_goes s ok l (Ended o e) f = f
 
 after_goes : (s : Source) → Typed s → (l : Limits) (n : ℕ) (r : Run Configuration) → Goes (IsFine s) r → Goes (IsFine s) (after (step s l) n r)
@@ -120,4 +121,4 @@ no_end s r o e is f = subst (Goes (IsFine s)) is f
 
 -- a typed program never comes to where there is no rule
 pub never_no_rule : (s : Source) → Typed s → (l : Limits) (input : List ℕ) (n : ℕ) (o : World) → run s l input n ≡ Ended o NoRule → ⊥
-never_no_rule s ok l input n o is = no_end s (run s l input n) o NoRule is (after_goes s ok l n (opening s l input) (opens refl refl)) refl
+never_no_rule s ok l input n o is = no_end s (run s l input n) o NoRule is (after_goes s ok l n (opening s l input) ([], refl, opens refl refl)) refl

@@ -13,9 +13,9 @@ use Rattle.sim_meaning.specs.Pending.{Activation, Declared, Held, Instances, Key
 use Rattle.sim_meaning.specs.Meaning.{instances_left, text_of, words_of_text, world_left}
 use Rattle.sim_meaning.specs.Texts.{text}
 use Rattle.sim_sound.specs.Typed.{Holds, key_holds}
-use Rattle.sim_sound.proofs.Sound.{AllArrays, ArrayFine, Own, ValFine}
+use Rattle.sim_sound.proofs.Sound.{AllArrays, ArrayFine, Own, Sight, ValFine, see}
 use Rattle.sim_sound.proofs.Changes.{cells_set, held_stays, keys_set}
-use Rattle.sim_sound.proofs.Later.{Later, OwnLater}
+use Rattle.sim_sound.proofs.Later.{Copies, Later, OwnLater, later_none}
 use Rattle.sim_sound.proofs.Lists.{append_before, if_false, other_numbers, same_some, set_len, set_other, set_same}
 
 -- ---- an instance that is there
@@ -92,7 +92,7 @@ later_entered s o m x z = record {
 goes_not : (i : ℕ) (x : OneArray) → x.owner < i → goes_with i x ≡ false
 goes_not i x lt = let no : (x.owner == i) ≡ false = other_numbers x.owner i (λ e. omega (arith, e, lt)) in ap (λ b. b && not x.kept && not x.given_back) no
 
-given_lives : (o : AllArrays) (i a : ℕ) (it : OneArray) → unless_given (slice_get o a) ≡ Some it → it.owner < i → unless_given (slice_get (given_with i o) a) ≡ Some it
+given_lives : (o : List OneArray) (i a : ℕ) (it : OneArray) → unless_given (slice_get o a) ≡ Some it → it.owner < i → unless_given (slice_get (given_with i o) a) ≡ Some it
 given_lives [] i a it e lt = absurd (cc)
 given_lives (x ∷ o) i zero it e lt =
     let w = first_there (Some x) it e in
@@ -103,8 +103,18 @@ given_lives (x ∷ o) i zero it e lt =
     first_there o it e = (Rattle.sim_sound.proofs.Changes.array_there o it e).0
 given_lives (x ∷ o) i (suc a) it e lt = given_lives o i a it e lt
 
-array_given : (o : AllArrays) (i j : ℕ) (k : Kind) (a : ℕ) → j < i → ArrayFine o j k a → ArrayFine (given_with i o) j k a
-array_given o i j k a lt f = record { it = f.it; lives = given_lives o i a f.it f.lives (let w = f.owned in omega (arith, w, lt)); owned = f.owned; kinds = f.kinds; count = f.count }
+abbrev given_view : ℕ → AllArrays → AllArrays
+given_view i o = record o { real = given_with i o.real }
+
+array_given : (o : AllArrays) (i j : ℕ) (k : Kind) (a : ℕ) → j < i → ArrayFine o j k a → ArrayFine (given_view i o) j k a
+array_given o i j k a lt f = record { it = f.it; lives = given_lives o.real i a f.it f.lives (let w = f.owned in omega (arith, w, lt)); known = f.known; owned = f.owned; kinds = f.kinds; count = f.count }
+
+copy_given : (o : AllArrays) (i j d : ℕ) → j < i → Copies o (given_view i o) j d
+copy_given o i j d lt e k a less f = record { it = f.it; lives = given_lives o.real i a f.it f.lives (let w = f.owned in omega (arith, w, lt)); hidden = f.hidden; owned = f.owned; kinds = f.kinds; count = f.count }
+
+with_len : (i : ℕ) (o : List OneArray) → length (given_with i o) ≡ length o
+with_len i [] = refl
+with_len i (x ∷ o) = ap suc (with_len i o)
 
 given_other : (m : Instances) (i j : ℕ) (x : Option (Instance (List Held))) → j < i → slice_get (given_in m i x).instances j ≡ slice_get m.instances j
 given_other m i j None lt = refl
@@ -114,7 +124,7 @@ given_len : (m : Instances) (i : ℕ) (x : Option (Instance (List Held))) → le
 given_len m i None = refl
 given_len m i (Some x) = set_len m.instances i (record x { given_back = true })
 
-later_given : (s : Source) (o : AllArrays) (m : Instances) (i : ℕ) → Later s o m (given_with i o) (given m i) i
+later_given : (s : Source) (o : AllArrays) (m : Instances) (i : ℕ) → Later s o m (given_view i o) (given m i) i
 unfolding array_given
 later_given s o m i = record {
   arrays = λ j k a lt f. array_given o i j k a lt f;
@@ -128,23 +138,36 @@ later_given s o m i = record {
       has_text = a.has_text;
       level = a.level;
       keys = a.keys;
-      cells = Rattle.sim_sound.proofs.Changes.cells_map s o (given_with i o) j t (Rattle.sim_sound.proofs.Changes.val_map o (given_with i o) j (λ k n. array_given o i j k n lt)) y.cells a.cells;
+      cells = Rattle.sim_sound.proofs.Changes.cells_map s o (given_view i o) j t (Rattle.sim_sound.proofs.Changes.val_map o (given_view i o) j (λ k n. array_given o i j k n lt)) y.cells a.cells;
     };
     encloser = refl;
     made = λ todo f. f;
   };
 }
 
-later_same : (s : Source) (o : AllArrays) (m : Instances) (i : ℕ) → Later s o m o m i
-later_same s o m i = record { arrays = λ j k a lt f. f; elements = λ j k a n lt f. f; own = λ j t y lt a. record { now = y; own = a; encloser = refl; made = λ todo f. f } }
+later_if : (s : Source) (g : List Sight) (o p : World) (m n : Instances) (i : ℕ) (b : Bool) → Later s (see g o) m (see g p) n i → Later s (see g o) m (see g (if b then p else o)) (if b then n else m) i
+later_if s g o p m n i true e = e
+later_if s g o p m n i false e = later_none s (see g o) m i
 
-later_if : (s : Source) (o p : World) (m n : Instances) (i : ℕ) (b : Bool) → Later s o.arrays m p.arrays n i → Later s o.arrays m (if b then p else o).arrays (if b then n else m) i
-later_if s o p m n i true e = e
-later_if s o p m n i false e = later_same s o.arrays m i
-
-pub later_left : (s : Source) (o : World) (m : Instances) (i : ℕ) → Later s o.arrays m (world_left s i o m).arrays (instances_left i m) i
+pub later_left : (s : Source) (g : List Sight) (o : World) (m : Instances) (i : ℕ) → Later s (see g o) m (see g (world_left s i o m)) (instances_left i m) i
 unfolding giving_back
-later_left s o m i = later_if s o (giving_back o i (words_of_text s (text_of m i) (text s (text_of m i)))) m (given m i) i (is_given_at_end m i) (later_given s o.arrays m i)
+later_left s g o m i = later_if s g o (giving_back o i (words_of_text s (text_of m i) (text s (text_of m i)))) m (given m i) i (is_given_at_end m i) (later_given s (see g o) m i)
+
+copies_if : (g : List Sight) (o p : World) (j d : ℕ) (b : Bool) → Copies (see g o) (see g p) j d → Copies (see g o) (see g (if b then p else o)) j d
+copies_if g o p j d true c = c
+copies_if g o p j d false c = λ e k a lt f. f
+
+pub copies_left : (s : Source) (g : List Sight) (o : World) (m : Instances) (i j d : ℕ) → j < i → Copies (see g o) (see g (world_left s i o m)) j d
+unfolding giving_back
+copies_left s g o m i j d lt = copies_if g o (giving_back o i (words_of_text s (text_of m i) (text s (text_of m i)))) j d (is_given_at_end m i) (copy_given (see g o) i j d lt)
+
+world_len_if : (o p : World) (b : Bool) → length p.arrays ≡ length o.arrays → length (if b then p else o).arrays ≡ length o.arrays
+world_len_if o p true e = e
+world_len_if o p false e = refl
+
+pub world_len : (s : Source) (o : World) (m : Instances) (i : ℕ) → length (world_left s i o m).arrays ≡ length o.arrays
+unfolding giving_back
+world_len s o m i = world_len_if o (giving_back o i (words_of_text s (text_of m i) (text s (text_of m i)))) (is_given_at_end m i) (with_len i o.arrays)
 
 len_if : (m n : Instances) (b : Bool) → length n.instances ≡ length m.instances → length (if b then n else m).instances ≡ length m.instances
 len_if m n true e = e

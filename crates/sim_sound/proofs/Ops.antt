@@ -1,75 +1,86 @@
 -- The operators of expressions and assignments.
-use Rattle.std.proofs.Common.{◌≡◌, ℕ, ◌<◌, List, ◌∷◌, length, Option, Some, None, ◌⊎◌, inl, inr, ⊎_elim, refl, sym, ap, ◌∙◌, subst, arith}
+use Rattle.std.proofs.Common.{◌≡◌, ℕ, ◌<◌, true, List, ◌∷◌, length, Option, Some, None, ◌⊎◌, inl, inr, ⊎_elim, refl, sym, ap, ◌∙◌, subst, arith}
 use Rattle.sim_base.specs.declared.limits.Limits.{Limits}
 use Rattle.sim_base.specs.declared.numbering.DeclNo.{DeclNo}
 use Rattle.sim_scope.specs.Source.{Source}
 use Rattle.sim_values.specs.declared.kind.Kind.{Kind}
-use Rattle.sim_values.specs.Plain.{Plain, kind_of}
-use Rattle.sim_code.specs.Arrays.{added, copying_array, element, element_set, element_set_in, live_array, making_array, pairs}
-use Rattle.sim_code.specs.Events.{having}
+use Rattle.sim_values.specs.declared.kind.Kind.TheVariants as kind
+use Rattle.sim_values.specs.declared.value.TextVal.{TextVal}
+use Rattle.sim_values.specs.Plain.{Plain, Text, kind_of}
+use Rattle.sim_values.specs.Store.{Store, image_at, with_image}
+use Rattle.sim_values.specs.Texts.{same_text}
+use Rattle.sim_code.specs.Arrays.{element, element_set, element_set_in}
+use Rattle.sim_code.specs.Events.{having, image_moved, image_set, image_value, putting_back, text_of}
 use Rattle.sim_code.specs.Instances.{CellPlace, ElementPlace, ImagePlace}
-use Rattle.sim_code.specs.Outcome.{Run, World}
-use Rattle.sim_meaning.specs.Pending.{Activation, Address, AgainOp, ArrayOp, ArrayValue, Cell, Configuration, CopyOp, Declared, Do, DropOp, ElementOp, Eval, FetchOp, GiveOp, Held, IfOp, Instances, Item, Key, Link, Of, OneOp, Op, PastOp, ProcedureValue, ShareOp, StandardOp, StepOp, StoreOp, Target, Term, ToAddress, ToCell, Tree, TwoOp, Val, array_in, cell_set, held, place_in, plain}
-use Rattle.sim_meaning.specs.Steps.{go, of_plain, putting, value_at}
+use Rattle.sim_code.specs.Outcome.{ArrayOf as OneArray, Run, World}
+use Rattle.sim_meaning.specs.Pending.{Activation, Address, AgainOp, ArrayOp, ArrayValue, Cell, Configuration, CopyOp, Declared, Do, DropOp, ElementOp, Eval, FetchOp, GiveOp, Held, IfOp, Instances, Item, Key, Link, Of, OneOp, Op, PastOp, ProcedureValue, ShareOp, StandardOp, StepOp, StoreOp, Target, Term, ToAddress, ToCell, Tree, TwoOp, Val, array_in, cell, cell_set, held, place_in, plain}
+use Rattle.sim_meaning.specs.Steps.{go, of_plain, put_back, putting, value_at}
 use Rattle.sim_sound.specs.Typed.{Among, ArrayOf, Simply, Typed, first, key_holds, later}
-use Rattle.sim_sound.proofs.Cells.{cell_put}
-use Rattle.sim_sound.proofs.Changes.{changed, held_now, held_stays, later_element}
+use Rattle.sim_sound.proofs.Cells.{cell_put, target_cell}
+use Rattle.sim_sound.proofs.Changes.{changed, copies_element, held_now, held_stays, later_element}
 use Rattle.sim_sound.proofs.Evals.{IsFine, Work, goes_on}
-use Rattle.sim_sound.proofs.Later.{Later, begun_later, chain_later, enclosed_later, hands_later, later_under, work_later}
-use Rattle.sim_sound.proofs.Lifts.{Goes, had}
-use Rattle.sim_sound.proofs.Lists.{no_some, set_len}
+use Rattle.sim_sound.proofs.Later.{Copies, Later, begun_later, chain_later, enclosed_later, hands_later, later_under, work_later}
+use Rattle.sim_sound.proofs.Lifts.{Goes, had, ran}
+use Rattle.sim_sound.proofs.Names.{AllBack, element_there, image_there, plain_of}
+use Rattle.sim_sound.proofs.Lists.{if_true, no_some, set_len}
 use Rattle.sim_sound.proofs.Moves.{later_cell, other, own_set, set_in}
-use Rattle.sim_sound.proofs.Sound.{AddressOf, AllArrays, ArrayFine, ArrayStored, Begun, CellTarget, ChainFine, ElementFine, Fine, HandFine, HandsFine, Kinds, LinkTo, Made, OpFine, Own, StoreFine, TargetFine, TargetsFine, ValFine, Value, Whole, WorkFine, array_stored, given, held_kinds, integers, runs, simple, value_stored}
+use Rattle.sim_sound.proofs.Sound.{AddressOf, AllArrays, ArrayFine, ArrayStored, Begun, CellTarget, ChainFine, Copied, ElementFine, Fine, HandFine, HandsFine, ImageAddress, Kinds, Leads, LinkTo, Made, OpFine, OperandIs, Own, Sight, StoreFine, TargetFine, TargetsFine, ValFine, Value, Whole, WorkFine, array_stored, given, held_kinds, integers, runs, see, simple, value_stored}
 
 among_cases : (e : DeclNo) (xs : List DeclNo) → Among e xs → (d : DeclNo) (ds : List DeclNo) → xs ≡ d ∷ ds → (e ≡ d) ⊎ Among e ds
 among_cases e xs (first {ds = es}) d ds f = inl (cc)
 among_cases e xs (later {e = x} {ds = es} a) d ds f = inr (subst (Among e) (let g : es ≡ ds = cc in g) a)
 
-abbrev pub with_arrays : World → AllArrays → World
+abbrev pub with_arrays : World → List OneArray → World
 with_arrays o a = record o { arrays = a }
 
-module _ (s : Source) (ok : Typed s) (l : Limits) (o : World) (m : Instances) (i t : ℕ) (rest : List Activation) (lt : i < length m.instances) where
+module _ (s : Source) (ok : Typed s) (l : Limits) (o : World) (g : List Sight) (long : length g ≡ length o.arrays) (m : Instances) (i t : ℕ) (rest : List Activation) (lt : i < length m.instances) where
   abbrev Wk : List Item → List DeclNo → List Kinds → Type 0
-  Wk w todo ks = Work s o m i t rest lt w todo ks
+  Wk w todo ks = Work s o g long m i t rest lt w todo ks
 
   abbrev Hd : List Kinds → List Val → Type 0
-  Hd ks vals = HandsFine s o.arrays m i ks vals
+  Hd ks vals = HandsFine s (see g o) m i ks vals
 
   abbrev Go : Run Configuration → Type 0
   Go r = Goes (IsFine s) r
 
   abbrev Bg : List DeclNo → Type 0
-  Bg todo = Begun s o.arrays m i t todo
+  Bg todo = Begun s (see g o) m i t todo
 
   -- where a store is later, with all else as it was
-  module _ (arrays : AllArrays) (n : Instances) (e : Later s o.arrays m arrays n (length m.instances)) (same : length n.instances ≡ length m.instances) where
-    under : Later s o.arrays m arrays n i
-    under = later_under s o.arrays m arrays n (length m.instances) i (omega (arith, lt)) e
+  module _ (g' : List Sight) (o' : World) (long' : length g' ≡ length o'.arrays) (n : Instances) (e : Later s (see g o) m (see g' o') n (length m.instances)) (copies : (j d : ℕ) → j < length m.instances → Copies (see g o) (see g' o') j d) (same : length n.instances ≡ length m.instances) where
+    under : Later s (see g o) m (see g' o') n i
+    under = later_under s (see g o) m (see g' o') n (length m.instances) i (omega (arith, lt)) e
 
-    below_later : (v : Option Kinds) → ChainFine s o.arrays m i rest v → ChainFine s arrays n i rest v
-    below_later v c = chain_later s o.arrays m arrays n i under rest v c
+    below_later : (v : Option Kinds) → ChainFine s (see g o) m i rest v → ChainFine s (see g' o') n i rest v
+    below_later v c = chain_later s (see g o) m (see g' o') n i under (λ j d less. copies j d (omega (arith, less, lt))) rest v c
 
-    pub later_work : (w : List Item) (todo : List DeclNo) (ks : List Kinds) → Wk w todo ks → WorkFine s arrays n (λ v. ChainFine s arrays n i rest v) i t w todo ks
-    later_work w todo ks a = work_later s o.arrays m arrays n (length m.instances) e i t lt (λ v. ChainFine s o.arrays m i rest v) (λ v. ChainFine s arrays n i rest v) below_later w todo ks a
+    pub later_work : (w : List Item) (todo : List DeclNo) (ks : List Kinds) → Wk w todo ks → WorkFine s (see g' o') n (λ v. ChainFine s (see g' o') n i rest v) i t w todo ks
+    later_work w todo ks a = work_later s (see g o) m (see g' o') n (length m.instances) e i t lt (λ v. ChainFine s (see g o) m i rest v) (λ v. ChainFine s (see g' o') n i rest v) below_later w todo ks a
 
-    pub later_with : (w : List Item) (vals : List Val) (todo todo' : List DeclNo) (ks : List Kinds) → Begun s arrays n i t todo' → HandsFine s arrays n i ks vals → Wk w todo' ks → Fine s arrays (record { chain = record { instance = i; work = w; values = vals } ∷ rest; memory = n })
-    later_with w vals todo todo' ks b h work = goes_on s (with_arrays o arrays) n i t rest (subst (λ z. i < z) (sym same) lt) w vals todo' ks b h (later_work w todo' ks work)
+    pub later_hands : (ks : List Kinds) (vals : List Val) → Hd ks vals → HandsFine s (see g' o') n i ks vals
+    later_hands ks vals h = hands_later s (see g o) m (see g' o') n (length m.instances) e i lt ks vals (copies i (length vals) lt) h
 
-    pub later_goes : (w : List Item) (vals : List Val) (todo : List DeclNo) (ks : List Kinds) → Bg todo → Hd ks vals → Wk w todo ks → Fine s arrays (record { chain = record { instance = i; work = w; values = vals } ∷ rest; memory = n })
-    later_goes w vals todo ks b h work =
-        later_with w vals todo todo ks (begun_later s o.arrays m arrays n (length m.instances) e i t todo lt b) (hands_later s o.arrays m arrays n (length m.instances) e i lt ks vals h) work
+    pub later_with : (w : List Item) (vals : List Val) (todo' : List DeclNo) (ks : List Kinds) → Begun s (see g' o') n i t todo' → HandsFine s (see g' o') n i ks vals → Wk w todo' ks → IsFine s o' (record { chain = record { instance = i; work = w; values = vals } ∷ rest; memory = n })
+    later_with w vals todo' ks b h work = goes_on s o' g' long' n i t rest (subst (λ z. i < z) (sym same) lt) w vals todo' ks b h (later_work w todo' ks work)
+
+    pub later_goes : (w : List Item) (vals : List Val) (todo : List DeclNo) (ks : List Kinds) → Bg todo → Hd ks vals → Wk w todo ks → IsFine s o' (record { chain = record { instance = i; work = w; values = vals } ∷ rest; memory = n })
+    later_goes w vals todo ks b h work = later_with w vals todo ks (begun_later s (see g o) m (see g' o') n (length m.instances) e i t todo lt b) (later_hands ks vals h) work
+
+  -- arrays stay as they are
+  same_copies : (j d : ℕ) → j < length m.instances → Copies (see g o) (see g o) j d
+  same_copies j d lt e k a less f = f
 
   -- ---- a cell is set
 
-  pub set_goes : (j u : ℕ) (key : Key) (k : Kind) (v : Val) (w : List Item) (vals : List Val) (todo : List DeclNo) (ks : List Kinds) → CellTarget s o.arrays m i j key k → ValFine o.arrays i (Simply k) v → Bg todo → Hd ks vals → Wk w todo ks → Go (having (cell_set m j key v) o (λ m. go o m i w vals rest))
+  pub set_goes : (j u : ℕ) (key : Key) (k : Kind) (v : Val) (w : List Item) (vals : List Val) (todo : List DeclNo) (ks : List Kinds) → CellTarget s (see g o) m i j key k → ValFine (see g o) i (Simply k) v → Bg todo → Hd ks vals → Wk w todo ks → Go (having (cell_set m j key v) o (λ m. go o m i w vals rest))
   set_goes j u key k v w vals todo ks c fine b h work =
       let own = (c.whole).own in
       let x = (c.whole).now in
-      let r = cell_put s o.arrays m j c.around x key v own c.there in
-      had (IsFine s) (cell_set m j key v) (set_in s o.arrays m j c.around x own key (Simply k) v c.holds (simple_here v fine) r.0 r.1) o (λ m. go o m i w vals rest) r.2
-      (later_goes o.arrays (set_in s o.arrays m j c.around x own key (Simply k) v c.holds (simple_here v fine) r.0 r.1) (later_cell s o.arrays m j c.around x own key (Simply k) v c.holds (simple_here v fine) r.0 r.1 (length m.instances)) (set_len m.instances j (record x { cells = r.0 })) w vals todo ks b h work)
+      let r = cell_put s (see g o) m j c.around x key v own c.there in
+      had (IsFine s) (cell_set m j key v) (set_in s (see g o) m j c.around x own key (Simply k) v c.holds (simple_here v fine) r.0 r.1) o (λ m. go o m i w vals rest) r.2
+      (later_goes g o long (set_in s (see g o) m j c.around x own key (Simply k) v c.holds (simple_here v fine) r.0 r.1) (later_cell s (see g o) m j c.around x own key (Simply k) v c.holds (simple_here v fine) r.0 r.1 (length m.instances)) same_copies (set_len m.instances j (record x { cells = r.0 })) w vals todo ks b h work)
     where
-      simple_here : (v : Val) → ValFine o.arrays i (Simply k) v → ValFine o.arrays j (Simply k) v
+      simple_here : (v : Val) → ValFine (see g o) i (Simply k) v → ValFine (see g o) j (Simply k) v
       simple_here (Of p) a = a
       simple_here (Link n) a = absurd a
       simple_here (Address n) a = absurd a
@@ -84,36 +95,32 @@ module _ (s : Source) (ok : Typed s) (l : Limits) (o : World) (m : Instances) (i
       (λ a. a)
       (among_cases e todo (made e k holds in_text (held_stays (Declared d.0) v (Declared e.0) hs cells set none)) d todo' is)
 
-  pub stored_array : (d : DeclNo) (k : Kind) (v : Val) (w : List Item) (vals : List Val) (todo todo' : List DeclNo) (ks : List Kinds) → key_holds s t (Declared d.0) ≡ Some (ArrayOf k) → Rattle.sim_sound.proofs.Sound.KeyAmong (Declared d.0) (Rattle.sim_sound.proofs.Sound.keys_in s t (Rattle.sim_meaning.specs.Texts.text s t)) → todo ≡ d ∷ todo' → ValFine o.arrays i (ArrayOf k) v → Bg todo → Hd ks vals → Wk w todo' ks → Go (having (cell_set m i (Declared d.0) v) o (λ m. go o m i w vals rest))
+  pub stored_array : (d : DeclNo) (k : Kind) (v : Val) (w : List Item) (vals : List Val) (todo todo' : List DeclNo) (ks : List Kinds) → key_holds s t (Declared d.0) ≡ Some (ArrayOf k) → Rattle.sim_sound.proofs.Sound.KeyAmong (Declared d.0) (Rattle.sim_sound.proofs.Sound.keys_in s t (Rattle.sim_meaning.specs.Texts.text s t)) → todo ≡ d ∷ todo' → ValFine (see g o) i (ArrayOf k) v → Bg todo → Hd ks vals → Wk w todo' ks → Go (having (cell_set m i (Declared d.0) v) o (λ m. go o m i w vals rest))
   stored_array d k v w vals todo todo' ks holds there is fine b h work =
       let own = b.own in
       let x = b.now in
-      let r = cell_put s o.arrays m i t x (Declared d.0) v own there in
-      let n = set_in s o.arrays m i t x own (Declared d.0) (ArrayOf k) v holds fine r.0 r.1 in
-      let e = later_cell s o.arrays m i t x own (Declared d.0) (ArrayOf k) v holds fine r.0 r.1 (length m.instances) in
+      let r = cell_put s (see g o) m i t x (Declared d.0) v own there in
+      let n = set_in s (see g o) m i t x own (Declared d.0) (ArrayOf k) v holds fine r.0 r.1 in
+      let e = later_cell s (see g o) m i t x own (Declared d.0) (ArrayOf k) v holds fine r.0 r.1 (length m.instances) in
       had (IsFine s) (cell_set m i (Declared d.0) v) n o (λ m. go o m i w vals rest) r.2
-      (later_with o.arrays n e (set_len m.instances i (record x { cells = r.0 })) w vals todo todo' ks (record {
-        now = other s o.arrays m i t x own (Declared d.0) (ArrayOf k) v holds fine r.0 r.1;
-        own = own_set s o.arrays m i t x own (Declared d.0) (ArrayOf k) v holds fine r.0 r.1;
+      (later_with g o long n e same_copies (set_len m.instances i (record x { cells = r.0 })) w vals todo' ks (record {
+        now = other s (see g o) m i t x own (Declared d.0) (ArrayOf k) v holds fine r.0 r.1;
+        own = own_set s (see g o) m i t x own (Declared d.0) (ArrayOf k) v holds fine r.0 r.1;
         made = made_now todo todo' d v x.cells r.0 r.1 is b.made;
-        out = enclosed_later s o.arrays m o.arrays n (length m.instances) e i t x (other s o.arrays m i t x own (Declared d.0) (ArrayOf k) v holds fine r.0 r.1) refl lt b.out;
-      }) (hands_later s o.arrays m o.arrays n (length m.instances) e i lt ks vals h) work)
+        out = enclosed_later s (see g o) m (see g o) n (length m.instances) e i t x (other s (see g o) m i t x own (Declared d.0) (ArrayOf k) v holds fine r.0 r.1) refl lt b.out;
+      }) (later_hands g o long n e same_copies (set_len m.instances i (record x { cells = r.0 })) ks vals h) work)
 
   -- ---- an element is set
 
-  element_there : (a n : ℕ) (k : Kind) → (f : ElementFine o.arrays i k a n) → (p : Plain) × (element o a n ≡ Some p) × (kind_of p ≡ k)
-  element_there a n k f =
-      let w = Rattle.sim_sound.proofs.Lists.there_get (f.array.it).elements n f.there in
-      (w.0, ap (λ z. Rattle.sim_code.specs.Arrays.element_in z n) (f.array).lives ∙ w.1, (f.array).kinds n w.0 w.1)
-
-  put_element : (a n : ℕ) (k : Kind) (p : Plain) (w : List Item) (vals : List Val) (todo : List DeclNo) (ks : List Kinds) → (f : ElementFine o.arrays i k a n) → kind_of p ≡ k → Bg todo → Hd ks vals → Wk w todo ks → Go (having (element_set o a n p) o (λ o. go o m i w vals rest))
+  put_element : (a n : ℕ) (k : Kind) (p : Plain) (w : List Item) (vals : List Val) (todo : List DeclNo) (ks : List Kinds) → (f : ElementFine (see g o) i k a n) → kind_of p ≡ k → Bg todo → Hd ks vals → Wk w todo ks → Go (having (element_set o a n p) o (λ o. go o m i w vals rest))
   put_element a n k p w vals todo ks f is b h work =
-      let q = element_there a n k f in
-      let set : element_set o a n p ≡ Some (with_arrays o (changed o.arrays i k a n p f is)) = ap (λ z. element_set_in o a n p z (element o a n)) (f.array).lives ∙ ap (λ z. element_set_in o a n p (Some (f.array).it) z) q.1 in
-      had (IsFine s) (element_set o a n p) (with_arrays o (changed o.arrays i k a n p f is)) o (λ o. go o m i w vals rest) set
-      (later_goes (changed o.arrays i k a n p f is) m (later_element o.arrays i k a n p f is s m (length m.instances)) refl w vals todo ks b h work)
+      let q = element_there g o i a n k f in
+      let new = changed (see g o) i k a n p f is in
+      let set : element_set o a n p ≡ Some (with_arrays o new.real) = ap (λ z. element_set_in o a n p z (element o a n)) (f.array).lives ∙ ap (λ z. element_set_in o a n p (Some (f.array).it) z) q.1 in
+      had (IsFine s) (element_set o a n p) (with_arrays o new.real) o (λ o. go o m i w vals rest) set
+      (later_goes g (with_arrays o new.real) (long ∙ sym (set_len o.arrays a (Rattle.sim_sound.proofs.Changes.new (see g o) i k a n p f is))) m (later_element (see g o) i k a n p f is s m (length m.instances)) (λ j d less. copies_element (see g o) i k a n p f is j d) refl w vals todo ks b h work)
 
-  pub putting_goes : (k : Kind) (p v : Val) (w : List Item) (vals : List Val) (todo : List DeclNo) (ks : List Kinds) → HandFine s o.arrays m i (AddressOf k) p → ValFine o.arrays i (Simply k) v → Bg todo → Hd ks vals → Wk w todo ks → Go (having (place_in p) o (λ p. putting p v o m (λ o m. go o m i w vals rest)))
+  pub putting_goes : (k : Kind) (p v : Val) (w : List Item) (vals : List Val) (todo : List DeclNo) (ks : List Kinds) → HandFine s (see g o) m i (AddressOf k) p → ValFine (see g o) i (Simply k) v → Bg todo → Hd ks vals → Wk w todo ks → Go (having (place_in p) o (λ p. putting p v o m (λ o m. go o m i w vals rest)))
   unfolding putting
   putting_goes k (Address (ElementPlace a n None)) (Of p) w vals todo ks f is b h work =
       had (IsFine s) (Some (ElementPlace a n None)) (ElementPlace a n None) o (λ z. putting z (Of p) o m (λ o m. go o m i w vals rest)) refl
@@ -124,7 +131,9 @@ module _ (s : Source) (ok : Typed s) (l : Limits) (o : World) (m : Instances) (i
   putting_goes k (Address (ElementPlace a n None)) (ProcedureValue z y) w vals todo ks f is b h work = absurd is
   putting_goes k (Address (ElementPlace a n None)) (Tree z) w vals todo ks f is b h work = absurd is
   putting_goes k (Address (ElementPlace a n (Some c))) v w vals todo ks f is b h work = absurd f
-  putting_goes k (Address (CellPlace a n c)) v w vals todo ks f is b h work = absurd f
+  putting_goes k (Address (CellPlace e key None)) v w vals todo ks c is b h work =
+      had (IsFine s) (Some (CellPlace e key None)) (CellPlace e key None) o (λ z. putting z v o m (λ o m. go o m i w vals rest)) refl (set_goes e e key k v w vals todo ks c is b h work)
+  putting_goes k (Address (CellPlace a n (Some c))) v w vals todo ks f is b h work = absurd f
   putting_goes k (Address (ImagePlace a)) v w vals todo ks f is b h work = absurd f
   putting_goes k (Of z) v w vals todo ks f is b h work = absurd f
   putting_goes k (Link z) v w vals todo ks f is b h work = absurd f
@@ -132,16 +141,74 @@ module _ (s : Source) (ok : Typed s) (l : Limits) (o : World) (m : Instances) (i
   putting_goes k (ProcedureValue z y) v w vals todo ks f is b h work = absurd f
   putting_goes k (Tree z) v w vals todo ks f is b h work = absurd f
 
-  pub fetched_goes : (k : Kind) (v : Val) (w : List Item) (vals : List Val) (todo : List DeclNo) (ks : List Kinds) → HandFine s o.arrays m i (AddressOf k) v → Bg todo → Hd ks vals → Wk w todo (Value (Simply k) ∷ ks) → Go (having (place_in v) o (λ p. having (value_at o m p) o (λ v. go o m i w (v ∷ vals) rest)))
-  fetched_goes k (Address (ElementPlace a n None)) w vals todo ks f b h work =
-      let q = element_there a n k f in
+  pub fetched_goes : (k : Kind) (x : Kinds) (v : Val) (w : List Item) (vals : List Val) (todo : List DeclNo) (ks : List Kinds) → Leads x k → HandFine s (see g o) m i x v → Bg todo → Hd ks vals → Wk w todo (Value (Simply k) ∷ ks) → Go (having (place_in v) o (λ p. having (value_at o m p) o (λ v. go o m i w (v ∷ vals) rest)))
+  fetched_goes k (AddressOf k') (Address (ElementPlace a n None)) w vals todo ks is f b h work =
+      let q = element_there g o i a n k' f in
       had (IsFine s) (Some (ElementPlace a n None)) (ElementPlace a n None) o (λ p. having (value_at o m p) o (λ v. go o m i w (v ∷ vals) rest)) refl
-      (had (IsFine s) (of_plain (element o a n)) (Of q.0) o (λ v. go o m i w (v ∷ vals) rest) (ap of_plain q.1) (goes_on s o m i t rest lt w (Of q.0 ∷ vals) todo (Value (Simply k) ∷ ks) b (q.2, h) work))
-  fetched_goes k (Address (ElementPlace a n (Some c))) w vals todo ks f b h work = absurd f
-  fetched_goes k (Address (CellPlace a n c)) w vals todo ks f b h work = absurd f
-  fetched_goes k (Address (ImagePlace a)) w vals todo ks f b h work = absurd f
-  fetched_goes k (Of z) w vals todo ks f b h work = absurd f
-  fetched_goes k (Link z) w vals todo ks f b h work = absurd f
-  fetched_goes k (ArrayValue z) w vals todo ks f b h work = absurd f
-  fetched_goes k (ProcedureValue z y) w vals todo ks f b h work = absurd f
-  fetched_goes k (Tree z) w vals todo ks f b h work = absurd f
+      (had (IsFine s) (of_plain (element o a n)) (Of q.0) o (λ v. go o m i w (v ∷ vals) rest) (ap of_plain q.1) (goes_on s o g long m i t rest lt w (Of q.0 ∷ vals) todo (Value (Simply k) ∷ ks) b (q.2 ∙ is, h) work))
+  fetched_goes k (AddressOf k') (Address (CellPlace e key None)) w vals todo ks is c b h work =
+      let q = target_cell s (see g o) m i e key k' c in
+      let p = plain_of s g o e k' q.0 q.2 in
+      had (IsFine s) (Some (CellPlace e key None)) (CellPlace e key None) o (λ p. having (value_at o m p) o (λ v. go o m i w (v ∷ vals) rest)) refl
+      (had (IsFine s) (cell m e key) (Of p.0) o (λ v. go o m i w (v ∷ vals) rest) (q.1 ∙ ap Some p.1) (goes_on s o g long m i t rest lt w (Of p.0 ∷ vals) todo (Value (Simply k) ∷ ks) b (p.2 ∙ is, h) work))
+  fetched_goes k ImageAddress (Address (ImagePlace n)) w vals todo ks is f b h work =
+      let x = image_there o.store n f in
+      had (IsFine s) (Some (ImagePlace n)) (ImagePlace n) o (λ p. having (value_at o m p) o (λ v. go o m i w (v ∷ vals) rest)) refl
+      (had (IsFine s) (of_plain (image_value o n)) (Of (Text x.0)) o (λ v. go o m i w (v ∷ vals) rest) (ap (λ z. of_plain (text_of z)) x.1) (goes_on s o g long m i t rest lt w (Of (Text x.0) ∷ vals) todo (Value (Simply k) ∷ ks) b (sym is, h) work))
+  fetched_goes k (AddressOf k') (Address (ElementPlace a n (Some c))) w vals todo ks is f b h work = absurd f
+  fetched_goes k (AddressOf k') (Address (CellPlace a n (Some c))) w vals todo ks is f b h work = absurd f
+  fetched_goes k (AddressOf k') (Address (ImagePlace a)) w vals todo ks is f b h work = absurd f
+  fetched_goes k (AddressOf k') (Of z) w vals todo ks is f b h work = absurd f
+  fetched_goes k (AddressOf k') (Link z) w vals todo ks is f b h work = absurd f
+  fetched_goes k (AddressOf k') (ArrayValue z) w vals todo ks is f b h work = absurd f
+  fetched_goes k (AddressOf k') (ProcedureValue z y) w vals todo ks is f b h work = absurd f
+  fetched_goes k (AddressOf k') (Tree z) w vals todo ks is f b h work = absurd f
+  fetched_goes k ImageAddress (Address (ElementPlace a n c)) w vals todo ks is f b h work = absurd f
+  fetched_goes k ImageAddress (Address (CellPlace a n c)) w vals todo ks is f b h work = absurd f
+  fetched_goes k ImageAddress (Of z) w vals todo ks is f b h work = absurd f
+  fetched_goes k ImageAddress (Link z) w vals todo ks is f b h work = absurd f
+  fetched_goes k ImageAddress (ArrayValue z) w vals todo ks is f b h work = absurd f
+  fetched_goes k ImageAddress (ProcedureValue z y) w vals todo ks is f b h work = absurd f
+  fetched_goes k ImageAddress (Tree z) w vals todo ks is f b h work = absurd f
+  fetched_goes k (Value z) v w vals todo ks is f b h work = absurd is
+  fetched_goes k (Copied z) v w vals todo ks is f b h work = absurd is
+  fetched_goes k (LinkTo z) v w vals todo ks is f b h work = absurd is
+
+-- ---- a text that is put back to where it came from
+
+module _ (s : Source) (ok : Typed s) (l : Limits) (o : World) (g : List Sight) (long : length g ≡ length o.arrays) (m : Instances) (i t : ℕ) (rest : List Activation) (lt : i < length m.instances) (ticks words : ℕ) (store : Store) (w : List Item) (vals : List Val) (todo : List DeclNo) (ks : List Kinds) (b : Begun s (see g o) m i t todo) (h : HandsFine s (see g o) m i ks vals) (work : Work s o g long m i t rest lt w todo ks) where
+  -- the world then
+  abbrev Then : World
+  Then = record (ran o ticks words) { store = store }
+
+  stays_on : Goes (IsFine s) (go Then m i w vals rest)
+  stays_on = goes_on s o g long m i t rest lt w vals todo ks b h work
+
+  put_text : (v : Val) (x : TextVal) (from : Kinds) → OperandIs kind.Text from → HandFine s (see g o) m i from v → ((n : ℕ) → v ≡ Address (ImagePlace n) → (y : TextVal) × (image_at store n ≡ Some y) × (same_text y x ≡ true)) → Goes (IsFine s) (put_back v x Then m (λ p m. go p m i w vals rest))
+  unfolding put_back putting having
+  put_text (Of p) x from is a image = stays_on
+  put_text (Link z) x from is a image = stays_on
+  put_text (ArrayValue z) x from is a image = stays_on
+  put_text (ProcedureValue z y) x from is a image = stays_on
+  put_text (Tree z) x from is a image = stays_on
+  put_text (Address (ElementPlace n e None)) x (AddressOf k) is a image = putting_goes s ok l Then g long m i t rest lt k (Address (ElementPlace n e None)) (Of (Text x)) w vals todo ks a (sym is.1) b h work
+  put_text (Address (CellPlace n e None)) x (AddressOf k) is a image = putting_goes s ok l Then g long m i t rest lt k (Address (CellPlace n e None)) (Of (Text x)) w vals todo ks a (sym is.1) b h work
+  put_text (Address (ImagePlace n)) x ImageAddress is a image =
+      let y = image n refl in
+      had (IsFine s) (image_set Then n (Text x)) (record Then { store = with_image store n x }) Then (λ p. go p m i w vals rest) (ap (λ z. image_moved Then n z (Some x)) y.1 ∙ if_true (same_text y.0 x) (Some (record Then { store = with_image store n x })) None y.2) stays_on
+  put_text (Address (ElementPlace n e (Some c))) x (AddressOf k) is a image = absurd a
+  put_text (Address (CellPlace n e (Some c))) x (AddressOf k) is a image = absurd a
+  put_text (Address (ImagePlace n)) x (AddressOf k) is a image = absurd a
+  put_text (Address (ElementPlace n e c)) x ImageAddress is a image = absurd a
+  put_text (Address (CellPlace n e c)) x ImageAddress is a image = absurd a
+  put_text (Address p) x (Value (Simply k)) is a image = absurd a
+  put_text (Address p) x (Value (ArrayOf k)) is a image = absurd a
+  put_text (Address p) x (LinkTo u) is a image = absurd is
+  put_text (Address p) x (Copied u) is a image = absurd is
+
+  pub back_goes : (first : Option Val) (moved : Option TextVal) → AllBack (IsFine s) s o g m i store first moved → Goes (IsFine s) (putting_back put_back first moved Then m (λ p m. go p m i w vals rest))
+  unfolding putting_back
+  back_goes None None a = stays_on
+  back_goes (Some v) None a = stays_on
+  back_goes None (Some x) a = absurd a
+  back_goes (Some v) (Some x) a = put_text v x a.from a.is a.hand a.image

@@ -1,5 +1,5 @@
 -- Which configurations have a rule for what is pending.
-use Rattle.std.proofs.Common.{◌≡◌, ◌<◌, ◌≤◌, ℕ, zero, suc, true, List, [], ◌∷◌, length, map, Option, Some, None}
+use Rattle.std.proofs.Common.{◌≡◌, ◌<◌, ◌≤◌, ℕ, zero, suc, Bool, true, false, List, [], ◌∷◌, length, map, Option, Some, None}
 use Rattle.std.specs.Prelude.{slice_get, ◌*◌}
 use Rattle.sim_base.specs.declared.numbering.DeclNo.{DeclNo}
 use Rattle.sim_scope.specs.declared.types.Formal.{Formal}
@@ -14,27 +14,47 @@ use Rattle.sim_values.specs.declared.operators.Monadic.TheVariants as monadic
 use Rattle.sim_values.specs.Plain.{Plain, kind_of}
 use Rattle.sim_values.specs.Standard.{operands_of, row_of}
 use Rattle.sim_values.specs.Words.{element_count}
-use Rattle.sim_code.specs.Outcome.{ArrayOf as OneArray}
+use Rattle.sim_code.specs.Outcome.{ArrayOf as OneArray, World}
 use Rattle.sim_code.specs.Arrays.{unless_given}
-use Rattle.sim_code.specs.Instances.{ElementPlace, Instance, live}
+use Rattle.sim_code.specs.Instances.{CellPlace, ElementPlace, ImagePlace, Instance, live}
 use Rattle.sim_code.specs.Running.{name_runs}
-use Rattle.sim_meaning.specs.Entries.{first_cells, formals_of}
+use Rattle.sim_meaning.specs.Entries.{first_cells, formals_of, is_array_by_value}
 use Rattle.sim_meaning.specs.Meaning.{has_result}
-use Rattle.sim_meaning.specs.Pending.{Activation, Address, AgainOp, ArrayOp, ArrayValue, BackOp, BranchOp, CallOf, CallOp, Cell, ChooseOp, Configuration, CopyOf, CopyOp, Declared, Do, DropOp, Either, ElementOf, ElementOp, ElementsOp, EndBlock, EndProcedure, EndProgram, EnterOp, Eval, Exec, Execs, FetchOp, Further, Given, GiveOp, Held, IfOp, Instances, Item, Key, Link, NoTerm, Of, One, OneOp, Op, PastOp, RaiseOp, ShareOp, StandardOf, StandardOp, StepOp, StepTestOp, StoreOp, Target, Term, Terms, TestOp, ToAddress, ToCell, Two, TwoOp, Unbuilt, Val, ValueAt, WhileElementOp, held}
+use Rattle.sim_meaning.specs.Pending.{Activation, Address, AgainOp, ArrayOp, ArrayValue, BackOp, BranchOp, CallOf, CallOp, Cell, ChooseOp, Configuration, CopyOf, CopyOp, Declared, Do, DropOp, Either, ElementOf, ElementOp, ElementsOp, EndBlock, EndProcedure, EndProgram, EnterOp, Eval, Exec, Execs, FetchOp, Further, Given, GiveOp, Held, IfOp, ImageOf, Instances, Item, JoinOp, Joined, Key, Link, NoTerm, Of, One, OneOp, Op, PastOp, PlaceOf, RaiseOp, ShareOp, StandardOf, StandardOp, StepOp, StepTestOp, StoreOp, Target, Term, Terms, TestOp, ToAddress, ToCell, ToText, ToTextOf, Two, TwoOp, Unbuilt, Val, ValueAt, WhileElementOp, held}
 use Rattle.sim_meaning.specs.Texts.{BlockText, ProcedureText, Text, text}
 use Rattle.sim_sound.specs.Typed.{Among, ArrayOf, ElementsAre, ExprIs, Holds, Simply, StatementIs, StatementsAre, TwoKinds, formal_holds, key_holds, result_holds, some_holds, standard_kind}
 
 -- ---- values
 
--- the arrays of a run
-abbrev pub AllArrays : Type 0
-AllArrays = List OneArray
+-- Who may know an array: all, or, of a copy for a parameter by value, one place alone, which is a value in hand of an instance, on top
+-- of so many others.
+pub data Sight : Type 0 where
+  Open : Sight
+  Hidden : (home depth : ℕ) → Sight
+
+-- the arrays of a run, and who may know them
+pub record AllArrays : Type 0 where
+  pub sights : List Sight
+  pub real : List OneArray
+
+abbrev pub see : List Sight → World → AllArrays
+see g o = record { sights = g; real = o.arrays }
 
 -- an array that stays for as long as an instance, with its elements
 pub record ArrayFine (o : AllArrays) (j : ℕ) (k : Kind) (a : ℕ) : Type 0 where
   pub it : OneArray
-  pub lives : unless_given (slice_get o a) ≡ Some it
+  pub lives : unless_given (slice_get o.real a) ≡ Some it
+  pub known : slice_get o.sights a ≡ Some Open
   pub owned : it.owner ≤ j
+  pub kinds : (i : ℕ) (p : Plain) → slice_get it.elements i ≡ Some p → kind_of p ≡ k
+  pub count : length it.elements ≡ element_count it.bounds
+
+-- a copy that is in hand in one place alone
+pub record CopyFine (o : AllArrays) (j d : ℕ) (k : Kind) (a : ℕ) : Type 0 where
+  pub it : OneArray
+  pub lives : unless_given (slice_get o.real a) ≡ Some it
+  pub hidden : slice_get o.sights a ≡ Some (Hidden j d)
+  pub owned : it.owner ≡ j
   pub kinds : (i : ℕ) (p : Plain) → slice_get it.elements i ≡ Some p → kind_of p ≡ k
   pub count : length it.elements ≡ element_count it.bounds
 
@@ -98,26 +118,53 @@ Whole s o m j t = Begun s o m j t []
 
 -- ---- values in hand
 
+-- a value; where a variable or an element lies; where an image lies; an instance of a text; a copy for a parameter by value
 pub data Kinds : Type 0 where
   Value : Holds → Kinds
   AddressOf : Kind → Kinds
+  ImageAddress : Kinds
   LinkTo : (text : ℕ) → Kinds
+  Copied : Kind → Kinds
 
 pub record ElementFine (o : AllArrays) (j : ℕ) (k : Kind) (a n : ℕ) : Type 0 where
   pub array : ArrayFine o j k a
   pub there : n < length (array.it).elements
 
+-- a cell that a value is assigned to
+pub record CellTarget (s : Source) (o : AllArrays) (m : Instances) (j e : ℕ) (key : Key) (k : Kind) : Type 0 where
+  pub around : ℕ
+  pub before : e ≤ j
+  pub whole : Whole s o m e around
+  pub holds : key_holds s around key ≡ Some (Simply k)
+  pub there : KeyAmong key (keys_in s around (text s around))
+
+abbrev pub IsImage : ℕ → Type 0
+IsImage zero = Unit {0}
+IsImage (suc zero) = Unit {0}
+IsImage (suc (suc n)) = ⊥
+
 abbrev pub HandFine : Source → AllArrays → Instances → ℕ → Kinds → Val → Type 0
 HandFine s o m j (Value h) v = ValFine o j h v
 HandFine s o m j (AddressOf k) (Address (ElementPlace a n None)) = ElementFine o j k a n
+HandFine s o m j (AddressOf k) (Address (CellPlace e key None)) = CellTarget s o m j e key k
+HandFine s o m j ImageAddress (Address (ImagePlace n)) = IsImage n
 HandFine s o m j (LinkTo u) (Link e) = (e ≤ j) × Whole s o m e u
 HandFine s o m j _ _ = ⊥
+
+-- with so many values below
+abbrev pub DeepFine : Source → AllArrays → Instances → (j depth : ℕ) → Kinds → Val → Type 0
+DeepFine s o m j d (Copied k) (ArrayValue a) = CopyFine o j d k a
+DeepFine s o m j d (Copied k) _ = ⊥
+DeepFine s o m j d (Value h) v = ValFine o j h v
+DeepFine s o m j d (AddressOf k) v = HandFine s o m j (AddressOf k) v
+DeepFine s o m j d ImageAddress v = HandFine s o m j ImageAddress v
+DeepFine s o m j d (LinkTo u) v = HandFine s o m j (LinkTo u) v
 
 abbrev pub HandsFine : Source → AllArrays → Instances → ℕ → List Kinds → List Val → Type 0
 HandsFine s o m j [] [] = Unit {0}
 HandsFine s o m j [] (v ∷ vs) = ⊥
 HandsFine s o m j (k ∷ ks) [] = ⊥
-HandsFine s o m j (k ∷ ks) (v ∷ vs) = HandFine s o m j k v × HandsFine s o m j ks vs
+HandsFine s o m j (k ∷ ks) (v ∷ vs) = DeepFine s o m j (length vs) k v × HandsFine s o m j ks vs
 
 -- ---- closed trees
 
@@ -141,11 +188,22 @@ pub data CellIs (s : Source) (o : AllArrays) (m : Instances) (j t : ℕ) (todo :
   in_whole : {u : ℕ} → e ≤ j → Whole s o m e u → key_holds s u key ≡ Some h → KeyAmong key (keys_in s u (text s u)) → CellIs s o m j t todo e key h
   own_made : {d : DeclNo} → e ≡ j → key ≡ Declared d.0 → key_holds s t key ≡ Some h → KeyAmong key (keys_in s t (text s t)) → (Among d todo → ⊥) → CellIs s o m j t todo e key h
 
-abbrev pub formal_kinds : List Formal → List (Option Holds)
-formal_kinds [] = []
-formal_kinds (f ∷ fs) = formal_holds f.mode f.kind f.ty ∷ formal_kinds fs
+-- what the cells of formal parameters hold, and what is in hand for them: of an array by value a copy
+abbrev pub holds_of : List Formal → List (Option Holds)
+holds_of [] = []
+holds_of (f ∷ fs) = formal_holds f.mode f.kind f.ty ∷ holds_of fs
 
-pub record CallFine (s : Source) (o : AllArrays) (m : Instances) (j e k : ℕ) (g : Option Kinds) (Actuals : List (Option Holds) → Type 0) : Type 0 where
+abbrev pub in_hand : (by_value : Bool) → Option Holds → Option Kinds
+in_hand true (Some (ArrayOf k)) = Some (Copied k)
+in_hand true (Some (Simply k)) = Some (Value (Simply k))
+in_hand true None = None
+in_hand false h = held_kinds h
+
+abbrev pub formal_kinds : List Formal → List (Option Kinds)
+formal_kinds [] = []
+formal_kinds (f ∷ fs) = in_hand (is_array_by_value f.mode f.kind) (formal_holds f.mode f.kind f.ty) ∷ formal_kinds fs
+
+pub record CallFine (s : Source) (o : AllArrays) (m : Instances) (j e k : ℕ) (g : Option Kinds) (Actuals : List (Option Kinds) → Type 0) : Type 0 where
   pub around : ℕ
   pub before : e ≤ j
   pub whole : Whole s o m e around
@@ -157,9 +215,25 @@ pub record CallFine (s : Source) (o : AllArrays) (m : Instances) (j e k : ℕ) (
   pub gives : held_kinds (result_holds (text s k)) ≡ g
   pub actuals : Actuals (formal_kinds (formals_of s k))
 
-abbrev pub kinds_of : List Kind → List (Option Holds)
-kinds_of [] = []
-kinds_of (k ∷ ks) = Some (Simply k) ∷ kinds_of ks
+-- where something is read: a value of a kind, or the text that an image is
+abbrev pub Leads : Kinds → Kind → Type 0
+Leads (AddressOf k') k = k' ≡ k
+Leads ImageAddress k = k ≡ kind.Text
+Leads _ k = ⊥
+
+-- an operand of a kind: a value in hand, or where a text lies
+abbrev pub OperandIs : Kind → Kinds → Type 0
+OperandIs k (Value h) = h ≡ Simply k
+OperandIs k (AddressOf k') = (k ≡ kind.Text) × (k' ≡ kind.Text)
+OperandIs k ImageAddress = k ≡ kind.Text
+OperandIs k (LinkTo t) = ⊥
+OperandIs k (Copied k') = ⊥
+
+abbrev pub OperandsAre : List Kind → List Kinds → Type 0
+OperandsAre [] [] = Unit {0}
+OperandsAre [] (x ∷ xs) = ⊥
+OperandsAre (k ∷ ks) [] = ⊥
+OperandsAre (k ∷ ks) (x ∷ xs) = OperandIs k x × OperandsAre ks xs
 
 abbrev mutual
   -- in an instance j of the text t
@@ -170,43 +244,49 @@ abbrev mutual
   TermFine s o m j t todo (Two op line a b) g = (k : Kind) × (v : Kind) × TwoKinds op k v × (simple v ≡ g) × TermFine s o m j t todo a (simple k) × TermFine s o m j t todo b (simple k)
   TermFine s o m j t todo (Either c a b) g = (h : Kinds) × (Some h ≡ g) × TermFine s o m j t todo c (simple kind.Boolean) × TermFine s o m j t todo a g × TermFine s o m j t todo b g
   TermFine s o m j t todo (ElementOf line a ts) g = (k : Kind) × (Some (AddressOf k) ≡ g) × TermFine s o m j t todo a (Some (Value (ArrayOf k))) × IntegersFine s o m j t todo ts
-  TermFine s o m j t todo (ValueAt a) g = (k : Kind) × (simple k ≡ g) × TermFine s o m j t todo a (Some (AddressOf k))
-  TermFine s o m j t todo (CopyOf line a) g = ⊥
+  TermFine s o m j t todo (ValueAt a) g = (k : Kind) × (x : Kinds) × Leads x k × (simple k ≡ g) × TermFine s o m j t todo a (Some x)
+  TermFine s o m j t todo (PlaceOf e key) g = (k : Kind) × (Some (AddressOf k) ≡ g) × CellTarget s o m j e key k
+  TermFine s o m j t todo (ImageOf n) g = (Some ImageAddress ≡ g) × IsImage n
+  TermFine s o m j t todo (Joined line a b) g = (simple kind.Text ≡ g) × TermFine s o m j t todo a (simple kind.Text) × TermFine s o m j t todo b (simple kind.Text)
+  TermFine s o m j t todo (CopyOf line a) g = (k : Kind) × (Some (Copied k) ≡ g) × TermFine s o m j t todo a (Some (Value (ArrayOf k)))
   TermFine s o m j t todo (CallOf e k ts line) g = CallFine s o m j e k g (TermsFine s o m j t todo ts)
-  TermFine s o m j t todo (StandardOf name ts line) g = (name_runs name ≡ true) × (held_kinds (some_holds (standard_kind (row_of name).result)) ≡ g) × TermsFine s o m j t todo ts (kinds_of (operands_of (row_of name).function))
+  TermFine s o m j t todo (StandardOf name ts line) g = (name_runs name ≡ true) × (held_kinds (some_holds (standard_kind (row_of name).result)) ≡ g) × (xs : List Kinds) × OperandsAre (operands_of (row_of name).function) xs × OperandsFine s o m j t todo ts xs
   TermFine s o m j t todo Unbuilt g = ⊥
 
   pub IntegersFine : Source → AllArrays → Instances → (j t : ℕ) → List DeclNo → Terms → Type 0
   IntegersFine s o m j t todo NoTerm = Unit {0}
   IntegersFine s o m j t todo (Further x xs) = TermFine s o m j t todo x (simple kind.Integer) × IntegersFine s o m j t todo xs
 
-  pub TermsFine : Source → AllArrays → Instances → (j t : ℕ) → List DeclNo → Terms → List (Option Holds) → Type 0
+  pub OperandsFine : Source → AllArrays → Instances → (j t : ℕ) → List DeclNo → Terms → List Kinds → Type 0
+  OperandsFine s o m j t todo NoTerm xs = xs ≡ []
+  OperandsFine s o m j t todo (Further y ys) xs = (x : Kinds) × (more : List Kinds) × (xs ≡ x ∷ more) × TermFine s o m j t todo y (Some x) × OperandsFine s o m j t todo ys more
+
+  pub TermsFine : Source → AllArrays → Instances → (j t : ℕ) → List DeclNo → Terms → List (Option Kinds) → Type 0
   TermsFine s o m j t todo NoTerm hs = hs ≡ []
-  TermsFine s o m j t todo (Further x xs) hs = (h : Holds) × (more : List (Option Holds)) × (hs ≡ Some h ∷ more) × TermFine s o m j t todo x (Some (Value h)) × TermsFine s o m j t todo xs more
+  TermsFine s o m j t todo (Further x xs) hs = (h : Kinds) × (more : List (Option Kinds)) × (hs ≡ Some h ∷ more) × TermFine s o m j t todo x (Some h) × TermsFine s o m j t todo xs more
 
 -- ---- pending work
 
 -- values that were pushed one after the other
-abbrev pub onto : List (Option Holds) → List Kinds → List Kinds
+abbrev pub onto : List (Option Kinds) → List Kinds → List Kinds
 onto [] ks = ks
 onto (None ∷ hs) ks = onto hs ks
-onto (Some h ∷ hs) ks = onto hs (Value h ∷ ks)
+onto (Some h ∷ hs) ks = onto hs (h ∷ ks)
+
+abbrev pub pushed : List Kinds → List Kinds → List Kinds
+pushed [] ks = ks
+pushed (x ∷ xs) ks = pushed xs (x ∷ ks)
 
 abbrev pub integers : ℕ → List Kinds → List Kinds
 integers zero ks = ks
 integers (suc n) ks = Value (Simply kind.Integer) ∷ integers n ks
 
 -- what a value is assigned to
-pub record CellTarget (s : Source) (o : AllArrays) (m : Instances) (j e : ℕ) (key : Key) (k : Kind) : Type 0 where
-  pub around : ℕ
-  pub before : e ≤ j
-  pub whole : Whole s o m e around
-  pub holds : key_holds s around key ≡ Some (Simply k)
-  pub there : KeyAmong key (keys_in s around (text s around))
-
 abbrev pub TargetFine : Source → AllArrays → Instances → ℕ → Target → Kind → (before behind : List Kinds) → Type 0
 TargetFine s o m j (ToCell e key) k before behind = CellTarget s o m j e key k × (before ≡ behind)
 TargetFine s o m j ToAddress k before behind = before ≡ AddressOf k ∷ behind
+TargetFine s o m j (ToText line) k before behind = (k ≡ kind.Text) × (before ≡ Value (Simply kind.Text) ∷ behind)
+TargetFine s o m j (ToTextOf e key line) k before behind = (k ≡ kind.Text) × (before ≡ Value (Simply kind.Text) ∷ behind)
 
 abbrev pub TargetsFine : Source → AllArrays → Instances → ℕ → List Target → Kind → (before behind : List Kinds) → Type 0
 TargetsFine s o m j [] k before behind = behind ≡ before
@@ -216,6 +296,8 @@ TargetsFine s o m j (x ∷ xs) k before behind = (next : List Kinds) × TargetFi
 abbrev pub VariableFine : Source → AllArrays → Instances → ℕ → Target → Kind → Type 0
 VariableFine s o m j (ToCell e key) k = CellTarget s o m j e key k
 VariableFine s o m j ToAddress k = ⊥
+VariableFine s o m j (ToText line) k = ⊥
+VariableFine s o m j (ToTextOf e key line) k = CellTarget s o m j e key k × (k ≡ kind.Text)
 
 pub record CallOpFine (s : Source) (k n : ℕ) (before behind : List Kinds) : Type 0 where
   pub around : ℕ
@@ -247,6 +329,12 @@ pub data StoreFine (s : Source) (o : AllArrays) (m : Instances) (j t : ℕ) (tod
 abbrev pub Ready : (todo todo' : List DeclNo) → (before behind : List Kinds) → (Is : Type 0) → Type 0
 Ready todo todo' before behind Is = (todo ≡ []) × (todo' ≡ []) × (behind ≡ before) × Is
 
+-- what a copy of an array is: one that all may know, or one for a parameter by value
+abbrev pub IsCopy : Kind → Kinds → Type 0
+IsCopy k (Value h) = h ≡ ArrayOf k
+IsCopy k (Copied k') = k' ≡ k
+IsCopy k _ = ⊥
+
 -- An operator in an instance j of the text t: with values of these kinds in hand and these arrays still to be made, and behind it.
 abbrev pub OpFine : Source → AllArrays → Instances → (j t : ℕ) → Op → (todo todo' : List DeclNo) → (before behind : List Kinds) → Type 0
 OpFine s o m j t (Eval x) todo todo' before behind = (g : Option Kinds) × TermFine s o m j t todo x g × (behind ≡ given g before) × (todo' ≡ todo)
@@ -254,13 +342,14 @@ OpFine s o m j t (OneOp op line) todo todo' before behind = (k : Kind) × (left 
 OpFine s o m j t (TwoOp op line) todo todo' before behind = (k : Kind) × (v : Kind) × (left : List Kinds) × TwoKinds op k v × (before ≡ Value (Simply k) ∷ Value (Simply k) ∷ left) × (behind ≡ Value (Simply v) ∷ left) × (todo' ≡ todo)
 OpFine s o m j t (IfOp a b) todo todo' before behind = (h : Kinds) × (left : List Kinds) × TermFine s o m j t todo a (Some h) × TermFine s o m j t todo b (Some h) × (before ≡ Value (Simply kind.Boolean) ∷ left) × (behind ≡ h ∷ left) × (todo' ≡ todo)
 OpFine s o m j t (ElementOp n line) todo todo' before behind = (k : Kind) × (left : List Kinds) × (before ≡ integers n (Value (ArrayOf k) ∷ left)) × (behind ≡ AddressOf k ∷ left) × (todo' ≡ todo)
-OpFine s o m j t FetchOp todo todo' before behind = (k : Kind) × (left : List Kinds) × (before ≡ AddressOf k ∷ left) × (behind ≡ Value (Simply k) ∷ left) × (todo' ≡ todo)
-OpFine s o m j t (CopyOp line) todo todo' before behind = (k : Kind) × (left : List Kinds) × (before ≡ Value (ArrayOf k) ∷ left) × (behind ≡ before) × (todo' ≡ todo)
+OpFine s o m j t FetchOp todo todo' before behind = (k : Kind) × (x : Kinds) × (left : List Kinds) × Leads x k × (before ≡ x ∷ left) × (behind ≡ Value (Simply k) ∷ left) × (todo' ≡ todo)
+OpFine s o m j t (JoinOp line) todo todo' before behind = (left : List Kinds) × (before ≡ Value (Simply kind.Text) ∷ Value (Simply kind.Text) ∷ left) × (behind ≡ Value (Simply kind.Text) ∷ left) × (todo' ≡ todo)
+OpFine s o m j t (CopyOp line) todo todo' before behind = (k : Kind) × (left : List Kinds) × (c : Kinds) × IsCopy k c × (before ≡ Value (ArrayOf k) ∷ left) × (behind ≡ c ∷ left) × (todo' ≡ todo)
 OpFine s o m j t (CallOp k n line) todo todo' before behind = CallOpFine s k n before behind × (todo' ≡ todo)
 OpFine s o m j t (StandardOp name line) todo todo' before behind =
-    (left : List Kinds) × (name_runs name ≡ true) × (before ≡ onto (kinds_of (operands_of (row_of name).function)) left) × (behind ≡ given (held_kinds (some_holds (standard_kind (row_of name).result))) left) × (todo' ≡ todo)
+    (left : List Kinds) × (xs : List Kinds) × (name_runs name ≡ true) × OperandsAre (operands_of (row_of name).function) xs × (before ≡ pushed xs left) × (behind ≡ given (held_kinds (some_holds (standard_kind (row_of name).result))) left) × (todo' ≡ todo)
 OpFine s o m j t DropOp todo todo' before behind = (k : Kinds) × (before ≡ k ∷ behind) × (todo' ≡ todo)
-OpFine s o m j t AgainOp todo todo' before behind = (k : Kinds) × (left : List Kinds) × (before ≡ k ∷ left) × (behind ≡ k ∷ before) × (todo' ≡ todo)
+OpFine s o m j t AgainOp todo todo' before behind = (k : Kind) × (left : List Kinds) × (before ≡ Value (Simply k) ∷ left) × (behind ≡ Value (Simply k) ∷ before) × (todo' ≡ todo)
 OpFine s o m j t (StoreOp x) todo todo' before behind = StoreFine s o m j t todo todo' x before behind
 OpFine s o m j t (ShareOp ts) todo todo' before behind = (k : Kind) × (next : List Kinds) × (before ≡ Value (Simply k) ∷ next) × TargetsFine s o m j ts k next behind × (todo' ≡ todo)
 OpFine s o m j t (GiveOp v ts) todo todo' before behind = (k : Kind) × ValFine o j (Simply k) v × TargetsFine s o m j ts k before behind × (todo' ≡ todo)

@@ -1,5 +1,5 @@
 -- Each statement goes on.
-use Rattle.std.proofs.Common.{◌≡◌, ℕ, ◌<◌, Bool, true, false, List, [], ◌∷◌, ◌++◌, length, Option, Some, None, refl, sym, subst}
+use Rattle.std.proofs.Common.{◌≡◌, ℕ, ◌<◌, Bool, true, false, List, [], ◌∷◌, ◌++◌, length, Option, Some, None, refl, sym, ap, ◌∙◌, subst}
 use Rattle.sim_base.specs.declared.limits.Limits.{Limits}
 use Rattle.sim_base.specs.declared.numbering.DeclNo.{DeclNo}
 use Rattle.sim_scope.specs.declared.scopes.Denotation.{Denotation}
@@ -10,9 +10,9 @@ use Rattle.sim_scope.specs.declared.types.FormalKind.{FormalKind}
 use Rattle.sim_scope.specs.declared.types.FormalKind.TheVariants as shape
 use Rattle.sim_scope.specs.declared.types.Mode.{Mode}
 use Rattle.sim_scope.specs.declared.types.Mode.TheVariants as mode
+use Rattle.sim_scope.specs.Assignments.{LeftSide, last_value, left_sides}
 use Rattle.sim_scope.specs.Scopes.{entry_of}
 use Rattle.sim_scope.specs.Source.{Source, denoted, level_of, line_at}
-use Rattle.sim_tree.specs.declared.expr.Identifier.{Identifier}
 use Rattle.sim_tree.specs.declared.stmt.Assignment.{Assignment}
 use Rattle.sim_tree.specs.declared.stmt.Assignment.TheVariants as assignment
 use Rattle.sim_tree.specs.Syntax.{Also, Begin, Block, Declarations, Element, Expression, NoDeclaration, NoMore, NoStatement, Statement, Statements, With}
@@ -24,24 +24,25 @@ use Rattle.sim_values.specs.declared.operators.Dyadic.TheVariants as dyadic
 use Rattle.sim_code.specs.Events.{choosing}
 use Rattle.sim_code.specs.Instances.{at_level}
 use Rattle.sim_code.specs.Outcome.{World}
-use Rattle.sim_meaning.specs.Closing.{Left, LeftAddress, LeftCell, LeftUnbuilt, close, close_left, close_left_of, declared_left, formal_left, home_of, is_text, left_in, named_left}
+use Rattle.sim_meaning.specs.Closing.{Left, LeftAddress, LeftCell, LeftText, LeftUnbuilt, close, declared_left, formal_left, home_of, is_text, left_in, left_variable, named_left}
 use Rattle.sim_meaning.specs.Meaning.{do_op}
-use Rattle.sim_meaning.specs.Pending.{Activation, AgainOp, BackOp, BranchOp, ChooseOp, Configuration, Do, ElementsOp, EnterOp, Eval, Exec, Execs, Instances, Item, Key, Op, RaiseOp, StepOp, StepTestOp, StoreOp, Target, TestOp, ToAddress, ToCell, TwoOp, Val, WhileElementOp}
-use Rattle.sim_meaning.specs.Statements.{are_values, assigned, assigning, compound, controlled, dropping, elements, entered_at, exec, execs, first_branch, leaves, left_sides, lefts, looping, raised, reading, right_side, step_tested, while_element}
+use Rattle.sim_meaning.specs.Pending.{Activation, AgainOp, BackOp, BranchOp, ChooseOp, Configuration, Do, ElementsOp, EnterOp, Eval, Exec, Execs, Instances, Item, Key, Op, RaiseOp, StepOp, StepTestOp, StoreOp, Target, TestOp, ToAddress, ToCell, ToText, ToTextOf, TwoOp, Val, WhileElementOp}
+use Rattle.sim_meaning.specs.Statements.{assigned, assigning, compound, controlled, dropping, elements, entered_at, exec, execs, finding, first_branch, leaves, lefts, looping, raised, reading, step_tested, while_element}
 use Rattle.sim_meaning.specs.Steps.{go}
-use Rattle.sim_sound.specs.Typed.{CallIs, CompoundIs, ElementsAre, ExprIs, Holds, IsValue, Simply, StatementIs, StatementsAre, Typed, is_given}
+use Rattle.sim_sound.specs.Typed.{CallIs, CompoundIs, ControlIs, ElementsAre, ExprIs, Holds, Simply, StatementIs, StatementsAre, Typed, is_given}
 use Rattle.sim_sound.proofs.Assigns.{addresses, assigning_fine, lefts_found, Found}
-use Rattle.sim_sound.proofs.Closing.{expr_fine, given_fine}
+use Rattle.sim_sound.proofs.Closing.{dot_fine, expr_fine, given_fine}
 use Rattle.sim_sound.proofs.Evals.{IsFine, Rest, Work, goes_on}
-use Rattle.sim_sound.proofs.Lefts.{LeftFine, left_fine}
+use Rattle.sim_sound.proofs.Lefts.{LeftFine, variable_fine}
 use Rattle.sim_sound.proofs.Lifts.{Goes, chosen, ran, ticked, truth_popped}
 use Rattle.sim_sound.proofs.Reach.{reaches_whole}
-use Rattle.sim_sound.proofs.Sound.{Fine, HandsFine, Kinds, OpFine, TermFine, Value, VariableFine, Whole, given, held_kinds, in_whole, simple, value_stored}
+use Rattle.sim_sound.proofs.Sound.{HandsFine, Kinds, OpFine, Sight, TermFine, Value, VariableFine, Whole, given, held_kinds, in_whole, see, simple, value_stored}
 
 -- ---- a left side without operands is a cell
 
 abbrev IsCell : Left → Type 0
 IsCell (LeftAddress x) = ⊥
+IsCell (LeftText line x) = ⊥
 IsCell _ = Unit {0}
 
 in_cell : (x : Option ℕ) (key : Key) → IsCell (left_in x (λ j. LeftCell j key))
@@ -68,22 +69,18 @@ named_cell : (s : Source) (m : Instances) (i line : ℕ) (x : Option Denotation)
 named_cell s m i line (Some (denotation.Declared d)) = declared_cell s m i line d (entry_of s.tables d)
 named_cell s m i line _ = tt
 
-text_cell : (s : Source) (m : Instances) (i : ℕ) (x : Identifier) (b : Bool) → IsCell (close_left_of b s m i (syntax.Named x NoMore))
-text_cell s m i x false = named_cell s m i (line_at s x.token.0) (denoted s x.token.0)
-text_cell s m i x true = tt
-
-module _ (s : Source) (ok : Typed s) (l : Limits) (o : World) (m : Instances) (i t : ℕ) (rest : List Activation) (lt : i < length m.instances) (w : List Item) (vals : List Val) (ks : List Kinds) (b : Whole s o.arrays m i t) (h : HandsFine s o.arrays m i ks vals) (work : Work s o m i t rest lt w [] ks) where
+module _ (s : Source) (ok : Typed s) (l : Limits) (o : World) (sights : List Sight) (long : length sights ≡ length o.arrays) (m : Instances) (i t : ℕ) (rest : List Activation) (lt : i < length m.instances) (w : List Item) (vals : List Val) (ks : List Kinds) (b : Whole s (see sights o) m i t) (h : HandsFine s (see sights o) m i ks vals) (work : Work s o sights long m i t rest lt w [] ks) where
   abbrev P : World → Configuration → Type 0
   P = IsFine s
 
   abbrev Wk : List Item → List Kinds → Type 0
-  Wk w ks = Work s o m i t rest lt w [] ks
+  Wk w ks = Work s o sights long m i t rest lt w [] ks
 
-  goes : (w : List Item) → Wk w ks → Fine s o.arrays (record { chain = record { instance = i; work = w; values = vals } ∷ rest; memory = m })
-  goes w x = goes_on s o m i t rest lt w vals [] ks b h x
+  goes : (w : List Item) → Wk w ks → IsFine s o (record { chain = record { instance = i; work = w; values = vals } ∷ rest; memory = m })
+  goes w x = goes_on s o sights long m i t rest lt w vals [] ks b h x
 
-  closed : (e : Expression) (g : Holds) → ExprIs s (Some t) e g → TermFine s o.arrays m i t [] (close s m i e) (Some (Value g))
-  closed e g a = expr_fine s ok o.arrays m i t [] (Some t) (reaches_whole s ok o.arrays m i t b) e g a
+  closed : (e : Expression) (g : Holds) → ExprIs s (Some t) e g → TermFine s (see sights o) m i t [] (close s m i e) (Some (Value g))
+  closed e g a = expr_fine s ok (see sights o) m i t [] (Some t) (reaches_whole s ok (see sights o) m i t b) e g a
 
   evals : (e : Expression) (g : Holds) (w : List Item) (ks : List Kinds) → ExprIs s (Some t) e g → Wk w (Value g ∷ ks) → Wk (Do (Eval (close s m i e)) ∷ w) ks
   evals e g w ks a x = ([], Value g ∷ ks, (Some (Value g), closed e g a, refl, refl), x)
@@ -103,24 +100,28 @@ module _ (s : Source) (ok : Typed s) (l : Limits) (o : World) (m : Instances) (i
 
   call_goes : (e : Expression) → CallIs s t e → Wk (Do (Eval (close s m i e)) ∷ dropping (leaves s e) w) ks
   call_goes (syntax.Named name es) a =
-      ([], given (held_kinds a.0) ks, (held_kinds a.0, given_fine s ok o.arrays m i t [] (Some t) (reaches_whole s ok o.arrays m i t b) name es a.0 a.1, refl, refl), dropped a.0 (leaves s (syntax.Named name es)) a.2)
+      ([], given (held_kinds a.0) ks, (held_kinds a.0, given_fine s ok (see sights o) m i t [] (Some t) (reaches_whole s ok (see sights o) m i t b) name es a.0 a.1, refl, refl), dropped a.0 (leaves s (syntax.Named name es)) a.2)
+  call_goes (syntax.Dot token x name es) a =
+      ([], given (held_kinds a.0) ks, (held_kinds a.0, dot_fine s ok (see sights o) m i t [] (Some t) (reaches_whole s ok (see sights o) m i t b) token x name es a.0 a.1, refl, refl), dropped a.0 (leaves s (syntax.Dot token x name es)) a.2)
   call_goes _ a = absurd a
 
-  assign_goes : (es : List Expression) (e : Expression) (x : Bool) (k : Kind) → x ≡ true → Found s ok o.arrays m i t b (Rest s o m i t rest lt) k es → ExprIs s (Some t) e (Simply k) → (t' w' : ℕ) → Goes P (assigned s (ran o t' w') m i w vals rest x (lefts s m i es) e)
-  assign_goes es e false k true_is f a t' w' = absurd (cc)
-  assign_goes es e true k true_is f a t' w' =
+  assign_goes : (es : List LeftSide) (e : Expression) (k : Kind) → Found s ok (see sights o) m i t b (Rest s o sights long m i t rest lt) k es → ExprIs s (Some t) e (Simply k) → (t' w' : ℕ) → Goes P (assigned s (ran o t' w') m i w vals rest (lefts s m i es) e)
+  assign_goes es e k f a t' w' =
       let ts = (f.is).targets in
-      subst (λ z. Goes P (assigned s (ran o t' w') m i w vals rest true z e)) (sym f.found)
+      subst (λ z. Goes P (assigned s (ran o t' w') m i w vals rest z e)) (sym f.found)
       (goes ((f.is).work ++ Do (Eval (close s m i e)) ∷ Do (assigning ts) ∷ w)
       (f.works (Do (Eval (close s m i e)) ∷ Do (assigning ts) ∷ w) ks
-      (evals e (Simply k) (Do (assigning ts) ∷ w) (addresses s ok o.arrays m i t b (Rest s o m i t rest lt) k ts ks) a
-      ([], ks, assigning_fine s ok o.arrays m i t b (Rest s o m i t rest lt) k ts ks f.each, work))))
+      (evals e (Simply k) (Do (assigning ts) ∷ w) (addresses s ok (see sights o) m i t b (Rest s o sights long m i t rest lt) k ts ks) a
+      ([], ks, assigning_fine s ok (see sights o) m i t b (Rest s o sights long m i t rest lt) k ts ks f.each, work))))
 
-  loop_goes : (sign : Assignment) (x : Left) (k : Kind) (es : List Element) (a : Statement) → IsValue sign → IsCell x → LeftFine s ok o.arrays m i t b x k → ElementsAre s t k es → StatementIs s t a → (t' w' : ℕ) → Goes P (looping (ran o t' w') m i w vals rest sign (controlled x) es a)
-  loop_goes assignment.Value (LeftCell j key) k es a v c x y z t' w' = goes (Do (ElementsOp (ToCell j key) es a) ∷ w) ([], ks, (refl, refl, refl, (k, x, y, z)), work)
-  loop_goes assignment.Value (LeftAddress r) k es a v c x y z t' w' = absurd c
-  loop_goes assignment.Value LeftUnbuilt k es a v c x y z t' w' = absurd x
-  loop_goes assignment.Reference x k es a v c f y z t' w' = absurd v
+  loop_goes : (text : Bool) (sign : Assignment) (line : ℕ) (x : Left) (k : Kind) (es : List Element) (a : Statement) → ControlIs text sign k → IsCell x → LeftFine s ok (see sights o) m i t b x k → ElementsAre s t k es → StatementIs s t a → (t' w' : ℕ) → Goes P (looping (ran o t' w') m i w vals rest (controlled text sign line x) es a)
+  loop_goes true assignment.Value line (LeftCell j key) k es a v c x y z t' w' = goes (Do (ElementsOp (ToTextOf j key line) es a) ∷ w) ([], ks, (refl, refl, refl, (k, (x, v), y, z)), work)
+  loop_goes true assignment.Reference line (LeftCell j key) k es a v c x y z t' w' = goes (Do (ElementsOp (ToCell j key) es a) ∷ w) ([], ks, (refl, refl, refl, (k, x, y, z)), work)
+  loop_goes false assignment.Value line (LeftCell j key) k es a v c x y z t' w' = goes (Do (ElementsOp (ToCell j key) es a) ∷ w) ([], ks, (refl, refl, refl, (k, x, y, z)), work)
+  loop_goes false assignment.Reference line x k es a v c f y z t' w' = absurd v
+  loop_goes text sign line (LeftAddress r) k es a v c x y z t' w' = absurd c
+  loop_goes text sign line (LeftText n r) k es a v c x y z t' w' = absurd c
+  loop_goes text sign line LeftUnbuilt k es a v c x y z t' w' = absurd x
 
   pub exec_goes : (a : Statement) → StatementIs s t a → Goes P (exec s l o m i w vals rest a)
   exec_goes (syntax.Empty token) x = goes w work
@@ -130,15 +131,15 @@ module _ (s : Source) (ok : Typed s) (l : Limits) (o : World) (m : Instances) (i
       compound_is a x = x
   exec_goes (syntax.Call e) x = ticked P l o (λ p. go p m i (Do (Eval (close s m i e)) ∷ dropping (leaves s e) w) vals rest) (λ t' w'. goes (Do (Eval (close s m i e)) ∷ dropping (leaves s e) w) (call_goes e x))
   exec_goes (syntax.Assign left rs) x =
-      ticked P l o (λ p. assigned s p m i w vals rest (are_values rs) (lefts s m i (left_sides left rs)) (right_side left rs)) (λ t' w'.
-      assign_goes (left_sides left rs) (right_side left rs) (are_values rs) x.0 x.1 (lefts_found s ok o.arrays m i t b (Rest s o m i t rest lt) x.0 (left_sides left rs) x.2) x.3 t' w')
+      ticked P l o (λ p. assigned s p m i w vals rest (lefts s m i (left_sides left rs)) (last_value left rs)) (λ t' w'.
+      assign_goes (left_sides left rs) (last_value left rs) x.0 (lefts_found s ok (see sights o) m i t b (Rest s o sights long m i t rest lt) x.0 (left_sides left rs) x.1) x.2 t' w')
   exec_goes (syntax.Choose token c a other) x =
       ticked P l o (λ p. go p m i (Do (Eval (close s m i c)) ∷ Do (ChooseOp a other) ∷ w) vals rest) (λ t' w'.
       goes (Do (Eval (close s m i c)) ∷ Do (ChooseOp a other) ∷ w) (evals c (Simply kind.Boolean) (Do (ChooseOp a other) ∷ w) ks x.0 ([], ks, (refl, refl, refl, x.1, x.2), work)))
   exec_goes (syntax.Repeat token c a) x = ticked P l o (λ p. go p m i (Do (TestOp c a) ∷ w) vals rest) (λ t' w'. goes (Do (TestOp c a) ∷ w) ([], ks, (refl, refl, refl, (x.0, x.1)), work))
   exec_goes (syntax.For token x sign assign es a) f =
-      ticked P l o (λ p. looping p m i w vals rest sign (controlled (close_left s m i (syntax.Named x NoMore))) es a) (λ t' w'.
-      loop_goes sign (close_left s m i (syntax.Named x NoMore)) f.0 es a f.1 (text_cell s m i x (is_text s (syntax.Named x NoMore))) (left_fine s ok o.arrays m i t b (syntax.Named x NoMore) f.0 f.2) f.3 f.4 t' w')
+      ticked P l o (λ p. looping p m i w vals rest (controlled (is_text s (syntax.Named x NoMore)) sign (line_at s assign) (left_variable s m i (syntax.Named x NoMore))) es a) (λ t' w'.
+      loop_goes (is_text s (syntax.Named x NoMore)) sign (line_at s assign) (left_variable s m i (syntax.Named x NoMore)) f.0 es a f.1 (named_cell s m i (line_at s x.token.0) (denoted s x.token.0)) (variable_fine s ok (see sights o) m i t b (syntax.Named x NoMore) f.0 f.2) f.3 f.4 t' w')
   exec_goes _ x = absurd x
 
   pub execs_goes : (ss : Statements) → StatementsAre s t ss → Goes P (execs o m i w vals rest ss)
@@ -147,7 +148,7 @@ module _ (s : Source) (ok : Typed s) (l : Limits) (o : World) (m : Instances) (i
 
   -- ---- loops
 
-  test_fine : (c : Expression) (a : Statement) → ExprIs s (Some t) c (Simply kind.Boolean) → StatementIs s t a → OpFine s o.arrays m i t (TestOp c a) [] [] ks ks
+  test_fine : (c : Expression) (a : Statement) → ExprIs s (Some t) c (Simply kind.Boolean) → StatementIs s t a → OpFine s (see sights o) m i t (TestOp c a) [] [] ks ks
   test_fine c a x y = (refl, refl, refl, (x, y))
 
   pub test_goes : (c : Expression) (a : Statement) → ExprIs s (Some t) c (Simply kind.Boolean) → StatementIs s t a → Goes P (do_op s l o m i w vals rest (TestOp c a))
@@ -155,42 +156,68 @@ module _ (s : Source) (ok : Typed s) (l : Limits) (o : World) (m : Instances) (i
       ticked P l o (λ p. go p m i (Do (Eval (close s m i c)) ∷ Do (BranchOp a (BackOp (TestOp c a))) ∷ w) vals rest) (λ t' w'.
       goes (Do (Eval (close s m i c)) ∷ Do (BranchOp a (BackOp (TestOp c a))) ∷ w) (evals c (Simply kind.Boolean) (Do (BranchOp a (BackOp (TestOp c a))) ∷ w) ks x ([], ks, (refl, refl, refl, y, test_fine c a x y), work)))
 
-  stores : (x : Target) (k : Kind) (w : List Item) (ks : List Kinds) → VariableFine s o.arrays m i x k → Wk w ks → Wk (Do (StoreOp x) ∷ w) (Value (Simply k) ∷ ks)
+  -- the text that a value is assigned to is found before
+  abbrev found : Target → List Kinds → List Kinds
+  found (ToCell j key) ks = ks
+  found ToAddress ks = ks
+  found (ToText line) ks = ks
+  found (ToTextOf j key line) ks = Value (Simply kind.Text) ∷ ks
+
+  finds : (x : Target) (k : Kind) (w : List Item) (ks : List Kinds) → VariableFine s (see sights o) m i x k → Wk w (found x ks) → Wk (finding x w) ks
+  finds (ToCell j key) k w ks c x = x
+  finds ToAddress k w ks c x = absurd c
+  finds (ToText line) k w ks c x = absurd c
+  finds (ToTextOf j key line) k w ks c x =
+      let y = c.0 in
+      ([], Value (Simply kind.Text) ∷ ks, (simple kind.Text, (Simply kind.Text, refl, in_whole y.before y.whole (y.holds ∙ ap (λ z. Some (Simply z)) c.1) y.there), refl, refl), x)
+
+  stores : (x : Target) (k : Kind) (w : List Item) (ks : List Kinds) → VariableFine s (see sights o) m i x k → Wk w ks → Wk (Do (StoreOp x) ∷ w) (Value (Simply k) ∷ found x ks)
   stores (ToCell j key) k w ks c x = ([], ks, value_stored k ks refl (c, refl) refl, x)
   stores ToAddress k w ks c x = absurd c
+  stores (ToText line) k w ks c x = absurd c
+  stores (ToTextOf j key line) k w ks c x = ([], ks, value_stored k (Value (Simply kind.Text) ∷ ks) refl (c.1, refl) refl, x)
 
-  reads : (x : Target) (k : Kind) (w : List Item) (ks : List Kinds) → VariableFine s o.arrays m i x k → Wk w (Value (Simply k) ∷ ks) → Wk (reading x w) ks
+  -- an integer is no text
+  stores_integer : (x : Target) (w : List Item) (ks : List Kinds) → VariableFine s (see sights o) m i x kind.Integer → Wk w ks → Wk (Do (StoreOp x) ∷ w) (Value (Simply kind.Integer) ∷ ks)
+  stores_integer (ToCell j key) w ks c x = stores (ToCell j key) kind.Integer w ks c x
+  stores_integer ToAddress w ks c x = absurd c
+  stores_integer (ToText line) w ks c x = absurd c
+  stores_integer (ToTextOf j key line) w ks c x = let e = c.1 in absurd (cc)
+
+  reads : (x : Target) (k : Kind) (w : List Item) (ks : List Kinds) → VariableFine s (see sights o) m i x k → Wk w (Value (Simply k) ∷ ks) → Wk (reading x w) ks
   reads (ToCell j key) k w ks c x = ([], Value (Simply k) ∷ ks, (simple k, (Simply k, refl, in_whole c.before c.whole c.holds c.there), refl, refl), x)
   reads ToAddress k w ks c x = absurd c
+  reads (ToText line) k w ks c x = absurd c
+  reads (ToTextOf j key line) k w ks c x = let y = c.0 in ([], Value (Simply k) ∷ ks, (simple k, (Simply k, refl, in_whole y.before y.whole y.holds y.there), refl, refl), x)
 
-  pub elements_goes : (x : Target) (es : List Element) (a : Statement) (k : Kind) → VariableFine s o.arrays m i x k → ElementsAre s t k es → StatementIs s t a → Goes P (elements s l o m i w vals rest x es a)
+  pub elements_goes : (x : Target) (es : List Element) (a : Statement) (k : Kind) → VariableFine s (see sights o) m i x k → ElementsAre s t k es → StatementIs s t a → Goes P (elements s l o m i w vals rest x es a)
   elements_goes x [] a k v e y = goes w work
   elements_goes x (syntax.Once e ∷ es) a k v f y =
-      ticked P l o (λ p. go p m i (Do (Eval (close s m i e)) ∷ Do (StoreOp x) ∷ Do (Exec a) ∷ Do (ElementsOp x es a) ∷ w) vals rest) (λ t' w'.
-      goes (Do (Eval (close s m i e)) ∷ Do (StoreOp x) ∷ Do (Exec a) ∷ Do (ElementsOp x es a) ∷ w)
-      (evals e (Simply k) (Do (StoreOp x) ∷ Do (Exec a) ∷ Do (ElementsOp x es a) ∷ w) ks f.0 (stores x k (Do (Exec a) ∷ Do (ElementsOp x es a) ∷ w) ks v ([], ks, (refl, refl, refl, y), ([], ks, (refl, refl, refl, (k, v, f.1, y)), work)))))
+      ticked P l o (λ p. go p m i (finding x (Do (Eval (close s m i e)) ∷ Do (StoreOp x) ∷ Do (Exec a) ∷ Do (ElementsOp x es a) ∷ w)) vals rest) (λ t' w'.
+      goes (finding x (Do (Eval (close s m i e)) ∷ Do (StoreOp x) ∷ Do (Exec a) ∷ Do (ElementsOp x es a) ∷ w)) (finds x k (Do (Eval (close s m i e)) ∷ Do (StoreOp x) ∷ Do (Exec a) ∷ Do (ElementsOp x es a) ∷ w) ks v
+      (evals e (Simply k) (Do (StoreOp x) ∷ Do (Exec a) ∷ Do (ElementsOp x es a) ∷ w) (found x ks) f.0 (stores x k (Do (Exec a) ∷ Do (ElementsOp x es a) ∷ w) ks v ([], ks, (refl, refl, refl, y), ([], ks, (refl, refl, refl, (k, v, f.1, y)), work))))))
   elements_goes x (syntax.While e token c ∷ es) a k v f y =
       let g = f.0 in
       goes (Do (WhileElementOp x e c a) ∷ Do (ElementsOp x es a) ∷ w) ([], ks, (refl, refl, refl, (k, v, g.0, g.1, y)), ([], ks, (refl, refl, refl, (k, v, f.1, y)), work))
   elements_goes x (syntax.Step start token step limit ∷ es) a k v f y =
       let g = f.0 in
-      let v' = subst (VariableFine s o.arrays m i x) g.0 v in
+      let v' = subst (VariableFine s (see sights o) m i x) g.0 v in
       goes (Do (Eval (close s m i start)) ∷ Do (StoreOp x) ∷ Do (Eval (close s m i step)) ∷ Do (StepTestOp x (line_at s token) step limit a) ∷ Do (ElementsOp x es a) ∷ w)
       (evals start (Simply kind.Integer) (Do (StoreOp x) ∷ Do (Eval (close s m i step)) ∷ Do (StepTestOp x (line_at s token) step limit a) ∷ Do (ElementsOp x es a) ∷ w) ks g.1
-      (stores x kind.Integer (Do (Eval (close s m i step)) ∷ Do (StepTestOp x (line_at s token) step limit a) ∷ Do (ElementsOp x es a) ∷ w) ks v'
+      (stores_integer x (Do (Eval (close s m i step)) ∷ Do (StepTestOp x (line_at s token) step limit a) ∷ Do (ElementsOp x es a) ∷ w) ks v'
       (evals step (Simply kind.Integer) (Do (StepTestOp x (line_at s token) step limit a) ∷ Do (ElementsOp x es a) ∷ w) ks g.2
       ([], ks, (refl, refl, refl, v', g.2, g.3, y), ([], ks, (refl, refl, refl, (k, v, f.1, y)), work)))))
 
-  pub while_goes : (x : Target) (e c : Expression) (a : Statement) (k : Kind) → VariableFine s o.arrays m i x k → ExprIs s (Some t) e (Simply k) → ExprIs s (Some t) c (Simply kind.Boolean) → StatementIs s t a → Goes P (while_element s l o m i w vals rest x e c a)
+  pub while_goes : (x : Target) (e c : Expression) (a : Statement) (k : Kind) → VariableFine s (see sights o) m i x k → ExprIs s (Some t) e (Simply k) → ExprIs s (Some t) c (Simply kind.Boolean) → StatementIs s t a → Goes P (while_element s l o m i w vals rest x e c a)
   while_goes x e c a k v f g y =
-      ticked P l o (λ p. go p m i (Do (Eval (close s m i e)) ∷ Do (StoreOp x) ∷ Do (Eval (close s m i c)) ∷ Do (BranchOp a (BackOp (WhileElementOp x e c a))) ∷ w) vals rest) (λ t' w'.
-      goes (Do (Eval (close s m i e)) ∷ Do (StoreOp x) ∷ Do (Eval (close s m i c)) ∷ Do (BranchOp a (BackOp (WhileElementOp x e c a))) ∷ w)
-      (evals e (Simply k) (Do (StoreOp x) ∷ Do (Eval (close s m i c)) ∷ Do (BranchOp a (BackOp (WhileElementOp x e c a))) ∷ w) ks f
+      ticked P l o (λ p. go p m i (finding x (Do (Eval (close s m i e)) ∷ Do (StoreOp x) ∷ Do (Eval (close s m i c)) ∷ Do (BranchOp a (BackOp (WhileElementOp x e c a))) ∷ w)) vals rest) (λ t' w'.
+      goes (finding x (Do (Eval (close s m i e)) ∷ Do (StoreOp x) ∷ Do (Eval (close s m i c)) ∷ Do (BranchOp a (BackOp (WhileElementOp x e c a))) ∷ w)) (finds x k (Do (Eval (close s m i e)) ∷ Do (StoreOp x) ∷ Do (Eval (close s m i c)) ∷ Do (BranchOp a (BackOp (WhileElementOp x e c a))) ∷ w) ks v
+      (evals e (Simply k) (Do (StoreOp x) ∷ Do (Eval (close s m i c)) ∷ Do (BranchOp a (BackOp (WhileElementOp x e c a))) ∷ w) (found x ks) f
       (stores x k (Do (Eval (close s m i c)) ∷ Do (BranchOp a (BackOp (WhileElementOp x e c a))) ∷ w) ks v
       (evals c (Simply kind.Boolean) (Do (BranchOp a (BackOp (WhileElementOp x e c a))) ∷ w) ks g
-      ([], ks, (refl, refl, refl, y, (refl, refl, refl, (k, v, f, g, y))), work)))))
+      ([], ks, (refl, refl, refl, y, (refl, refl, refl, (k, v, f, g, y))), work))))))
 
-  pub step_goes : (x : Target) (line : ℕ) (step limit : Expression) (a : Statement) (left : List Kinds) → ks ≡ Value (Simply kind.Integer) ∷ left → VariableFine s o.arrays m i x kind.Integer → ExprIs s (Some t) step (Simply kind.Integer) → ExprIs s (Some t) limit (Simply kind.Integer) → StatementIs s t a → (w : List Item) → Wk w left → Goes P (step_tested s l o m i w vals rest x line step limit a)
+  pub step_goes : (x : Target) (line : ℕ) (step limit : Expression) (a : Statement) (left : List Kinds) → ks ≡ Value (Simply kind.Integer) ∷ left → VariableFine s (see sights o) m i x kind.Integer → ExprIs s (Some t) step (Simply kind.Integer) → ExprIs s (Some t) limit (Simply kind.Integer) → StatementIs s t a → (w : List Item) → Wk w left → Goes P (step_tested s l o m i w vals rest x line step limit a)
   step_goes x line step limit a left is v f g y w work =
       ticked P l o (λ p. go p m i (reading x (Do (Eval (close s m i limit)) ∷ Do (StepOp line) ∷ Do (BranchOp a (RaiseOp x line step limit a)) ∷ w)) vals rest) (λ t' w'.
       goes (reading x (Do (Eval (close s m i limit)) ∷ Do (StepOp line) ∷ Do (BranchOp a (RaiseOp x line step limit a)) ∷ w)) (subst (λ z. Wk (reading x (Do (Eval (close s m i limit)) ∷ Do (StepOp line) ∷ Do (BranchOp a (RaiseOp x line step limit a)) ∷ w)) z) (sym is)
@@ -198,18 +225,18 @@ module _ (s : Source) (ok : Typed s) (l : Limits) (o : World) (m : Instances) (i
       (evals limit (Simply kind.Integer) (Do (StepOp line) ∷ Do (BranchOp a (RaiseOp x line step limit a)) ∷ w) (Value (Simply kind.Integer) ∷ Value (Simply kind.Integer) ∷ left) g
       ([], Value (Simply kind.Boolean) ∷ left, (left, refl, refl, refl), ([], left, (refl, refl, refl, y, (refl, refl, refl, (v, f, g, y))), work))))))
 
-  pub raise_goes : (x : Target) (line : ℕ) (step limit : Expression) (a : Statement) → VariableFine s o.arrays m i x kind.Integer → ExprIs s (Some t) step (Simply kind.Integer) → ExprIs s (Some t) limit (Simply kind.Integer) → StatementIs s t a → Goes P (raised s o m i w vals rest x line step limit a)
+  pub raise_goes : (x : Target) (line : ℕ) (step limit : Expression) (a : Statement) → VariableFine s (see sights o) m i x kind.Integer → ExprIs s (Some t) step (Simply kind.Integer) → ExprIs s (Some t) limit (Simply kind.Integer) → StatementIs s t a → Goes P (raised s o m i w vals rest x line step limit a)
   raise_goes x line step limit a v f g y =
       goes (Do (Eval (close s m i step)) ∷ Do AgainOp ∷ reading x (Do (TwoOp (dyadic.Calculate calculation.Add) line) ∷ Do (StoreOp x) ∷ Do (BackOp (StepTestOp x line step limit a)) ∷ w))
       (evals step (Simply kind.Integer) (Do AgainOp ∷ reading x (Do (TwoOp (dyadic.Calculate calculation.Add) line) ∷ Do (StoreOp x) ∷ Do (BackOp (StepTestOp x line step limit a)) ∷ w)) ks f (
         [],
         Value (Simply kind.Integer) ∷ Value (Simply kind.Integer) ∷ ks,
-        (Value (Simply kind.Integer), ks, refl, refl, refl),
+        (kind.Integer, ks, refl, refl, refl),
         reads x kind.Integer (Do (TwoOp (dyadic.Calculate calculation.Add) line) ∷ Do (StoreOp x) ∷ Do (BackOp (StepTestOp x line step limit a)) ∷ w) (Value (Simply kind.Integer) ∷ Value (Simply kind.Integer) ∷ ks) v (
           [],
           Value (Simply kind.Integer) ∷ Value (Simply kind.Integer) ∷ ks,
           (kind.Integer, kind.Integer, Value (Simply kind.Integer) ∷ ks, (refl, refl), refl, refl, refl),
-          stores x kind.Integer (Do (BackOp (StepTestOp x line step limit a)) ∷ w) (Value (Simply kind.Integer) ∷ ks) v
+          stores_integer x (Do (BackOp (StepTestOp x line step limit a)) ∷ w) (Value (Simply kind.Integer) ∷ ks) v
               ([], ks, (refl, refl, refl, v, f, g, y), work),
         ),
       ))
@@ -221,17 +248,17 @@ module _ (s : Source) (ok : Typed s) (l : Limits) (o : World) (m : Instances) (i
   first_works (Also a more) = ([], ks, (refl, refl), work)
 
 -- what waits for a truth value
-module _ (s : Source) (ok : Typed s) (l : Limits) (o : World) (m : Instances) (i t : ℕ) (rest : List Activation) (lt : i < length m.instances) (w : List Item) (vals : List Val) (ks : List Kinds) (b : Whole s o.arrays m i t) (h : HandsFine s o.arrays m i (Value (Simply kind.Boolean) ∷ ks) vals) (work : Work s o m i t rest lt w [] ks) where
+module _ (s : Source) (ok : Typed s) (l : Limits) (o : World) (sights : List Sight) (long : length sights ≡ length o.arrays) (m : Instances) (i t : ℕ) (rest : List Activation) (lt : i < length m.instances) (w : List Item) (vals : List Val) (ks : List Kinds) (b : Whole s (see sights o) m i t) (h : HandsFine s (see sights o) m i (Value (Simply kind.Boolean) ∷ ks) vals) (work : Work s o sights long m i t rest lt w [] ks) where
   pub choose_goes : (a : Statement) (other : Statements) → StatementIs s t a → StatementsAre s t other → Goes (IsFine s) (do_op s l o m i w vals rest (ChooseOp a other))
   choose_goes a other x y =
-      truth_popped (IsFine s) s o.arrays m i ks vals o (λ c vs. choosing c (go o m i (Do (Exec a) ∷ first_branch other w) vs rest) (go o m i (Do (Execs other) ∷ w) vs rest)) h (λ c vs more.
+      truth_popped (IsFine s) s (see sights o) m i ks vals o (λ c vs. choosing c (go o m i (Do (Exec a) ∷ first_branch other w) vs rest) (go o m i (Do (Execs other) ∷ w) vs rest)) h (λ c vs more.
       chosen (IsFine s) c (go o m i (Do (Exec a) ∷ first_branch other w) vs rest) (go o m i (Do (Execs other) ∷ w) vs rest)
-      (goes_on s o m i t rest lt (Do (Exec a) ∷ first_branch other w) vs [] ks b more ([], ks, (refl, refl, refl, x), first_works s ok l o m i t rest lt w vs ks b more work other))
-      (goes_on s o m i t rest lt (Do (Execs other) ∷ w) vs [] ks b more ([], ks, (refl, refl, refl, y), work)))
+      (goes_on s o sights long m i t rest lt (Do (Exec a) ∷ first_branch other w) vs [] ks b more ([], ks, (refl, refl, refl, x), first_works s ok l o sights long m i t rest lt w vs ks b more work other))
+      (goes_on s o sights long m i t rest lt (Do (Execs other) ∷ w) vs [] ks b more ([], ks, (refl, refl, refl, y), work)))
 
-  pub branch_goes : (a : Statement) (again : Op) → StatementIs s t a → OpFine s o.arrays m i t again [] [] ks ks → Goes (IsFine s) (do_op s l o m i w vals rest (BranchOp a again))
+  pub branch_goes : (a : Statement) (again : Op) → StatementIs s t a → OpFine s (see sights o) m i t again [] [] ks ks → Goes (IsFine s) (do_op s l o m i w vals rest (BranchOp a again))
   branch_goes a again x y =
-      truth_popped (IsFine s) s o.arrays m i ks vals o (λ c vs. choosing c (go o m i (Do (Exec a) ∷ Do again ∷ w) vs rest) (go o m i w vs rest)) h (λ c vs more.
+      truth_popped (IsFine s) s (see sights o) m i ks vals o (λ c vs. choosing c (go o m i (Do (Exec a) ∷ Do again ∷ w) vs rest) (go o m i w vs rest)) h (λ c vs more.
       chosen (IsFine s) c (go o m i (Do (Exec a) ∷ Do again ∷ w) vs rest) (go o m i w vs rest)
-      (goes_on s o m i t rest lt (Do (Exec a) ∷ Do again ∷ w) vs [] ks b more ([], ks, (refl, refl, refl, x), ([], ks, y, work)))
-      (goes_on s o m i t rest lt w vs [] ks b more work))
+      (goes_on s o sights long m i t rest lt (Do (Exec a) ∷ Do again ∷ w) vs [] ks b more ([], ks, (refl, refl, refl, x), ([], ks, y, work)))
+      (goes_on s o sights long m i t rest lt w vs [] ks b more work))

@@ -1,9 +1,12 @@
 -- Worked programs are typed.
-use Rattle.sim_meaning.specs.Examples.{factorial_20, for_list, sub_block}
+use Rattle.sim_meaning.specs.Examples.{factorial_20, for_list, sub_block, value_array}
+use Rattle.sim_meaning.specs.TextExamples.{parts}
 use Rattle.sim_sound.specs.Typed.{Typed}
 
--- a `for` list; a procedure that calls itself; a sub-block with arrays, an assignment to several left sides and a choice
+-- a `for` list; a procedure that calls itself; a sub-block with arrays, an assignment to several left sides and a choice; texts; an array by value
 pub record WorkedPrograms : Type 0 where
   pub for_list_typed : Typed for_list
   pub factorial_20_typed : Typed factorial_20
   pub sub_block_typed : Typed sub_block
+  pub parts_typed : Typed parts
+  pub value_array_typed : Typed value_array

@@ -1,5 +1,5 @@
--- Which programs are typed: what the static rules give, as far as a run rests on it. So far for programs without texts, classes,
--- parameters by name, formal procedures and arrays by value; their variables may be of any type.
+-- Which programs are typed: what the static rules give, as far as a run rests on it. So far for programs without classes, parameters
+-- by name and formal procedures.
 use Rattle.std.specs.Prelude.{◌≡◌, ℕ, suc, Bool, true, false, List, [], ◌∷◌, slice_get, Option, Some, None}
 use Rattle.sim_base.specs.declared.numbering.DeclNo.{DeclNo}
 use Rattle.sim_scope.specs.declared.scopes.Declaration.{Declaration}
@@ -13,6 +13,7 @@ use Rattle.sim_scope.specs.declared.types.FormalKind.TheVariants as shape
 use Rattle.sim_scope.specs.declared.types.Mode.{Mode}
 use Rattle.sim_scope.specs.declared.types.Mode.TheVariants as mode
 use Rattle.sim_scope.specs.declared.types.SimType.{SimType}
+use Rattle.sim_scope.specs.Assignments.{LeftSide, last_value, left_sides}
 use Rattle.sim_scope.specs.Scopes.{encloser, entry_of}
 use Rattle.sim_scope.specs.Source.{Source, block_around, block_of, denoted, level_of}
 use Rattle.sim_scope.specs.Tables.{Tables}
@@ -20,7 +21,7 @@ use Rattle.sim_tree.specs.declared.expr.Identifier.{Identifier}
 use Rattle.sim_tree.specs.declared.stmt.Assignment.{Assignment}
 use Rattle.sim_tree.specs.declared.stmt.Assignment.TheVariants as assignment
 use Rattle.sim_tree.specs.declared.stmt.TypeName.{TypeName}
-use Rattle.sim_tree.specs.Syntax.{Also, Arrayed, Arrays, Begin, Block, BoundPair, Declarations, DeclareClass, DeclareProcedure, Element, Expression, Expressions, Heading, Literal, NoDeclaration, NoMore, NoStatement, RightSide, Statement, Statements, Then, Variables, With}
+use Rattle.sim_tree.specs.Syntax.{Also, Arrayed, Arrays, Begin, Block, BoundPair, Declarations, DeclareClass, DeclareProcedure, Element, Expression, Expressions, Heading, Literal, NoDeclaration, NoMore, NoStatement, Statement, Statements, Then, Variables, With}
 use Rattle.sim_tree.specs.Syntax as syntax
 use Rattle.sim_values.specs.declared.kind.Kind.{Kind}
 use Rattle.sim_values.specs.declared.kind.Kind.TheVariants as kind
@@ -29,13 +30,14 @@ use Rattle.sim_values.specs.declared.operators.Dyadic.TheVariants as dyadic
 use Rattle.sim_values.specs.declared.standard.Standard.{Standard}
 use Rattle.sim_values.specs.declared.standard.StandardType.{StandardType}
 use Rattle.sim_values.specs.Plain.{Plain, kind_of}
-use Rattle.sim_values.specs.Standard.{kind_of_type as kind_of_standard, operands_of, row_of}
+use Rattle.sim_values.specs.Standard.{is_image, kind_of_type as kind_of_standard, on_image, operands_of, row_of}
 use Rattle.sim_code.specs.Running.{name_runs}
-use Rattle.sim_meaning.specs.Closing.{Lazily, Plainly, Sort, is_text, is_text_type, sort_of}
+use Rattle.sim_meaning.specs.Closing.{Joining, Lazily, Negated, Plainly, Sort, is_text, own_result, sort_of, stream_of}
+use Rattle.sim_meaning.specs.Constants.{text_constant}
 use Rattle.sim_meaning.specs.Entries.{formals_of, numbers_of}
 use Rattle.sim_meaning.specs.Names.{procedure_named}
 use Rattle.sim_meaning.specs.Pending.{Connection, Declared, Key, Result}
-use Rattle.sim_meaning.specs.Statements.{are_values, leaves, left_sides, right_side}
+use Rattle.sim_meaning.specs.Statements.{leaves}
 use Rattle.sim_meaning.specs.Texts.{BlockText, ProcedureText, Text, constant_of, declared_at, is_class_free, kind_named, kind_of_type, text}
 
 -- ---- cells
@@ -48,6 +50,7 @@ pub data Holds : Type 0 where
 abbrev pub formal_holds : Mode → FormalKind → Option SimType → Option Holds
 formal_holds mode.ByValue shape.Simple (Some t) = Some (Simply (kind_of_type t))
 formal_holds mode.ByReference shape.Simple (Some t) = Some (Simply (kind_of_type t))
+formal_holds mode.ByValue shape.Array (Some t) = Some (ArrayOf (kind_of_type t))
 formal_holds mode.ByReference shape.Array (Some t) = Some (ArrayOf (kind_of_type t))
 formal_holds _ _ _ = None
 
@@ -93,19 +96,24 @@ Ordered _ = ⊥
 abbrev pub TwoKinds : Dyadic → (operands value : Kind) → Type 0
 TwoKinds (dyadic.Calculate c) k v = (k ≡ kind.Integer) × (v ≡ kind.Integer)
 TwoKinds (dyadic.Compare r) k v = Ordered k × (v ≡ kind.Boolean)
+TwoKinds (dyadic.CompareTexts r) k v = (k ≡ kind.Text) × (v ≡ kind.Boolean)
 TwoKinds (dyadic.Connect c) k v = (k ≡ kind.Boolean) × (v ≡ kind.Boolean)
-TwoKinds _ k v = ⊥
+TwoKinds dyadic.SameObject k v = (k ≡ kind.Reference) × (v ≡ kind.Boolean)
+TwoKinds dyadic.SameText k v = (k ≡ kind.Text) × (v ≡ kind.Boolean)
 
 abbrev pub SortKinds : Sort → (operands value : Kind) → Type 0
 SortKinds (Plainly op) k v = TwoKinds op k v
+SortKinds (Negated op) k v = TwoKinds op k kind.Boolean × (v ≡ kind.Boolean)
 SortKinds (Lazily b) k v = (k ≡ kind.Boolean) × (v ≡ kind.Boolean)
-SortKinds _ k v = ⊥
+SortKinds Joining k v = (k ≡ kind.Text) × (v ≡ kind.Text)
 
 abbrev pub literal_kind : Literal → Option Kind
 literal_kind (syntax.IntegerValue z) = Some kind.Integer
 literal_kind (syntax.CharacterValue c) = Some kind.Character
 literal_kind (syntax.BooleanValue b) = Some kind.Boolean
-literal_kind _ = None
+literal_kind (syntax.TextValue bytes) = None
+literal_kind syntax.NoObject = Some kind.Reference
+literal_kind syntax.NoText = Some kind.Text
 
 abbrev pub standard_kind : Option StandardType → Option Kind
 standard_kind None = None
@@ -142,9 +150,41 @@ abbrev pub some_holds : Option Kind → Option Holds
 some_holds None = None
 some_holds (Some k) = Some (Simply k)
 
+-- a text constant is one of the program's
+abbrev pub LiteralIs : Source → (token : ℕ) → Literal → Holds → Type 0
+LiteralIs s token (syntax.TextValue bytes) h = (v : Plain) × (text_constant s token ≡ Some v) × (Simply (kind_of v) ≡ h)
+LiteralIs s token literal h = some_holds (literal_kind literal) ≡ Some h
+
+-- a standard name that is done gives what its row says
+abbrev pub RowGives : Standard → Option Holds → Type 0
+RowGives name h = (name_runs name ≡ true) × (some_holds (standard_kind (row_of name).result) ≡ h)
+
+-- a name of texts, behind its text
+abbrev pub OfText : Standard → (Operands : List Kind → Type 0) → Option Holds → Type 0
+OfText name Operands h = RowGives name h × (ks : List Kind) × (operands_of (row_of name).function ≡ kind.Text ∷ ks) × Operands ks
+
+-- `image`, a name that is done on an image as a name of texts, or any other name
+abbrev pub NameGives : (is_image : Bool) → (on_image : Option Standard) → Standard → (Operands : List Kind → Type 0) → Option Holds → Type 0
+NameGives true other name Operands h = (Some (Simply kind.Text) ≡ h) × Operands []
+NameGives false (Some of_text) name Operands h = OfText of_text Operands h
+NameGives false None name Operands h = RowGives name h × Operands (operands_of (row_of name).function)
+
 abbrev pub StandardGives : Option Standard → (Operands : List Kind → Type 0) → Option Holds → Type 0
 StandardGives None Operands h = ⊥
-StandardGives (Some name) Operands h = (name_runs name ≡ true) × (some_holds (standard_kind (row_of name).result) ≡ h) × Operands (operands_of (row_of name).function)
+StandardGives (Some name) Operands h = NameGives (is_image name) (on_image name) name Operands h
+
+-- an attribute behind a dot: of sysin or sysout, or of a text
+abbrev pub AttributeGives : Option Standard → (Object : Type 0) → (Operands : List Kind → Type 0) → Option Holds → Type 0
+AttributeGives None Object Operands h = ⊥
+AttributeGives (Some name) Object Operands h = Object × OfText name Operands h
+
+abbrev pub BehindGives : (stream : Option ℕ) → Option Standard → (Object : Type 0) → (Operands : List Kind → Type 0) → Option Holds → Type 0
+BehindGives (Some image) name Object Operands h = StandardGives name Operands h
+BehindGives None name Object Operands h = AttributeGives name Object Operands h
+
+abbrev pub DotGives : Option Denotation → (stream : Option ℕ) → (Object : Type 0) → (Operands : List Kind → Type 0) → Option Holds → Type 0
+DotGives (Some (denotation.Standard name)) stream Object Operands h = BehindGives stream (procedure_named name) Object Operands h
+DotGives _ stream Object Operands h = ⊥
 
 abbrev pub DeclaredGives : Source → Option ℕ → DeclNo → Expressions → (Indices : Type 0) → (Actuals : List Formal → Type 0) → Option Entry → Option Holds → Type 0
 DeclaredGives s from d es Indices Actuals (Some (entry.Procedure result k)) h = CallGives s from d result k Actuals h
@@ -158,8 +198,9 @@ NamedGives s from (Some (denotation.Declared d)) es Indices Operands Actuals h =
 NamedGives s from (Some (denotation.Standard name)) es Indices Operands Actuals h = StandardGives (procedure_named name) Operands h
 
 abbrev pub ActualFits : Mode → FormalKind → Option SimType → (Is : Holds → Type 0) → Type 0
-ActualFits mode.ByValue shape.Simple (Some t) Is = (is_text_type (Some t) ≡ false) × Is (Simply (kind_of_type t))
+ActualFits mode.ByValue shape.Simple (Some t) Is = Is (Simply (kind_of_type t))
 ActualFits mode.ByReference shape.Simple (Some t) Is = Is (Simply (kind_of_type t))
+ActualFits mode.ByValue shape.Array (Some t) Is = Is (ArrayOf (kind_of_type t))
 ActualFits mode.ByReference shape.Array (Some t) Is = Is (ArrayOf (kind_of_type t))
 ActualFits _ _ _ Is = ⊥
 
@@ -171,7 +212,8 @@ abbrev mutual
   ExprIs s from (syntax.Binary op token a b) h = (k : Kind) × (v : Kind) × SortKinds (sort_of (is_text s a) op) k v × (Simply v ≡ h) × ExprIs s from a (Simply k) × ExprIs s from b (Simply k)
   ExprIs s from (syntax.Not token a) h = (Simply kind.Boolean ≡ h) × ExprIs s from a (Simply kind.Boolean)
   ExprIs s from (syntax.Signed sign token a) h = (Simply kind.Integer ≡ h) × ExprIs s from a (Simply kind.Integer)
-  ExprIs s from (syntax.Constant literal token) h = some_holds (literal_kind literal) ≡ Some h
+  ExprIs s from (syntax.Dot token a name es) h = DotGives (denoted s name.token.0) (stream_of s a) (ExprIs s from a (Simply kind.Text)) (λ ks. AreOf s from es ks) (Some h)
+  ExprIs s from (syntax.Constant literal token) h = LiteralIs s token literal h
   ExprIs s from (syntax.Named name es) h =
       NamedGives s from (denoted s name.token.0) es (AreIntegers s from es) (λ ks. AreOf s from es ks) (λ fs. ActualsFit s from es fs) (Some h)
   ExprIs s from (syntax.Parentheses token a) h = ExprIs s from a h
@@ -212,12 +254,23 @@ LeftDenoted s t (Some (denotation.Declared d)) es Indices kind = LeftDeclared s 
 LeftDenoted s t _ es Indices kind = ⊥
 
 abbrev pub LeftIs : Source → ℕ → Expression → Kind → Type 0
-LeftIs s t (syntax.Named name es) kind = (is_text s (syntax.Named name es) ≡ false) × LeftDenoted s t (denoted s name.token.0) es (AreIntegers s (Some t) es) kind
+LeftIs s t (syntax.Named name es) kind = LeftDenoted s t (denoted s name.token.0) es (AreIntegers s (Some t) es) kind
 LeftIs s t _ kind = ⊥
 
-abbrev pub LeftsAre : Source → ℕ → List Expression → Kind → Type 0
-LeftsAre s t [] kind = Unit {0}
-LeftsAre s t (e ∷ es) kind = LeftIs s t e kind × LeftsAre s t es kind
+-- a text that is assigned to: the result of a procedure from its inside, or any text value
+abbrev pub TextLeft : Source → ℕ → Expression → (own : Option ℕ) → Type 0
+TextLeft s t e (Some block) = LeftIs s t e kind.Text
+TextLeft s t e None = ExprIs s (Some t) e (Simply kind.Text)
+
+abbrev pub LeftOf : (text : Bool) → Assignment → Source → ℕ → Expression → Kind → Type 0
+LeftOf true assignment.Value s t e k = (k ≡ kind.Text) × TextLeft s t e (own_result s e)
+LeftOf true assignment.Reference s t e k = LeftIs s t e k
+LeftOf false assignment.Value s t e k = LeftIs s t e k
+LeftOf false assignment.Reference s t e k = ⊥
+
+abbrev pub LeftsAre : Source → ℕ → List LeftSide → Kind → Type 0
+LeftsAre s t [] k = Unit {0}
+LeftsAre s t (l ∷ ls) k = LeftOf (is_text s l.target) l.sign s t l.target k × LeftsAre s t ls k
 
 -- one element of a `for` list for a variable of a kind
 abbrev pub ElementIs : Source → ℕ → Kind → Element → Type 0
@@ -237,6 +290,8 @@ is_given (Some h) = true
 abbrev pub CallIs : Source → ℕ → Expression → Type 0
 CallIs s t (syntax.Named name es) =
     (h : Option Holds) × NamedGives s (Some t) (denoted s name.token.0) es (AreIntegers s (Some t) es) (λ ks. AreOf s (Some t) es ks) (λ fs. ActualsFit s (Some t) es fs) h × (leaves s (syntax.Named name es) ≡ is_given h)
+CallIs s t (syntax.Dot token a name es) =
+    (h : Option Holds) × DotGives (denoted s name.token.0) (stream_of s a) (ExprIs s (Some t) a (Simply kind.Text)) (λ ks. AreOf s (Some t) es ks) h × (leaves s (syntax.Dot token a name es) ≡ is_given h)
 CallIs s t _ = ⊥
 
 -- a sub-block is the text around its first token, and stands in this one
@@ -249,9 +304,12 @@ pub record BlockIs (s : Source) (t token : ℕ) : Type 0 where
   pub statements : Statements
   pub is : text s number ≡ Some (BlockText begin declarations statements)
 
-abbrev pub IsValue : Assignment → Type 0
-IsValue assignment.Value = Unit {0}
-IsValue assignment.Reference = ⊥
+-- what a `for` list assigns to a variable of a kind
+abbrev pub ControlIs : (text : Bool) → Assignment → Kind → Type 0
+ControlIs true assignment.Value k = k ≡ kind.Text
+ControlIs true assignment.Reference k = Unit {0}
+ControlIs false assignment.Value k = Unit {0}
+ControlIs false assignment.Reference k = ⊥
 
 abbrev pub WholeBlock : Source → ℕ → (token : ℕ) → Declarations → (Inner : Type 0) → Type 0
 WholeBlock s t token NoDeclaration Inner = Inner
@@ -262,10 +320,10 @@ abbrev mutual
   StatementIs s t (syntax.Empty token) = Unit {0}
   StatementIs s t (syntax.Compound b) = CompoundIs s t b
   StatementIs s t (syntax.Call e) = CallIs s t e
-  StatementIs s t (syntax.Assign left rs) = (k : Kind) × (are_values rs ≡ true) × LeftsAre s t (left_sides left rs) k × ExprIs s (Some t) (right_side left rs) (Simply k)
+  StatementIs s t (syntax.Assign left rs) = (k : Kind) × LeftsAre s t (left_sides left rs) k × ExprIs s (Some t) (last_value left rs) (Simply k)
   StatementIs s t (syntax.Choose token c a b) = ExprIs s (Some t) c (Simply kind.Boolean) × StatementIs s t a × StatementsAre s t b
   StatementIs s t (syntax.Repeat token c a) = ExprIs s (Some t) c (Simply kind.Boolean) × StatementIs s t a
-  StatementIs s t (syntax.For token x sign assign es a) = (k : Kind) × IsValue sign × LeftIs s t (syntax.Named x NoMore) k × ElementsAre s t k es × StatementIs s t a
+  StatementIs s t (syntax.For token x sign assign es a) = (k : Kind) × ControlIs (is_text s (syntax.Named x NoMore)) sign k × LeftIs s t (syntax.Named x NoMore) k × ElementsAre s t k es × StatementIs s t a
   StatementIs s t _ = ⊥
 
   pub StatementsAre : Source → ℕ → Statements → Type 0

@@ -13,8 +13,8 @@ pub fn typed_programs_have_a_rule()
     ensures { (s : Source) → Typed s → (l : Limits) (input : List ℕ) (n : ℕ) (o : World) → run s l input n ≡ Ended o NoRule → ⊥ }
 {}
 
-/// There are typed programs: a `for` list, a procedure that calls itself, and a sub-block with arrays. So no part of what is asked of a
-/// program speaks against another.
+/// There are typed programs: a `for` list, a procedure that calls itself, a sub-block with arrays, texts, an array by value. So no part
+/// of what is asked of a program speaks against another.
 #[tactic(auto, using(crate::proofs::Examples::worked_programs))]
 pub fn worked_programs_are_typed()
     ensures { WorkedPrograms }

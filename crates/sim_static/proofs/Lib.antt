@@ -1,5 +1,6 @@
 pub mod AssignmentSteps
 pub mod Needed
+pub mod Notings
 pub mod LastRound
 pub mod Tellings
 pub mod Worked

@@ -4,6 +4,7 @@
 
 mod assignment;
 mod bounds;
+mod code_parameters;
 mod control;
 mod forms;
 mod judging;
@@ -11,5 +12,6 @@ pub mod laws;
 mod rounds;
 mod statement;
 
+pub use code_parameters::passes_code;
 pub use forms::needs_classes;
 pub use rounds::check;

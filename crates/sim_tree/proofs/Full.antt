@@ -27,6 +27,8 @@ fitting g.AfterDeclaration s = true
 fitting g.Heading s = true
 fitting g.AfterFirstOperand s = true
 fitting g.Statement s = solid true s
+fitting g.ForList (Kept any ∷ s) = solid false s
+fitting g.ForList s = false
 fitting _ s = solid false s
 
 rows_fit : (n : Part) → each_row (rows n) (fitting n) ≡ true
@@ -63,6 +65,14 @@ module _ {most : ℕ} {ws : List Token} where
   part_token g.Heading e r = refl
   part_token g.AfterFirstOperand e r = refl
   part_token g.Statement e r = placed e r
+  part_token g.ForList e (reads-kept h r) = token e r
+  part_token g.ForList e reads-done = absurd (false≢true e)
+  part_token g.ForList e (reads-mark h r) = absurd (false≢true e)
+  part_token g.ForList e (reads-any h r) = absurd (false≢true e)
+  part_token g.ForList e (reads-none h r) = absurd (false≢true e)
+  part_token g.ForList e (reads-here r) = absurd (false≢true e)
+  part_token g.ForList e (reads-part b sh r q) = absurd (false≢true e)
+  part_token g.ForList e (reads-skip b may r) = absurd (false≢true e)
   part_token _ e r = token e r
 
 right_fits : (n : Part) (ws : List Token) (i : ℕ) (right : List Symbol) → right_side n (terminal_at ws i) ≡ Some right → fitting n right ≡ true

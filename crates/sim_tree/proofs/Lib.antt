@@ -17,12 +17,15 @@ pub mod ProgramSyntaxLemmas
 pub mod SyntaxLemmas
 pub mod FirstTokens
 mod ReadBack
-mod ReadExpressions
-mod ReadStatements
+pub mod ReadExpressions
+pub mod ReadStatements
 mod ReadPrograms
 mod NamedExpressions
 mod NamedPrograms
 mod NamingTokens
 mod Ends
 mod OwnNames
-mod Induction
+pub mod Induction
+mod Spots
+pub mod Order
+pub mod Filled

@@ -143,7 +143,7 @@ abbrev FactorClaim : Factor → Type 0
 FactorClaim x = StepClaim (factor_shown x) (factor_syntax x)
 
 abbrev selection_named : Selection → List ℕ → List ℕ
-selection_named (Take i name es) l = i ∷ all_named es l
+selection_named (Take i name es) l = i ∷ name.token.0 ∷ all_named es l
 selection_named (Cast i class) l = i ∷ l
 
 abbrev selections_named : List Selection → List ℕ → List ℕ
@@ -349,7 +349,7 @@ SelectorLayer x =
 
 selector_step : (y : Selector-F ExprPair SelectorPair FactorPair OperandPair TermPair)
     → SelectorLayer (map-Selector ExprPair SelectorPair FactorPair OperandPair TermPair Expr Selector Factor Operand Term first_expr first_selector first_factor first_operand first_term y)
-selector_step (Selector-F.Dot i x v) full = keep (skip (actuals v.items full))
+selector_step (Selector-F.Dot i x v) full = keep (keep (actuals v.items full))
 selector_step (Selector-F.Qua i x) full = keep (skip none)
 
 selector_layer : (x : Selector-F Expr Selector Factor Operand Term) → SelectorLayer x → SelectorClaim (roll-Selector x)

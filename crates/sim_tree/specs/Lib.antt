@@ -13,3 +13,5 @@ pub mod SyntaxOfProgram
 pub mod Named
 pub mod SyntaxExamples
 pub mod Ends
+pub mod Order
+pub mod Filled

@@ -1,4 +1,4 @@
--- The tokens that name the expressions of a program, in the order of the text, each in front of those behind it.
+-- The tokens that name the expressions of a program, and the attributes behind dots, in the order of the text, each in front of those behind it.
 use Rattle.std.specs.Prelude.{◌<◌, ℕ, List, [], ◌∷◌, Option, Some, None}
 use Rattle.std.specs.List.{AllByRecursion}
 use Rattle.sim_tree.specs.Syntax as s
@@ -12,7 +12,7 @@ abbrev mutual
   named (s.Not i a) l = i ∷ named a l
   named (s.Signed sign i a) l = i ∷ named a l
   named (s.Member m i a class) l = named a (i ∷ l)
-  named (s.Dot i a name es) l = named a (i ∷ all_named es l)
+  named (s.Dot i a name es) l = named a (i ∷ name.token.0 ∷ all_named es l)
   named (s.Qua i a class) l = named a (i ∷ l)
   named (s.Constant literal i) l = i ∷ l
   named (s.Named name es) l = name.token.0 ∷ all_named es l

@@ -14,13 +14,15 @@ use Rattle.sim_tree.specs.Tree.{is_bare, deepest}
 abbrev pub capped : ℕ → ℕ
 capped n = min n 4294967295
 
--- A part has a token, unless the grammar has it without one. A statement has at least its place.
+-- A part has a token, unless the grammar has it without one. A statement has at least its place, and a `for` list an element behind its sign.
 abbrev pub has_token : Part → Forest → Bool
 has_token g.AfterDeclaration f = true
 has_token g.Heading f = true
 has_token g.AfterFirstOperand f = true
 has_token g.Statement done = false
 has_token g.Statement f = true
+has_token g.ForList (leaf i kind f) = not (is_bare f)
+has_token g.ForList f = false
 has_token _ f = not (is_bare f)
 
 -- no part of a derivation lacks its token

@@ -1,15 +1,17 @@
 //! Laws of the grammar, which hold of every token list. Each is a function that does nothing; its clause is the law.
 
 ghost use Rattle.std.specs.List.{Contains};
-ghost use Rattle.std.specs.Prelude.{List, [], ◌∷◌, ℕ, ◌≡◌, ◌≤◌, ◌<◌, ◌+◌};
+ghost use Rattle.std.specs.Prelude.{List, [], ◌∷◌, length, ℕ, ◌≡◌, ◌≤◌, ◌<◌, ◌+◌};
 ghost use Rattle.sim_base.specs.declared.token.TokenKind.TheVariants as k;
 ghost use Rattle.sim_base.specs.declared.token.Token.{Token};
 ghost use Rattle.sim_tree.specs.declared.program.Program.{Program as Tree};
 ghost use Rattle.sim_tree.specs.Grammar.{Part, Symbol};
 ghost use Rattle.sim_tree.specs.Grammar as g;
+ghost use Rattle.sim_tree.specs.Filled.{Filled};
 ghost use Rattle.sim_tree.specs.Ends.{EndsBehind};
 ghost use Rattle.sim_tree.specs.Examples.{IsProgram, IsBadAt, IsDeepAt, x, y, operand, call, block, end};
 ghost use Rattle.sim_tree.specs.Named.{named, named_tokens, IsAscending};
+ghost use Rattle.sim_tree.specs.Order.{AllBelow, InOrder, in_block};
 ghost use Rattle.sim_tree.specs.Reading.{done, leaf, node, place, Fails, Fault, Forest, Reads, TooDeep, Unexpected};
 ghost use Rattle.sim_tree.specs.Claim.{Begins, IsFirstBad, SameBelow, one};
 ghost use Rattle.sim_tree.specs.Shown.{expression};
@@ -26,11 +28,23 @@ pub fn one_tree()
     ensures derivation { (ws : List Token) (p q : Tree) → IsTree ws p → IsTree ws q → (program_shown p ≡ program_shown q) × (p.lines.items ≡ q.lines.items) }
 {}
 
-/// The tokens that name the expressions of a program ascend in the order of its text. So each expression has a token of its
-/// own: the operator's, the sign's, the word's, the dot's, the constant's, the identifier's or the parenthesis's.
+/// The tokens that name the expressions of a program, and the attributes behind dots, ascend in the order of its text. So each expression has
+/// a token of its own: the operator's, the sign's, the word's, the dot's, the constant's, the identifier's or the parenthesis's.
 pub fn naming_tokens()
     ensures own { (e : Expression) (l : List ℕ) → Contains (named e l) (naming e) }
     ensures ascend { (ws : List Token) (p : Tree) → IsTree ws p → IsAscending (named_tokens (program_syntax p)) }
+{}
+
+/// The identifiers that a program declares, the tokens that name its expressions, and the places where its blocks begin and end stand in the
+/// order of its text, and none is past its last token.
+pub fn token_order()
+    ensures order { (ws : List Token) (p : Tree) → IsTree ws p → InOrder (program_syntax p) }
+    ensures within { (ws : List Token) (p : Tree) → IsTree ws p → AllBelow (length ws) (in_block (program_syntax p).block []) }
+{}
+
+/// Each assignment of a program has a right side, each `for` list an element.
+pub fn filled()
+    ensures { (ws : List Token) (p : Tree) → IsTree ws p → Filled (program_syntax p) }
 {}
 
 /// Each block of a program ends behind its `begin`, each procedure and class behind the word that declares it, each connection

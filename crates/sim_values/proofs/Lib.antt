@@ -1,3 +1,4 @@
+pub mod Joins
 pub mod Powers
 pub mod Products
 pub mod Remainders

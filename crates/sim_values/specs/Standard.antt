@@ -1,6 +1,6 @@
 -- The standard names: one table with the spelling of each, where it is found, the types of its parameters and of its result,
 -- and what it does.
-use Rattle.std.specs.Prelude.{ℕ, ℤ, pos, nat_le, ◌≡◌, List, [], ◌∷◌, ◌++◌, map, Option, Some, None, Ok, codes}
+use Rattle.std.specs.Prelude.{ℕ, ℤ, pos, Bool, true, false, nat_le, ◌≡◌, List, [], ◌∷◌, ◌++◌, map, Option, Some, None, Ok, codes}
 use Rattle.sim_values.specs.declared.value.TextVal.{TextVal}
 use Rattle.sim_values.specs.declared.kind.Kind.{Kind}
 use Rattle.sim_values.specs.declared.kind.Kind.TheVariants as kind
@@ -164,6 +164,20 @@ row_of name.Cancel = row (codes "cancel") owner.Simulation (of.Process ∷ []) N
 -- what a standard name does with its operands, the last one first
 unfoldable pub standard_effect : Standard → List Plain → Store → Option Effect
 standard_effect name vs s = applied (row_of name).function vs s
+
+-- whether a name is that of an image itself
+abbrev pub is_image : Standard → Bool
+is_image name.Image = true
+is_image _ = false
+
+-- whether a text name moves the position of its text
+abbrev pub moves_position : Standard → Bool
+moves_position name.TextSetpos = true
+moves_position name.TextGetchar = true
+moves_position name.TextPutchar = true
+moves_position name.TextGetint = true
+moves_position name.TextPutint = true
+moves_position _ = false
 
 -- the text name that does on an image what a name of both images does
 abbrev pub on_image : Standard → Option Standard

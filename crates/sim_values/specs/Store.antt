@@ -4,7 +4,7 @@ use Rattle.std.specs.Prelude.{ℕ, zero, suc, ◌+◌, Bool, true, false, List, 
 use Rattle.sim_base.specs.declared.run_error.RunError.{RunError}
 use Rattle.sim_values.specs.declared.value.TextVal.{TextVal}
 use Rattle.sim_values.specs.Plain.{Plain, Text}
-use Rattle.sim_values.specs.Texts.{Frame, Making, TextStep}
+use Rattle.sim_values.specs.Texts.{Frame, Making, TextStep, at_position}
 use Rattle.sim_values.specs.Images.{InputState, InputStep, OutputState, TextReading, last_image}
 
 pub record Store : Type 0 where
@@ -38,8 +38,8 @@ image_at s (suc zero) = Some s.sysout
 image_at s (suc (suc n)) = None
 
 abbrev pub with_image : Store → ℕ → TextVal → Store
-with_image s zero t = record s { sysin = t }
-with_image s (suc zero) t = record s { sysout = t }
+with_image s zero t = record s { sysin = at_position s.sysin t.pos }
+with_image s (suc zero) t = record s { sysout = at_position s.sysout t.pos }
 with_image s (suc (suc n)) t = s
 
 -- The store with which a run begins: the text constants of the program, each a frame of its own in their order, and then the two

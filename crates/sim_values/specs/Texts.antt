@@ -8,7 +8,7 @@ use Rattle.std.specs.Char.{is_ascii_digit, to_ascii_uppercase, to_ascii_lowercas
 use Rattle.std.specs.Fmt.{signed_decimal}
 use Rattle.std.specs.Str.Parse.{digits_value}
 use Rattle.sim_base.specs.declared.run_error.RunError.{RunError}
-use Rattle.sim_base.specs.declared.run_error.RunError.TheVariants.{SubtextOutOfRange, TextTooLong, TextIsConstant, GetcharPastEnd, PutcharPastEnd, NoIntegerItem, PutintOnNotext, NegativeLength, IntegerItemTooLarge}
+use Rattle.sim_base.specs.declared.run_error.RunError.TheVariants.{IntegerOverflow, SubtextOutOfRange, TextTooLong, TextIsConstant, GetcharPastEnd, PutcharPastEnd, NoIntegerItem, PutintOnNotext, NegativeLength, IntegerItemTooLarge}
 use Rattle.sim_values.specs.declared.value.TextVal.{TextVal}
 use Rattle.sim_values.specs.Arithmetic.{is_integer}
 use Rattle.sim_values.specs.Words.{text_words}
@@ -126,7 +126,7 @@ abbrev pub blanks : List Frame → ℤ → Making
 blanks frames (pos n) = making frames (replicate n 32)
 blanks frames (negsuc n) = record { wanted = 0; frames = frames; answer = Err NegativeLength }
 
--- `copy(t)` and `a & b`
+-- `copy(t)`, and the text of the characters of two
 abbrev pub copy : List Frame → TextVal → Making
 copy frames t = making frames (characters frames t)
 
@@ -181,6 +181,22 @@ strip frames t = part t 1 (content_length (characters frames t))
 -- `t.main`: the whole frame
 abbrev pub main_text : List Frame → TextVal → TextVal
 main_text frames t = if t.length == 0 then notext else record { text_frame = t.text_frame; start = 1; length = length (frame_at frames t.text_frame).bytes; pos = 1 }
+
+-- ---- `&`
+
+-- the frames with a text assigned to a new one, and another to the part behind it
+abbrev pub both_assigned : List Frame → TextVal → (a b : TextVal) → List Frame
+both_assigned frames t a b = assigned (assigned frames t a) (part t (a.length + 1) b.length) b
+
+abbrev pub with_both : Making → Result TextVal RunError → (a b : TextVal) → Making
+with_both m (Ok t) a b = record m { frames = both_assigned m.frames t a b }
+with_both m (Err e) a b = m
+
+-- `a & b`: a new text of both lengths, to which a is assigned, and b to the part behind a. E1 where no integer is the place behind it
+abbrev pub concatenated : List Frame → (a b : TextVal) → Making
+concatenated frames a b =
+    let new = blanks frames (pos (a.length + b.length)) in
+    if is_integer (pos (a.length + 1 + b.length)) then with_both new new.answer a b else record { wanted = 0; frames = frames; answer = Err IntegerOverflow }
 
 -- ---- positions and single characters
 

@@ -1,7 +1,10 @@
 //! Worked rows and laws of the definitions. Each is a function that does nothing; its clauses are the rows.
-ghost use Rattle.std.specs.Prelude.{◌≡◌};
+ghost use Rattle.std.specs.Prelude.{◌≡◌, ◌+◌, List, pos, true};
 ghost use Rattle.sim_values.specs.Examples.{WorkedCalls, WorkedImages, WorkedNumbers, WorkedOperators, WorkedSteps, WorkedStores, WorkedTexts};
+ghost use Rattle.sim_values.specs.Arithmetic.{is_integer};
 ghost use Rattle.sim_values.specs.Plain.{initial, kind_of};
+ghost use Rattle.sim_values.specs.Texts.{Frame, IsText, concatenated, join};
+ghost use Rattle.sim_values.specs.declared.value.TextVal.{TextVal as AnyText};
 ghost use Rattle.sim_values.specs.declared.kind.Kind.{Kind as AnyKind};
 
 /// Each operator gives what the language says of operands of its kinds, with its errors, and has no answer for others; so does the
@@ -32,4 +35,10 @@ pub fn worked_stores()
 /// A variable begins with a value of its kind.
 pub fn first_values()
     ensures kind { (k : AnyKind) → kind_of (initial k) ≡ k }
+{}
+
+/// `&` makes a new text that has the characters of both, with its words, where an integer is the place behind them.
+#[tactic(auto, using(crate::proofs::Joins::joins))]
+pub fn joined_texts()
+    ensures { (frames : List Frame) (a b : AnyText) → IsText frames a → IsText frames b → is_integer (pos (a.length + 1 + b.length)) ≡ true → concatenated frames a b ≡ join frames a b }
 {}

@@ -1,3 +1,11 @@
 pub mod Slots
-pub mod Pure
-pub mod Outputs
+pub mod Operands
+pub mod Readers
+pub mod Settling
+pub mod Gives
+pub mod Effects
+pub mod Making
+pub mod OutputSteps
+pub mod InputSteps
+pub mod Images
+pub mod Counts

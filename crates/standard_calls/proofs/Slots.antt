@@ -39,6 +39,16 @@ two_at depth stack h h2 =
     ∙ ap (λ n. value_of (slot_at stack n) ∷ value_of (slot_at stack (depth - 1 - 1)) ∷ values_of (depth - 1 - 1) stack) e
     ∙ ap (λ n. value_of (slot_at stack (depth - 2 + 1)) ∷ value_of (slot_at stack n) ∷ values_of n stack) e2
 
+pub three_at : (depth : ℕ) (stack : List Slot) → 3 ≤ depth → depth ≤ length stack →
+    values_of depth stack ≡ value_of (slot_at stack (depth - 3 + 2)) ∷ value_of (slot_at stack (depth - 3 + 1)) ∷ value_of (slot_at stack (depth - 3)) ∷ values_of (depth - 3) stack
+three_at depth stack h h2 =
+    let e : depth - 1 ≡ depth - 3 + 2 = omega (arith, h) in
+    let e2 : depth - 1 - 2 ≡ depth - 3 = omega (arith, h) in
+    top_of depth stack (omega (arith, h)) h2
+    ∙ ap (λ l. value_of (slot_at stack (depth - 1)) ∷ l) (two_at (depth - 1) stack (omega (arith, h)) (omega (arith, h2)))
+    ∙ ap (λ n. value_of (slot_at stack n) ∷ value_of (slot_at stack (depth - 1 - 2 + 1)) ∷ value_of (slot_at stack (depth - 1 - 2)) ∷ values_of (depth - 1 - 2) stack) e
+    ∙ ap (λ n. value_of (slot_at stack (depth - 3 + 2)) ∷ value_of (slot_at stack (n + 1)) ∷ value_of (slot_at stack n) ∷ values_of n stack) e2
+
 pub counted : (depth : ℕ) (stack : List Slot) → depth ≤ length stack → length (values_of depth stack) ≡ depth
 counted depth stack h = length-map (reverse (take depth stack)) value_of ∙ length-reverse (take depth stack) ∙ length-take-le depth stack h
 
@@ -51,7 +61,7 @@ truth_type false = ⊥
 pub off : false ≡ true → ⊥
 off e = subst truth_type (sym e) tt
 
-same_or_not : (a b : ℕ) → (a ≡ b) ⊎ (a ≡ b → ⊥)
+pub same_or_not : (a b : ℕ) → (a ≡ b) ⊎ (a ≡ b → ⊥)
 same_or_not zero zero = inl refl
 same_or_not zero (suc b) = inr (λ e. omega (arith, e))
 same_or_not (suc a) zero = inr (λ e. omega (arith, e))

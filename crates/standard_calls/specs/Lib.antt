@@ -1,2 +1,2 @@
 pub mod Performed
-pub mod Functions
+pub mod Calls

@@ -1,8 +1,15 @@
-//! The standard names on the stack of the running machine, with its texts and its output.
+//! The standard names on the stack of the running machine, with its texts, its input and its output.
 #![tactic(auto)]
 
+mod calls;
+mod came;
 mod functions;
+mod input;
 mod names;
 mod output;
+mod performing;
+mod reading;
+mod texts;
 
+pub use calls::operand_count;
 pub use names::{Performed, perform};

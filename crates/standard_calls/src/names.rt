@@ -1,5 +1,6 @@
 //! A standard name.
-ghost use Rattle.std.specs.Prelude.{◌≡◌, ◌≤◌, List, length, true};
+ghost use Rattle.std.specs.Prelude.{◌≡◌, ◌≤◌, ℕ, List, [], Some, length, true};
+ghost use Rattle.std.specs.Io.KnownBytes.{Appends};
 ghost use Rattle.sim_values.specs.Texts.{KeepsTexts, at_position};
 ghost use Rattle.sim_code.specs.Machine.{Frames};
 ghost use Rattle.sim_code.specs.Outcome.{ArrayOf};
@@ -8,17 +9,17 @@ ghost use Rattle.basic_io.specs.Image.{IsImage};
 ghost use Rattle.frame_arena.specs.Arrays.{AllLeadArrays, RegionOf};
 ghost use Rattle.frame_arena.specs.declared.frames.Frame.{Frame};
 ghost use Rattle.frame_arena.specs.Frames.{AllLead};
-ghost use Rattle.standard_calls.specs.Performed.{IfDepth, PerformedAs, PerformedStops, held, output};
+ghost use Rattle.standard_calls.specs.Performed.{IfDepth, IfMoved, PerformedAs, PerformedFaults, PerformedStops, held, parts};
 
-use crate::functions::{
-    Constant, OfCharacter, OfInteger, OfIntegers, on_character, on_integer, on_integers, on_nothing,
-};
-use crate::output::{on_outchar, on_outimage, on_outint};
-use basic_io::OutImage;
+use crate::calls::operand_places;
+use crate::came::settle;
+use crate::performing::come;
+use crate::reading::read;
+use basic_io::{InImage, OutImage};
 use frame_arena::Slot;
 use sim_base::RunError;
-use sim_ports::Sink;
-use sim_values::Standard;
+use sim_ports::{Sink, Source};
+use sim_values::{Standard, TextVal};
 use text_objects::Texts;
 
 /// What became of a standard name.
@@ -26,55 +27,70 @@ use text_objects::Texts;
 pub enum Performed {
     /// It is done; this is how many values there are then, its own on top, if it has one.
     Depth(usize),
+    /// It is done, and has moved its text.
+    Moved {
+        /// How many values there are then.
+        depth: usize,
+        /// The text with its position.
+        text: TextVal,
+    },
     /// There are too few values, or they are of other kinds, or there is no room for its value.
     NoRule,
-    /// The run-time error, and nothing was done.
+    /// The run-time error.
     Fault(RunError),
+    /// The words of a new text are not left, and nothing was done.
+    Full {
+        /// The words.
+        wanted: u64,
+    },
+    /// Want of memory.
+    Memory,
     /// The output has failed.
     WriteFault,
+    /// The input has failed.
+    InputFault,
 }
 
 /// Performs a standard name that runs: it takes its operands from the stack, does what it does, and puts its value there, if it has
-/// one.
-pub fn perform<O: Sink>(
+/// one. `budget` is the storage budget, and `words` counts those in use. A value that is no text of `texts` is answered by `Memory`, and
+/// so is a budget above 50,000,000 words where a text is made.
+pub fn perform<I: Source, O: Sink>(
     name: Standard,
     stack: &mut [Slot],
     depth: usize,
+    budget: u64,
+    words: &mut u64,
     texts: &mut Texts,
+    sysin: &mut InImage,
     image: &mut OutImage,
+    input: &mut I,
     out: &mut O,
 ) -> Performed
     requires runs { name_runs name ≡ true }
     requires fits { depth ≤ length stack.old }
     requires image { IsImage texts.old image.old }
-    ensures row { PerformedAs result name (held depth stack.old) stack.new (output texts.old image.old (O.written out.old)) (output texts.new image.new (O.written out.new)) (O.faults out.old) (O.faults out.new) }
+    requires sysin { IsImage texts.old sysin.old.image }
+    ensures row { (s : List ℕ) → I.left input.old ≡ Some s → (s2 : List ℕ) × (I.left input.new ≡ Some s2)
+        × PerformedAs result budget name (held depth stack.old) stack.new (parts texts.old sysin.old s image.old (O.written out.old) words.old) (parts texts.new sysin.new s2 image.new (O.written out.new) words.new) }
+    ensures faults { PerformedFaults result (O.faults out.old) (O.faults out.new) (I.faults input.old) (I.faults input.new) }
+    ensures stops { PerformedStops O.written O.faults out.old out.new result }
+    ensures still { IfMoved result (Appends (O.written out.old) (O.written out.new) []) }
     ensures within { IfDepth result (λ n. n ≤ length stack.new) }
     ensures long { length stack.new ≡ length stack.old }
     ensures valid { IsImage texts.new image.new }
-    ensures stops { PerformedStops O.written O.faults out.old out.new result }
-    ensures keeps { KeepsTexts texts.old texts.new }
+    ensures valid_in { IsImage texts.new sysin.new.image }
     ensures same { image.new ≡ at_position image.old image.new.pos }
+    ensures same_in { sysin.new.image ≡ at_position sysin.old.image sysin.new.image.pos }
+    ensures keeps { KeepsTexts texts.old texts.new }
     ensures leads { (frames : List Frame) (m : Frames) → AllLead frames m stack.old → AllLead frames m stack.new }
     ensures leads_arrays { (regions : List RegionOf) (arrays : List ArrayOf) → AllLeadArrays regions arrays stack.old → AllLeadArrays regions arrays stack.new }
 {
-    match name {
-        Standard::Abs => on_integer(stack, depth, OfInteger::Abs),
-        Standard::Sign => on_integer(stack, depth, OfInteger::Sign),
-        Standard::Char => on_integer(stack, depth, OfInteger::Char),
-        Standard::Isochar => on_integer(stack, depth, OfInteger::Isochar),
-        Standard::Min => on_integers(stack, depth, OfIntegers::Min),
-        Standard::Max => on_integers(stack, depth, OfIntegers::Max),
-        Standard::Mod => on_integers(stack, depth, OfIntegers::Mod),
-        Standard::Rem => on_integers(stack, depth, OfIntegers::Rem),
-        Standard::Rank => on_character(stack, depth, OfCharacter::Rank),
-        Standard::Isorank => on_character(stack, depth, OfCharacter::Isorank),
-        Standard::Digit => on_character(stack, depth, OfCharacter::Digit),
-        Standard::Letter => on_character(stack, depth, OfCharacter::Letter),
-        Standard::Maxint => on_nothing(stack, depth, Constant::Maxint),
-        Standard::Minint => on_nothing(stack, depth, Constant::Minint),
-        Standard::Outimage => on_outimage(stack, depth, texts, image, out),
-        Standard::Outchar => on_outchar(stack, depth, texts, image, out),
-        Standard::Outint => on_outint(stack, depth, texts, image, out),
-        _ => Performed::NoRule,
+    match read(name, stack, depth, texts) {
+        Ok(call) => {
+            let at = depth.saturating_sub(operand_places(call));
+            let came = come(call, budget, words, texts, sysin, image, input, out);
+            settle(stack, at, came)
+        }
+        Err(missing) => missing.performed(),
     }
 }

@@ -1,100 +1,100 @@
-//! The output of lines, characters and integers.
-ghost use Rattle.std.specs.Prelude.{◌≡◌, ◌≤◌, length};
-ghost use Rattle.sim_values.specs.declared.standard.Standard.{Standard};
-ghost use Rattle.sim_values.specs.Texts.{KeepsTexts, at_position};
+//! Names of the output.
+ghost use Rattle.std.specs.Prelude.{◌≡◌, ◌∷◌, [], ℕ, List};
+ghost use Rattle.sim_values.specs.declared.standard.Standard.TheVariants as name;
+ghost use Rattle.sim_values.specs.Plain.{Character, Integer, Text};
+ghost use Rattle.sim_values.specs.Texts.{IsText, KeepsTexts, at_position};
 ghost use Rattle.basic_io.specs.Image.{IsImage};
-ghost use Rattle.standard_calls.specs.Performed.{IfDepth, PerformedAs, PerformedStops, held, output, shown};
+ghost use Rattle.basic_io.specs.Input.{HeldInput};
+ghost use Rattle.standard_calls.specs.Calls.{CameAs, CameSink, CameStops, IfCameMoved, IsScalarCame, KeepsImages, NoValue};
+ghost use Rattle.standard_calls.specs.Performed.{parts};
 
-use crate::names::Performed;
-use basic_io::{IoFault, OutImage};
-use frame_arena::Slot;
+use crate::came::{Came, done};
+use crate::input::refused;
+use basic_io::OutImage;
 use sim_ports::Sink;
+use sim_values::TextVal;
 use text_objects::Texts;
 
-// What became of a call on the output, after which there are so many values.
-fn ended(outcome: Result<(), IoFault>, depth: usize) -> Performed
-    ensures { result ≡ shown depth outcome }
-{
-    match outcome {
-        Ok(()) => Performed::Depth(depth),
-        Err(IoFault::Run(error)) => Performed::Fault(error),
-        Err(IoFault::WriteFault) => Performed::WriteFault,
-        Err(IoFault::InputFault) => Performed::NoRule,
-    }
-}
-
 /// `outimage`.
-pub fn on_outimage<O: Sink>(
-    stack: &[Slot],
-    depth: usize,
-    texts: &mut Texts,
-    image: &mut OutImage,
-    out: &mut O,
-) -> Performed
-    requires fits { depth ≤ length stack.now }
+pub fn outimage<O: Sink>(texts: &mut Texts, image: &mut OutImage, out: &mut O) -> Came
     requires image { IsImage texts.old image.old }
-    ensures row { PerformedAs result Standard.Outimage (held depth stack.now) stack.now (output texts.old image.old (O.written out.old)) (output texts.new image.new (O.written out.new)) (O.faults out.old) (O.faults out.new) }
-    ensures within { IfDepth result (λ n. n ≤ length stack.now) }
+    ensures came { (budget words : ℕ) (input : HeldInput) (source : List ℕ) → CameAs result budget name.Outimage [] (parts texts.old input source image.old (O.written out.old) words) (parts texts.new input source image.new (O.written out.new) words) }
+    ensures scalar { IsScalarCame result }
+    ensures value { NoValue result }
+    ensures faults { CameSink result (O.faults out.old) (O.faults out.new) }
+    ensures stops { CameStops O.written O.faults out.old out.new result }
+    ensures still { IfCameMoved result (O.written out.new ≡ O.written out.old) }
     ensures valid { IsImage texts.new image.new }
-    ensures stops { PerformedStops O.written O.faults out.old out.new result }
-    ensures keeps { KeepsTexts texts.old texts.new }
     ensures same { image.new ≡ at_position image.old image.new.pos }
+    ensures keeps { KeepsTexts texts.old texts.new }
+    ensures images { KeepsImages texts.old texts.new }
 {
-    ended(image.outimage(texts, out), depth)
+    match image.outimage(texts, out) {
+        Ok(()) => done(),
+        Err(fault) => refused(fault),
+    }
 }
 
-/// `outchar` of the character on top.
-pub fn on_outchar<O: Sink>(
-    stack: &[Slot],
-    depth: usize,
-    texts: &mut Texts,
-    image: &mut OutImage,
-    out: &mut O,
-) -> Performed
-    requires fits { depth ≤ length stack.now }
+/// `outchar`.
+pub fn outchar<O: Sink>(c: u8, texts: &mut Texts, image: &mut OutImage, out: &mut O) -> Came
     requires image { IsImage texts.old image.old }
-    ensures row { PerformedAs result Standard.Outchar (held depth stack.now) stack.now (output texts.old image.old (O.written out.old)) (output texts.new image.new (O.written out.new)) (O.faults out.old) (O.faults out.new) }
-    ensures within { IfDepth result (λ n. n ≤ length stack.now) }
+    ensures came { (budget words : ℕ) (input : HeldInput) (source : List ℕ) → CameAs result budget name.Outchar (Character c ∷ []) (parts texts.old input source image.old (O.written out.old) words) (parts texts.new input source image.new (O.written out.new) words) }
+    ensures scalar { IsScalarCame result }
+    ensures faults { CameSink result (O.faults out.old) (O.faults out.new) }
+    ensures stops { CameStops O.written O.faults out.old out.new result }
+    ensures still { IfCameMoved result (O.written out.new ≡ O.written out.old) }
     ensures valid { IsImage texts.new image.new }
-    ensures stops { PerformedStops O.written O.faults out.old out.new result }
-    ensures keeps { KeepsTexts texts.old texts.new }
     ensures same { image.new ≡ at_position image.old image.new.pos }
+    ensures keeps { KeepsTexts texts.old texts.new }
+    ensures images { KeepsImages texts.old texts.new }
 {
-    if depth < 1 {
-        return Performed::NoRule;
+    match image.outchar(texts, out, c) {
+        Ok(()) => done(),
+        Err(fault) => refused(fault),
     }
-    let Some(c) = stack[depth - 1].as_character() else {
-        return Performed::NoRule;
-    };
-    ended(image.outchar(texts, out, c), depth - 1)
 }
 
-/// `outint` of the integer and the width on top.
-pub fn on_outint<O: Sink>(
-    stack: &[Slot],
-    depth: usize,
+/// `outtext`.
+pub fn outtext<O: Sink>(text: TextVal, texts: &mut Texts, image: &mut OutImage, out: &mut O) -> Came
+    requires image { IsImage texts.old image.old }
+    requires text { IsText texts.old text }
+    ensures came { (budget words : ℕ) (input : HeldInput) (source : List ℕ) → CameAs result budget name.Outtext (Text text ∷ []) (parts texts.old input source image.old (O.written out.old) words) (parts texts.new input source image.new (O.written out.new) words) }
+    ensures scalar { IsScalarCame result }
+    ensures faults { CameSink result (O.faults out.old) (O.faults out.new) }
+    ensures stops { CameStops O.written O.faults out.old out.new result }
+    ensures still { IfCameMoved result (O.written out.new ≡ O.written out.old) }
+    ensures valid { IsImage texts.new image.new }
+    ensures same { image.new ≡ at_position image.old image.new.pos }
+    ensures keeps { KeepsTexts texts.old texts.new }
+    ensures images { KeepsImages texts.old texts.new }
+{
+    match image.outtext(texts, out, text) {
+        Ok(()) => done(),
+        Err(fault) => refused(fault),
+    }
+}
+
+/// `outint`.
+pub fn outint<O: Sink>(
+    i: i64,
+    width: i64,
     texts: &mut Texts,
     image: &mut OutImage,
     out: &mut O,
-) -> Performed
-    requires fits { depth ≤ length stack.now }
+) -> Came
     requires image { IsImage texts.old image.old }
-    ensures row { PerformedAs result Standard.Outint (held depth stack.now) stack.now (output texts.old image.old (O.written out.old)) (output texts.new image.new (O.written out.new)) (O.faults out.old) (O.faults out.new) }
-    ensures within { IfDepth result (λ n. n ≤ length stack.now) }
+    ensures came { (budget words : ℕ) (input : HeldInput) (source : List ℕ) → CameAs result budget name.Outint (Integer width ∷ Integer i ∷ []) (parts texts.old input source image.old (O.written out.old) words) (parts texts.new input source image.new (O.written out.new) words) }
+    ensures scalar { IsScalarCame result }
+    ensures faults { CameSink result (O.faults out.old) (O.faults out.new) }
+    ensures stops { CameStops O.written O.faults out.old out.new result }
+    ensures still { IfCameMoved result (O.written out.new ≡ O.written out.old) }
     ensures valid { IsImage texts.new image.new }
-    ensures stops { PerformedStops O.written O.faults out.old out.new result }
-    ensures keeps { KeepsTexts texts.old texts.new }
     ensures same { image.new ≡ at_position image.old image.new.pos }
+    ensures keeps { KeepsTexts texts.old texts.new }
+    ensures images { KeepsImages texts.old texts.new }
 {
-    if depth < 2 {
-        return Performed::NoRule;
+    match image.outint(texts, out, i, width) {
+        Ok(()) => done(),
+        Err(fault) => refused(fault),
     }
-    let at = depth - 2;
-    let Some(width) = stack[at + 1].as_integer() else {
-        return Performed::NoRule;
-    };
-    let Some(i) = stack[at].as_integer() else {
-        return Performed::NoRule;
-    };
-    ended(image.outint(texts, out, i, width), at)
 }

@@ -59,6 +59,28 @@ impl Texts {
         &self.frames[t.text_frame as usize]
     }
 
+    /// Whether it is a text of these frames: its characters are in a frame that was made, and its position is at one of them or
+    /// behind the last one.
+    pub fn is_text(&self, t: TextVal) -> bool
+        ensures text { IsTrue result ↔ IsText self.now t }
+    {
+        if t.start < 1 || t.pos < 1 || u64::from(t.pos) > u64::from(t.length) + 1 {
+            return false;
+        }
+        let end = u64::from(t.start) + u64::from(t.length);
+        end <= 1 || self.holds(t.text_frame, end)
+    }
+
+    /// Whether there is a frame of this number, which has characters up to this place.
+    fn holds(&self, text_frame: u32, end: u64) -> bool
+        ensures { IsTrue result ↔ ((text_frame < length self.now) × (end ≤ length (frame_at self.now text_frame).bytes + 1)) }
+    {
+        match self.frames.get(text_frame as usize) {
+            Some(frame) => end <= u64::from(frame.len()) + 1,
+            None => false,
+        }
+    }
+
     /// The characters of a text.
     pub fn characters(&self, t: TextVal) -> &[u8]
         requires { IsText self.now t }

@@ -7,16 +7,17 @@ use Rattle.sim_scope.specs.declared.bound.Bound.{Bound}
 use Rattle.sim_scope.specs.declared.scopes.Declaration.{Declaration as Row}
 use Rattle.sim_scope.specs.declared.types.Formal.{Formal}
 use Rattle.sim_scope.specs.Scopes.{formals_in}
-use Rattle.sim_scope.specs.Source.{Source, source_of}
+use Rattle.sim_scope.specs.Source.{source_of}
 use Rattle.sim_scope.specs.Tables.{BlockOf}
 use Rattle.sim_meaning.specs.Closing.{formals_from}
 use Rattle.codegen_expr.specs.declared.cells.Cells.{Cells}
 use Rattle.codegen_expr.specs.CodeExpr.{block_number, blocks_before}
-use Rattle.codegen_expr.specs.Known.{Known, KnownOf, formals_or_none, number_or}
+use Rattle.codegen_expr.specs.Known.{Known, formals_or_none, number_or}
 use Rattle.program_texts.specs.declared.tree.TextTree.{TextTree}
 use Rattle.program_texts.specs.TextTrees.{AreTexts}
 use Rattle.text_tables.specs.Constants.{ConstantsOf}
-use Rattle.text_tables.specs.Making.{FilledTo, Formals, Numbers, PlacedTo, formals_of, is_result, items_of, number_behind, numbers_from}
+use Rattle.text_tables.specs.Making.{FilledTo, Formals, Numbers, PlacedTo, formals_of, is_result, items_of, number_behind}
+use Rattle.text_tables.specs.TokenTable.{AreNumbered}
 use Rattle.text_tables.proofs.Gathering.{constants_known}
 use Rattle.text_tables.proofs.Numbering.{number_at}
 use Rattle.text_tables.proofs.Passing.{get_map}
@@ -46,9 +47,9 @@ formals_known b table f k =
     block (Some x) = refl
 
 pub known : (b : Bound) (w : Cells) (ts : List TextTree) (free : List (Option ℕ)) (n : ℕ) (rows : List Row) (blocks : List BlockOf) → AreTexts b.program ts → w.results.items ≡ map is_result ts → n ≡ length rows → rows ≡ b.scopes.declarations → free ≡ replicate n None → PlacedTo b ts free w.slots.items w.counts.items (length ts)
-    → ConstantsOf ts rows w.constants.items → blocks ≡ b.scopes.blocks → Numbers blocks w.numbers.items w.block_count → Formals (source_of b) blocks w.formals.items → Known b w
-unfolding Known PlacedTo
-known b w ts free n rows blocks are er en erows ef placed constants eb numbers formals =
+    → ConstantsOf ts rows w.constants.items → blocks ≡ b.scopes.blocks → Numbers blocks w.numbers.items w.block_count → Formals (source_of b) blocks w.formals.items → AreNumbered b w.texts.items → Known b w
+unfolding Known PlacedTo AreNumbered
+known b w ts free n rows blocks are er en erows ef placed constants eb numbers formals texts =
     let there : FilledTo (source_of b) w.slots.items w.counts.items (length ts) = placed are (ef ∙ ap (λ z. replicate z None) (en ∙ ap length erows)) in
     let numbers' = subst (λ z. Numbers z w.numbers.items w.block_count) eb numbers in
     let formals' = subst (λ z. Formals (source_of b) z w.formals.items) eb formals in
@@ -56,6 +57,7 @@ known b w ts free n rows blocks are er en erows ef placed constants eb numbers f
     record {
       slots = slots_known b ts w.slots.items w.counts.items are there;
       constants = constants_known b ts w.constants.items are constants';
+      texts = texts;
       results = results_known b ts w.results.items are er;
       counts = counts_known b ts w.slots.items w.counts.items are there;
       numbers = numbers_known b w.numbers.items w.block_count numbers';
@@ -64,7 +66,7 @@ known b w ts free n rows blocks are er en erows ef placed constants eb numbers f
 
 -- the same, each table made of a view of the texts
 pub known_from : (b : Bound) (w : Cells) (ts t1 t2 t3 : List TextTree) (free : List (Option ℕ)) (rows1 rows2 : List Row) (blocks1 blocks2 : List BlockOf) → AreTexts b.program ts → t1 ≡ ts → w.results.items ≡ map is_result t1 → rows1 ≡ b.scopes.declarations → free ≡ replicate (length rows1) None → t2 ≡ ts → PlacedTo b t2 free w.slots.items w.counts.items (length t2)
-    → t3 ≡ ts → rows2 ≡ b.scopes.declarations → ConstantsOf t3 rows2 w.constants.items → blocks1 ≡ b.scopes.blocks → Numbers blocks1 w.numbers.items w.block_count → blocks2 ≡ b.scopes.blocks → Formals (source_of b) blocks2 w.formals.items → Known b w
-known_from b w ts t1 t2 t3 free rows1 rows2 blocks1 blocks2 are e1 er ed ef e2 placed e3 ed2 constants eb numbers eb2 formals =
+    → t3 ≡ ts → rows2 ≡ b.scopes.declarations → ConstantsOf t3 rows2 w.constants.items → blocks1 ≡ b.scopes.blocks → Numbers blocks1 w.numbers.items w.block_count → blocks2 ≡ b.scopes.blocks → Formals (source_of b) blocks2 w.formals.items → AreNumbered b w.texts.items → Known b w
+known_from b w ts t1 t2 t3 free rows1 rows2 blocks1 blocks2 are e1 er ed ef e2 placed e3 ed2 constants eb numbers eb2 formals texts =
     known b w ts free (length rows1) rows1 blocks1 are (er ∙ ap (map is_result) e1) refl ed ef (subst (λ z. PlacedTo b z free w.slots.items w.counts.items (length z)) e2 placed)
-    (subst (λ z. ConstantsOf ts z w.constants.items) (ed2 ∙ sym ed) (subst (λ z. ConstantsOf z rows2 w.constants.items) e3 constants)) eb numbers (subst (λ z. Formals (source_of b) z w.formals.items) (eb2 ∙ sym eb) formals)
+    (subst (λ z. ConstantsOf ts z w.constants.items) (ed2 ∙ sym ed) (subst (λ z. ConstantsOf z rows2 w.constants.items) e3 constants)) eb numbers (subst (λ z. Formals (source_of b) z w.formals.items) (eb2 ∙ sym eb) formals) texts

@@ -4,3 +4,4 @@ pub mod Placing
 pub mod Gathering
 pub mod Knowing
 pub mod ByTokens
+pub mod Copies

@@ -1,17 +1,18 @@
-//! Declarations by token.
+//! Declarations and text constants by token.
 ghost use Rattle.std.specs.Prelude.{◌≡◌, IfOk, OnOk, length, slice_get};
 ghost use Rattle.sim_meaning.specs.Texts.{declared_at as declared_at_of};
 ghost use Rattle.sim_scope.specs.Scopes.{joined};
 ghost use Rattle.sim_scope.specs.Source.{source_of};
-ghost use Rattle.text_tables.specs.TokenTable.{AreDeclared, Longer, Noted, NotedTo};
+ghost use Rattle.text_tables.specs.TokenTable.{AreDeclared, AreNumbered, Longer, Noted, NotedTo, NumberedTo};
 
 use crate::places::number_of;
+use program_texts::{ConstantTree, text_constants};
 use sim_base::{DeclNo, TokenNo};
 use sim_scope::{Bound, Declaration};
 use std::alloc::{AllocError, Global};
 
 /// What a table has at a token.
-fn entry(table: &[Option<DeclNo>], token: TokenNo) -> Option<DeclNo>
+fn entry<T: Copy>(table: &[Option<T>], token: TokenNo) -> Option<T>
     ensures { result ≡ joined (slice_get table.now token.0) }
 {
     match table.get(token.0 as usize) {
@@ -22,7 +23,7 @@ fn entry(table: &[Option<DeclNo>], token: TokenNo) -> Option<DeclNo>
 
 /// The table has rows for so many tokens.
 #[tactic(auto, using(crate::proofs::ByTokens::by_tokens))]
-fn reach(table: &mut Vec<Option<DeclNo>>, size: usize) -> Result<(), AllocError>
+fn reach<T: Copy>(table: &mut Vec<Option<T>>, size: usize) -> Result<(), AllocError>
     ensures { OnOk result (Longer table.old.items table.new.items size) }
 {
     let start = table.len();
@@ -32,21 +33,17 @@ fn reach(table: &mut Vec<Option<DeclNo>>, size: usize) -> Result<(), AllocError>
     Ok(())
 }
 
-/// A declaration stands at a token, unless an earlier one does.
+/// Something stands at a token, unless something earlier does.
 #[tactic(auto, using(crate::proofs::ByTokens::by_tokens))]
-fn note(
-    table: &mut Vec<Option<DeclNo>>,
-    token: TokenNo,
-    declaration: DeclNo,
-) -> Result<(), AllocError>
-    ensures { OnOk result (Noted table.old.items table.new.items token.0 declaration) }
+fn note<T: Copy>(table: &mut Vec<Option<T>>, token: TokenNo, noted: T) -> Result<(), AllocError>
+    ensures { OnOk result (Noted table.old.items table.new.items token.0 noted) }
 {
     let place = token.0 as usize;
     reach(table, place + 1)?;
     match entry(table, token) {
         Some(_) => Ok(()),
         None => {
-            table[place] = Some(declaration);
+            table[place] = Some(noted);
             Ok(())
         }
     }
@@ -62,6 +59,29 @@ fn note_all(alloc: Global, rows: &[Declaration]) -> Result<Vec<Option<DeclNo>>, 
         let number = number_of(index)?;
         note(&mut table, rows[index].token, DeclNo(number))?;
     }
+    Ok(table)
+}
+
+/// All text constants at their tokens, by their numbers.
+#[tactic(auto, using(crate::proofs::ByTokens::by_tokens))]
+fn number_all(alloc: Global, constants: &[ConstantTree]) -> Result<Vec<Option<u32>>, AllocError>
+    ensures { IfOk result (λ table. NumberedTo constants.now table.items (length constants.now)) }
+{
+    let mut table = Vec::new(alloc);
+    for index in 0..constants.len() {
+        let number = number_of(index)?;
+        note(&mut table, constants[index].token, number)?;
+    }
+    Ok(table)
+}
+
+/// For each token the number of the text constant that is written there. Time and memory are linear in the program.
+#[tactic(auto, using(crate::proofs::ByTokens::by_tokens))]
+pub(crate) fn texts_by_token(alloc: Global, bound: &Bound) -> Result<Vec<Option<u32>>, AllocError>
+    ensures { IfOk result (λ table. AreNumbered bound.now table.items) }
+{
+    let constants = text_constants(alloc, &bound.program)?;
+    let table = number_all(alloc, &constants)?;
     Ok(table)
 }
 

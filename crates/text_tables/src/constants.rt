@@ -1,8 +1,9 @@
 //! The values of declared constants.
-ghost use Rattle.std.specs.Prelude.{◌≡◌, IfOk, None, OnOk, [], length, option_map};
-ghost use Rattle.sim_meaning.specs.Texts.{constant_value, value_in as value_in_of, with_sign};
-ghost use Rattle.codegen_expr.specs.Known.{plain_of};
-ghost use Rattle.text_tables.specs.Constants.{ConstantsOf, Enters, Gathers, GatheredTo, Reaches, TextGathers, among_decls, among_declaration, among_variable, among_variable_list, found_at, found_in};
+ghost use Rattle.std.specs.Prelude.{◌≡◌, IfOk, None, OnOk, [], length};
+ghost use Rattle.sim_meaning.specs.Texts.{with_sign};
+ghost use Rattle.sim_scope.specs.Source.{Source};
+ghost use Rattle.codegen_expr.specs.Known.{plain_in};
+ghost use Rattle.text_tables.specs.Constants.{ConstantsOf, Enters, Gathers, GatheredTo, IsValue, IsValueIn, Reaches, TextGathers, among_decls, among_declaration, among_variable, among_variable_list, found_at, found_in};
 ghost use Rattle.sim_tree.specs.SyntaxOfProgram.{declaration_syntax};
 
 use crate::places::number_of;
@@ -34,9 +35,10 @@ fn signed(sign: &Option<LeadingSign>, value: i64) -> Result<i64, AllocError>
     }
 }
 
-/// The value of a constant; none of a text.
+/// The value of a constant.
+#[tactic(auto, using(crate::proofs::Gathering::gathering))]
 fn value_of(constant: &Constant) -> Result<Option<ConstantValue>, AllocError>
-    ensures { IfOk result (λ v. option_map plain_of v ≡ constant_value constant.now) }
+    ensures { IfOk result (λ v. IsValue v constant.now) }
 {
     match constant {
         Constant::Integer { sign, value, .. } => {
@@ -44,15 +46,16 @@ fn value_of(constant: &Constant) -> Result<Option<ConstantValue>, AllocError>
             Ok(Some(ConstantValue::Integer(number)))
         }
         Constant::Character { value, .. } => Ok(Some(ConstantValue::Character(*value))),
-        Constant::Text { .. } => Ok(None),
+        Constant::Text { token, .. } => Ok(Some(ConstantValue::Text(*token))),
         Constant::True { .. } => Ok(Some(ConstantValue::Truth(true))),
         Constant::False { .. } => Ok(Some(ConstantValue::Truth(false))),
     }
 }
 
 /// The value of a variable that is a constant.
+#[tactic(auto, using(crate::proofs::Gathering::gathering))]
 fn value_in(constant: &Option<Constant>) -> Result<Option<ConstantValue>, AllocError>
-    ensures { IfOk result (λ v. option_map plain_of v ≡ value_in_of constant.now) }
+    ensures { IfOk result (λ v. IsValueIn v constant.now) }
 {
     match constant {
         Some(constant) => value_of(constant),
@@ -91,7 +94,7 @@ fn enter(
 /// The constant of a text at a token, if one is entered.
 #[tactic(auto, unfolding(crate::specs::Constants::found_at))]
 fn lookup(table: &[Vec<Entered>], text: u32, token: u32) -> Option<ConstantValue>
-    ensures { option_map plain_of result ≡ found_at table.now text token None }
+    ensures { (s : Source) → plain_in s result ≡ found_at s table.now text token None }
 {
     match table.get(token as usize) {
         Some(row) => first_of(row, text),
@@ -102,7 +105,7 @@ fn lookup(table: &[Vec<Entered>], text: u32, token: u32) -> Option<ConstantValue
 /// What was entered first for a text.
 #[tactic(auto, using(crate::proofs::Gathering::gathering))]
 fn first_of(row: &[Entered], text: u32) -> Option<ConstantValue>
-    ensures { option_map plain_of result ≡ found_in row.now text }
+    ensures { (s : Source) → plain_in s result ≡ found_in s row.now text }
 {
     for entry in row {
         if entry.text == text {

@@ -7,6 +7,8 @@ mod formals;
 mod numbers;
 mod places;
 mod tables;
+mod texts;
 
 pub use by_token::{declarations_by_token, declared_at};
 pub use tables::cells_of;
+pub use texts::constant_texts;

@@ -2,6 +2,7 @@
 ghost use Rattle.std.specs.Prelude.{IfOk};
 ghost use Rattle.codegen_expr.specs.Known.{Known};
 
+use crate::by_token::texts_by_token;
 use crate::constants::constants_of;
 use crate::formals::formals_of;
 use crate::numbers::numbers_of;
@@ -20,12 +21,14 @@ pub fn cells_of(alloc: Global, bound: &Bound) -> Result<Cells, AllocError>
     let mut slots = no_slots(alloc, bound.scopes.declarations().len())?;
     let counts = cell_counts(alloc, bound, &texts, &mut slots)?;
     let constants = constants_of(alloc, &texts, bound.scopes.declarations())?;
+    let by_token = texts_by_token(alloc, bound)?;
     let mut numbers = Vec::new(alloc);
     let block_count = numbers_of(bound.scopes.blocks(), &mut numbers)?;
     let formals = formals_of(alloc, bound, bound.scopes.blocks())?;
     Ok(Cells {
         slots,
         constants,
+        texts: by_token,
         results,
         counts,
         numbers,

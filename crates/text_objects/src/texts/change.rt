@@ -2,6 +2,7 @@
 ghost use Rattle.std.specs.Prelude.{◌≡◌, ◌+◌, ◌-◌, ◌^◌, ◌<◌, ◌≤◌, ◌≢◌, length, map, OnOk, OnErr, IfOk};
 ghost use Rattle.std.specs.Result.{result_err};
 ghost use Rattle.sim_values.specs.Texts.{IsText, LiesIn, KeepsTexts, SameBut, assign, at_position, assigned, characters, lowcase, outcome, putchar, putint, upcase, with_characters};
+ghost use Rattle.text_objects.specs.Frames.{KeepsFrames};
 
 use super::Texts;
 use crate::frame::TextFrame;
@@ -19,6 +20,7 @@ impl Texts {
         requires right { IsText self.old right }
         ensures step { assign self.old left right ≡ outcome self.new left result }
         ensures keeps { KeepsTexts self.old self.new }
+        ensures shapes { KeepsFrames self.old self.new }
         ensures others { SameBut left.text_frame self.old self.new }
     {
         if right.length > left.length {
@@ -77,6 +79,7 @@ impl Texts {
         ensures step { upcase self.old t ≡ outcome self.new t result }
         ensures valid { IfOk result (IsText self.new) }
         ensures keeps { KeepsTexts self.old self.new }
+        ensures shapes { KeepsFrames self.old self.new }
         ensures others { SameBut t.text_frame self.old self.new }
     {
         self.check_variable(t)?;
@@ -93,6 +96,7 @@ impl Texts {
         ensures step { lowcase self.old t ≡ outcome self.new t result }
         ensures valid { IfOk result (IsText self.new) }
         ensures keeps { KeepsTexts self.old self.new }
+        ensures shapes { KeepsFrames self.old self.new }
         ensures others { SameBut t.text_frame self.old self.new }
     {
         self.check_variable(t)?;
@@ -112,6 +116,7 @@ impl Texts {
         ensures same { t.new ≡ at_position t.old t.new.pos }
         ensures valid { IsText self.new t.new }
         ensures keeps { KeepsTexts self.old self.new }
+        ensures shapes { KeepsFrames self.old self.new }
         ensures others { SameBut t.old.text_frame self.old self.new }
     {
         let text = *t;
@@ -135,6 +140,7 @@ impl Texts {
         ensures same { t.new ≡ at_position t.old t.new.pos }
         ensures valid { IsText self.new t.new }
         ensures keeps { KeepsTexts self.old self.new }
+        ensures shapes { KeepsFrames self.old self.new }
         ensures others { SameBut t.old.text_frame self.old self.new }
     {
         let text = *t;

@@ -1,6 +1,6 @@
 use Rattle.std.proofs.Common.{◌+◌, ◌-◌, drop, length}
 use Rattle.std.proofs.lemmas.List.{drop_all}
-use Rattle.codegen.specs.EmitSeveral.{sides}
+use Rattle.codegen.specs.EmitSeveral.{side_in, sides}
 use Rattle.codegen.proofs.Sides as w
 use Rattle.codegen.proofs.several.emit_gives.Goals as goal
 
@@ -15,7 +15,7 @@ loop-done-preserved c =
     let rs = c.args.rest.now in
     let x = c.args.left.now in
     let k = c.loop-done.done in
-    w.gives_next c.args.bound.now c.args.spot c.args.draft.now c.loop-done.draft _ c.args.depth c.loop-done.values _ (drop (length rs - k) (sides x rs)) (drop (length rs - (k + 1)) (sides x rs)) c.side-item.result.now (w.side_before x rs k c.side-item.result.now c.loop-done-test.true c.side-item.ensures) c.loop-done.invariant c.in_ok-values.ensures
+    w.gives_next c.args.bound.now c.args.spot c.args.draft.now c.loop-done.draft _ c.args.depth c.loop-done.values _ (drop (length rs - k) (sides x rs)) (drop (length rs - (k + 1)) (sides x rs)) (side_in c.side_at-item.result) (w.side_before x rs k (side_in c.side_at-item.result) c.loop-done-test.true c.side_at-item.ensures) c.loop-done.invariant c.in_ok-values.ensures
 
 pub returns : goal.returns
 returns c =

@@ -2,13 +2,14 @@ use Rattle.std.proofs.Common.{◌≤◌, ◌-◌, drop, length}
 use Rattle.codegen.specs.Emit.{OwesStatements}
 use Rattle.codegen.specs.EmitLists.{OwesEach}
 use Rattle.codegen.specs.EmitShared.{OwesTurns}
+use Rattle.codegen.specs.ForElements.{in_list}
 use Rattle.codegen.proofs.statement.+emit.Given as goal
 
 abbrev pub invariant-emit_statements-loop-item : goal.invariant-emit_statements-loop-item
 invariant-emit_statements-loop-item l = OwesStatements l.bound l.spot l.fn.draft l.list l.draft (drop l.item-index l.list)
 
-abbrev pub invariant-emit_each-loop-element : goal.invariant-emit_each-loop-element
-invariant-emit_each-loop-element l = OwesEach l.bound l.spot l.fn.draft l.level l.slot l.elements l.body l.draft (drop l.element-index l.elements)
+abbrev pub invariant-emit_each-loop-index : goal.invariant-emit_each-loop-index
+invariant-emit_each-loop-index l = OwesEach l.bound l.spot l.fn.draft l.target (in_list l.elements) l.body l.draft (drop l.index (in_list l.elements))
 
 abbrev pub invariant-emit_turns-loop-number : goal.invariant-emit_turns-loop-number
-invariant-emit_turns-loop-number l = (l.number ≤ length l.elements - 1) × OwesTurns l.bound l.spot l.fn.draft l.level l.slot l.elements l.start l.chain l.draft l.number (drop l.number l.elements)
+invariant-emit_turns-loop-number l = (l.number ≤ length (in_list l.elements) - 1) × OwesTurns l.bound l.spot l.fn.draft l.target (in_list l.elements) l.start l.chain l.draft l.number (drop l.number (in_list l.elements))

@@ -1,4 +1,4 @@
-use Rattle.std.proofs.Common.{rules, of_z, to_z, w64, ◌≡◌, ◌-◌, ◌+◌, List, [], ◌∷◌, length, drop, map, ap, ◌∙◌, arith, subst}
+use Rattle.std.proofs.Common.{rules, of_z, to_z, w64, ◌≡◌, ◌-◌, ◌+◌, List, [], ◌∷◌, length, drop, map, refl, ap, ◌∙◌, arith, subst}
 use Rattle.std.proofs.lemmas.List.{drop_all, drop_more}
 use Rattle.std.specs.Prelude.{slice_index_or}
 use Rattle.sim_base.specs.declared.numbering.TokenNo.{TokenNo}
@@ -13,6 +13,8 @@ use Rattle.codegen_expr.specs.Drafts.{filled_in, with_push}
 use Rattle.codegen_expr.specs.Emit.{WritesNot, WritesOperands}
 use Rattle.codegen_expr.proofs.Seen as n
 use Rattle.codegen_expr.proofs.Written as w
+use Rattle.codegen_expr.proofs.Behind as behind
+use Rattle.codegen_expr.proofs.Places as places
 use Rattle.codegen_expr.proofs.emit.+emit.Goals as goal
 
 pub emit_expr-returns-in_ok-end-in-If : goal.emit_expr-returns-in_ok-end-in-If
@@ -113,12 +115,6 @@ emit_list-loop-item-preserved t c =
 pub emit_list-returns : goal.emit_list-returns
 emit_list-returns t c = w.lists_none c.args.bound.now c.args.spot c.args.depth c.args.draft.now c.loop-item.draft c.args.list.now (drop c.loop-item.item-index c.args.list.now) c.loop-item.inside c.loop-item.invariant (drop_all c.loop-item.item-index c.args.list.now c.loop-item-test.false)
 
-pub emit_standard-returns-then-operands-row : goal.emit_standard-returns-then-operands-row
-emit_standard-returns-then-operands-row t c = w.write_other_number c.args.bound.now c.args.spot c.args.depth _ _ c.args.token c.args.name c.args.operands.now c.standard_code.result c.in-Some.row c.standard_code.ensures c.in-Some.is c.if-operands-row.true c.give_up-then-operands-row.ensures
-
-pub emit_standard-returns : goal.emit_standard-returns
-emit_standard-returns t c = w.write_standard c.args.bound.now c.args.spot c.args.depth _ _ _ c.args.token c.args.name c.args.operands.now c.standard_code.result c.in-Some.row _ _ c.standard_code.ensures c.in-Some.is c.if-operands-row.false c.in_ok-emit_list.ensures c.standard_instr.ensures c.line_at.ensures c.in_ok-push.ensures
-
 pub emit_actuals-loop-index-init : goal.emit_actuals-loop-index-init
 emit_actuals-loop-index-init t c = n.actuals_all c.args.bound.now c.args.spot c.args.depth c.args.draft.now c.args.token c.args.list.now c.args.formals.now
 
@@ -135,3 +131,21 @@ emit_actuals-returns t c =
     let xs = c.args.list.now in
     let fs = c.args.formals.now in
     n.actuals_none c.args.bound.now c.args.spot c.args.depth c.args.draft.now c.loop-index.draft c.args.token xs (drop i xs) fs (drop i fs) c.loop-index.inside c.loop-index.invariant (drop_all i xs (omega (arith, c.loop-index-test.false))) (drop_all i fs (omega (arith, c.loop-index-test.false, c.if-list-formals.false)))
+
+pub emit_alone-returns-then-operands-row : goal.emit_alone-returns-then-operands-row
+emit_alone-returns-then-operands-row t c = behind.alone_other_number c.args.bound.now c.args.spot c.args.depth c.args.draft.now _ c.args.token c.args.name c.args.operands.now _ c.in-Some.row c.standard_code.ensures c.in-Some.is c.if-operands-row.true c.give_up-then-operands-row.ensures
+
+pub emit_alone-returns : goal.emit_alone-returns
+emit_alone-returns t c = behind.alone_performed c.args.bound.now c.args.spot c.args.depth c.args.draft.now _ _ c.args.token c.args.name c.args.operands.now _ c.in-Some.row _ _ c.standard_code.ensures c.in-Some.is c.if-operands-row.false c.in_ok-emit_list.ensures c.standard_instr.ensures c.line_at.ensures c.in_ok-push.ensures
+
+pub emit_behind-returns-then-row-eq0 : goal.emit_behind-returns-then-row-eq0
+emit_behind-returns-then-row-eq0 t c = behind.behind_no_operand c.args.bound.now c.args.spot c.args.depth c.args.draft.now _ c.args.token c.args.name c.args.operands.now _ c.in-Some.row c.standard_code.ensures c.in-Some.is c.if-row-eq0.true c.give_up-then-row-eq0.ensures
+
+pub emit_place-returns-then-len-eq0-10 : goal.emit_place-returns-then-len-eq0-10
+emit_place-returns-then-len-eq0-10 t c = places.place_same_Sum c.args.bound.now c.args.spot c.args.depth c.args.draft.now _ c.args.expr.now _ c.in-Sum.sign c.in-Sum.first c.in-Sum.rest _ c.in-Sum.is c.in-None.is c.deref-then-len-eq0-10.ensures refl (search rules) c.in_ok-emit_place-in-None.ensures
+
+pub emit_place-returns-in-Some : goal.emit_place-returns-in-Some
+emit_place-returns-in-Some t c = places.place_signed_Sum c.args.bound.now c.args.spot c.args.depth c.args.draft.now _ c.args.expr.now c.in-Sum.sign c.in-Some.field-0 c.in-Sum.first c.in-Sum.rest c.in-Sum.is c.in-Some.is c.give_up-in-Some.ensures
+
+pub emit_place-returns-else-len-eq0-10 : goal.emit_place-returns-else-len-eq0-10
+emit_place-returns-else-len-eq0-10 t c = places.place_other_Sum c.args.bound.now c.args.spot c.args.depth c.args.draft.now _ c.args.expr.now c.in-Sum.sign c.in-Sum.first c.in-Sum.rest _ c.in-Sum.is refl (search rules) c.give_up-in-None.ensures

@@ -1,6 +1,7 @@
 use Rattle.std.proofs.Common.{◌-◌, drop, length, map}
 use Rattle.sim_tree.specs.SyntaxOf.{factor_syntax, operand_syntax, term_syntax, with_operator}
 use Rattle.codegen_expr.specs.Emit.{OwesActuals, OwesList, OwesTails, Steady, WritesNot}
+use Rattle.codegen_expr.proofs.Taken.{TakenOf}
 use Rattle.codegen_expr.proofs.emit.+emit.Given as goal
 
 abbrev pub invariant-emit_factors-loop-item : goal.invariant-emit_factors-loop-item
@@ -20,3 +21,6 @@ invariant-emit_list-loop-item l = OwesList l.bound l.spot l.depth l.fn.draft l.l
 
 abbrev pub invariant-emit_actuals-loop-index : goal.invariant-emit_actuals-loop-index
 invariant-emit_actuals-loop-index l = OwesActuals l.bound l.spot l.depth l.fn.draft l.token l.list l.formals l.inside l.draft (drop l.index l.list) (drop l.index l.formals)
+
+abbrev pub invariant-emit_steps-loop-done : goal.invariant-emit_steps-loop-done
+invariant-emit_steps-loop-done l = TakenOf l.bound l.spot l.depth l.fn.draft l.fn.object l.rest l.draft l.taken l.done

@@ -12,7 +12,7 @@ use Rattle.object_machine.specs.declared.machine.Storage.{Storage}
 use Rattle.object_machine.specs.Standing.{Leaves, Obeys, activation_at, below_of}
 use Rattle.object_machine.proofs.ArrayRows.{exhausted, lead_push, making_fault, making_words, stands_arrays, stands_paid}
 use Rattle.object_machine.proofs.Going.{along, faults, none}
-use Rattle.object_machine.proofs.NameRows.{having_none, having_some}
+use Rattle.object_machine.proofs.Having.{having_none, having_some}
 use Rattle.object_machine.proofs.arrays.array.Goals as goal
 
 pub returns-in_default-clause-row : goal.returns-in_default-clause-row

@@ -11,7 +11,7 @@ use Rattle.object_machine.specs.declared.machine.Storage.{Storage}
 use Rattle.object_machine.specs.Standing.{Leaves, Obeys, activation_at, below_of}
 use Rattle.object_machine.proofs.ArrayRows.{copying_none, copying_some, exhausted, lead_arrays_put, lead_push, lead_put, no_words, put_at, stands_arrays, stands_paid, words_found}
 use Rattle.object_machine.proofs.Going.{along, depth_goes_on, none}
-use Rattle.object_machine.proofs.NameRows.{having_none, having_some}
+use Rattle.object_machine.proofs.Having.{having_none, having_some}
 use Rattle.object_machine.proofs.arrays.copy_array.Goals as goal
 
 pub returns-in_default-clause-row : goal.returns-in_default-clause-row

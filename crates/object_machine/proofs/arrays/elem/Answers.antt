@@ -5,7 +5,7 @@ use Rattle.sim_code.specs.Rows.{no_class}
 use Rattle.frame_arena.specs.Arrays.{AllLeadArrays, HoldsArrays}
 use Rattle.object_machine.specs.Standing.{Obeys, activation_at, below_of}
 use Rattle.object_machine.proofs.Going.{along, none}
-use Rattle.object_machine.proofs.NameRows.{having_none, having_some}
+use Rattle.object_machine.proofs.Having.{having_none, having_some}
 use Rattle.object_machine.proofs.arrays.elem.Goals as goal
 
 pub returns-in_default-clause-row : goal.returns-in_default-clause-row

@@ -11,7 +11,7 @@ use Rattle.object_machine.specs.declared.machine.Storage.{Storage}
 use Rattle.object_machine.specs.Standing.{Leaves, Obeys, activation_at, below_of}
 use Rattle.object_machine.proofs.ArrayRows.{keeping, keeping_none, top_at}
 use Rattle.object_machine.proofs.Going.{along, depth_goes_on, no_rule_in}
-use Rattle.object_machine.proofs.NameRows.{having_none, having_some}
+use Rattle.object_machine.proofs.Having.{having_none, having_some}
 use Rattle.object_machine.proofs.arrays.keep.Goals as goal
 
 pub returns-in_default-clause-row : goal.returns-in_default-clause-row

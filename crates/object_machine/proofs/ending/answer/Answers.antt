@@ -1,37 +1,70 @@
 use Rattle.std.proofs.Common.{subst}
 use Rattle.object_machine.specs.Running.{Stops}
-use Rattle.object_machine.proofs.Closings.{broken_off, broken_on, broken_write, fault_closing, normal_closing, ticks_closing, words_closing}
+use Rattle.object_machine.specs.Standing.{outside}
+use Rattle.object_machine.specs.Named.{InputEnds}
+use Rattle.object_machine.proofs.Closings.{cut_before, broken_off, broken_on, broken_write, fault_closing, normal_closing, ticks_closing, words_closing}
+use Rattle.object_machine.proofs.Whole.{input_answers}
 use Rattle.object_machine.proofs.ending.answer.Goals as goal
 
 pub returns-in-Normal-clause-ran : goal.returns-in-Normal-clause-ran
-returns-in-Normal-clause-ran g c code from r stack below before s =
-    c.closed.ensures.ran code c.args.limits.now from before
-    (normal_closing code c.args.limits.now from c.args.stop.line.0 c.args.stop.at c.args.storage.now r stack below before _ (subst (λ f. Stops code c.args.limits.now from f c.args.stop.line.0 c.args.stop.at c.args.storage.now r stack below before (g.O.Sink.written c.args.out.now)) c.in-Normal.is s))
+returns-in-Normal-clause-ran g c code from r stack below before source s =
+    c.closed.ensures.ran code c.args.limits.now from before source
+    (normal_closing code c.args.limits.now from c.args.stop.line.0 c.args.stop.at c.args.storage.now r stack below before _ (subst (λ f. Stops code c.args.limits.now from f c.args.stop.line.0 c.args.stop.at c.args.storage.now r stack below before (outside (g.O.Sink.written c.args.out.now) source)) c.in-Normal.is s))
 
 pub returns-in-TickLimit-clause-ran : goal.returns-in-TickLimit-clause-ran
-returns-in-TickLimit-clause-ran g c code from r stack below before s =
-    c.closed-in-TickLimit.ensures.ran code c.args.limits.now from before
-    (ticks_closing code c.args.limits.now from c.args.stop.line.0 c.args.stop.at c.args.storage.now r stack below before _ (subst (λ f. Stops code c.args.limits.now from f c.args.stop.line.0 c.args.stop.at c.args.storage.now r stack below before (g.O.Sink.written c.args.out.now)) c.in-TickLimit.is s))
+returns-in-TickLimit-clause-ran g c code from r stack below before source s =
+    c.closed-in-TickLimit.ensures.ran code c.args.limits.now from before source
+    (ticks_closing code c.args.limits.now from c.args.stop.line.0 c.args.stop.at c.args.storage.now r stack below before _ (subst (λ f. Stops code c.args.limits.now from f c.args.stop.line.0 c.args.stop.at c.args.storage.now r stack below before (outside (g.O.Sink.written c.args.out.now) source)) c.in-TickLimit.is s))
 
 pub returns-in-Exhausted-clause-ran : goal.returns-in-Exhausted-clause-ran
-returns-in-Exhausted-clause-ran g c code from r stack below before s =
-    c.closed-in-Exhausted.ensures.ran code c.args.limits.now from before
-    (words_closing code c.args.limits.now from c.args.stop.line.0 c.args.stop.at c.args.storage.now r stack below before _ (subst (λ f. Stops code c.args.limits.now from f c.args.stop.line.0 c.args.stop.at c.args.storage.now r stack below before (g.O.Sink.written c.args.out.now)) c.in-Exhausted.is s))
+returns-in-Exhausted-clause-ran g c code from r stack below before source s =
+    c.closed-in-Exhausted.ensures.ran code c.args.limits.now from before source
+    (words_closing code c.args.limits.now from c.args.stop.line.0 c.args.stop.at c.args.storage.now r stack below before _ (subst (λ f. Stops code c.args.limits.now from f c.args.stop.line.0 c.args.stop.at c.args.storage.now r stack below before (outside (g.O.Sink.written c.args.out.now) source)) c.in-Exhausted.is s))
 
 pub returns-in-Fault-clause-ran : goal.returns-in-Fault-clause-ran
-returns-in-Fault-clause-ran g c code from r stack below before s =
-    c.closed-in-Fault.ensures.ran code c.args.limits.now from before
-    (fault_closing code c.args.limits.now from c.args.stop.line.0 c.args.stop.at c.args.storage.now r stack below before _ c.in-Fault.error (subst (λ f. Stops code c.args.limits.now from f c.args.stop.line.0 c.args.stop.at c.args.storage.now r stack below before (g.O.Sink.written c.args.out.now)) c.in-Fault.is s))
+returns-in-Fault-clause-ran g c code from r stack below before source s =
+    c.closed-in-Fault.ensures.ran code c.args.limits.now from before source
+    (fault_closing code c.args.limits.now from c.args.stop.line.0 c.args.stop.at c.args.storage.now r stack below before _ c.in-Fault.error (subst (λ f. Stops code c.args.limits.now from f c.args.stop.line.0 c.args.stop.at c.args.storage.now r stack below before (outside (g.O.Sink.written c.args.out.now) source)) c.in-Fault.is s))
 
 pub returns-in-NoRule-clause-ran : goal.returns-in-NoRule-clause-ran
-returns-in-NoRule-clause-ran g c code from r stack below before s =
-    c.without_rule.ensures.ran code c.args.limits.now from c.args.stop.line.0 c.args.storage.now r stack below before _ (subst (λ f. Stops code c.args.limits.now from f c.args.stop.line.0 c.args.stop.at c.args.storage.now r stack below before (g.O.Sink.written c.args.out.now)) c.in-NoRule.is s)
+returns-in-NoRule-clause-ran g c code from r stack below before source s =
+    c.without_rule.ensures.ran code c.args.limits.now from c.args.stop.line.0 c.args.storage.now r stack below before _ (subst (λ f. Stops code c.args.limits.now from f c.args.stop.line.0 c.args.stop.at c.args.storage.now r stack below before (outside (g.O.Sink.written c.args.out.now) source)) c.in-NoRule.is s)
 
 pub returns-in-On-clause-ran : goal.returns-in-On-clause-ran
-returns-in-On-clause-ran g c code from r stack below before s = broken_on code c.args.limits.now from c.args.stop.line.0 c.args.stop.at c.args.storage.now r stack below before (g.O.Sink.written c.args.out.now) (subst (λ f. Stops code c.args.limits.now from f c.args.stop.line.0 c.args.stop.at c.args.storage.now r stack below before (g.O.Sink.written c.args.out.now)) c.in-On.is s)
+returns-in-On-clause-ran g c code from r stack below before source s = broken_on code c.args.limits.now from c.args.stop.line.0 c.args.stop.at c.args.storage.now r stack below before (outside (g.O.Sink.written c.args.out.now) source) (subst (λ f. Stops code c.args.limits.now from f c.args.stop.line.0 c.args.stop.at c.args.storage.now r stack below before (outside (g.O.Sink.written c.args.out.now) source)) c.in-On.is s)
 
 pub returns-in-Memory-clause-ran : goal.returns-in-Memory-clause-ran
-returns-in-Memory-clause-ran g c code from r stack below before s = broken_off code c.args.limits.now from c.args.stop.line.0 c.args.stop.at c.args.storage.now r stack below before (g.O.Sink.written c.args.out.now) (subst (λ f. Stops code c.args.limits.now from f c.args.stop.line.0 c.args.stop.at c.args.storage.now r stack below before (g.O.Sink.written c.args.out.now)) c.in-Memory.is s)
+returns-in-Memory-clause-ran g c code from r stack below before source s = broken_off code c.args.limits.now from c.args.stop.line.0 c.args.stop.at c.args.storage.now r stack below before (outside (g.O.Sink.written c.args.out.now) source) (subst (λ f. Stops code c.args.limits.now from f c.args.stop.line.0 c.args.stop.at c.args.storage.now r stack below before (outside (g.O.Sink.written c.args.out.now) source)) c.in-Memory.is s)
 
 pub returns-in-WriteFault-clause-ran : goal.returns-in-WriteFault-clause-ran
-returns-in-WriteFault-clause-ran g c code from r stack below before s = broken_write code c.args.limits.now from c.args.stop.line.0 c.args.stop.at c.args.storage.now r stack below before (g.O.Sink.written c.args.out.now) (subst (λ f. Stops code c.args.limits.now from f c.args.stop.line.0 c.args.stop.at c.args.storage.now r stack below before (g.O.Sink.written c.args.out.now)) c.in-WriteFault.is s)
+returns-in-WriteFault-clause-ran g c code from r stack below before source s = broken_write code c.args.limits.now from c.args.stop.line.0 c.args.stop.at c.args.storage.now r stack below before (outside (g.O.Sink.written c.args.out.now) source) (subst (λ f. Stops code c.args.limits.now from f c.args.stop.line.0 c.args.stop.at c.args.storage.now r stack below before (outside (g.O.Sink.written c.args.out.now) source)) c.in-WriteFault.is s)
+
+pub returns-in-InputFault-clause-ran : goal.returns-in-InputFault-clause-ran
+returns-in-InputFault-clause-ran g c code from r stack below before source s = cut_before code c.args.limits.now from c.args.stop.line.0 c.args.stop.at c.args.storage.now r stack below before (outside (g.O.Sink.written c.args.out.now) source) (subst (λ f. Stops code c.args.limits.now from f c.args.stop.line.0 c.args.stop.at c.args.storage.now r stack below before (outside (g.O.Sink.written c.args.out.now) source)) c.in-InputFault.is s)
+
+pub returns-in-Normal-clause-input : goal.returns-in-Normal-clause-input
+returns-in-Normal-clause-input g c before now h = c.closed.ensures.input before now (subst (λ f. InputEnds before now f) c.in-Normal.is h)
+
+pub returns-in-TickLimit-clause-input : goal.returns-in-TickLimit-clause-input
+returns-in-TickLimit-clause-input g c before now h = c.closed-in-TickLimit.ensures.input before now (subst (λ f. InputEnds before now f) c.in-TickLimit.is h)
+
+pub returns-in-Exhausted-clause-input : goal.returns-in-Exhausted-clause-input
+returns-in-Exhausted-clause-input g c before now h = c.closed-in-Exhausted.ensures.input before now (subst (λ f. InputEnds before now f) c.in-Exhausted.is h)
+
+pub returns-in-Fault-clause-input : goal.returns-in-Fault-clause-input
+returns-in-Fault-clause-input g c before now h = c.closed-in-Fault.ensures.input before now (subst (λ f. InputEnds before now f) c.in-Fault.is h)
+
+pub returns-in-NoRule-clause-input : goal.returns-in-NoRule-clause-input
+returns-in-NoRule-clause-input g c before now h = input_answers before now _ c.without_rule.ensures.read (subst (λ f. InputEnds before now f) c.in-NoRule.is h)
+
+pub returns-in-Memory-clause-input : goal.returns-in-Memory-clause-input
+returns-in-Memory-clause-input g c before now h = subst (λ f. InputEnds before now f) c.in-Memory.is h
+
+pub returns-in-InputFault-clause-input : goal.returns-in-InputFault-clause-input
+returns-in-InputFault-clause-input g c before now h = subst (λ f. InputEnds before now f) c.in-InputFault.is h
+
+pub returns-in-WriteFault-clause-input : goal.returns-in-WriteFault-clause-input
+returns-in-WriteFault-clause-input g c before now h = subst (λ f. InputEnds before now f) c.in-WriteFault.is h
+
+pub returns-in-On-clause-input : goal.returns-in-On-clause-input
+returns-in-On-clause-input g c before now h = subst (λ f. InputEnds before now f) c.in-On.is h

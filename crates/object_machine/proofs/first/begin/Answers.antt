@@ -5,7 +5,7 @@ use Rattle.sim_code.specs.Machine.{in_frame, first_cells, words_of_block}
 use Rattle.frame_arena.specs.Frames.{empty_memory}
 use Rattle.object_machine.specs.declared.machine.Flow.TheVariants as flow
 use Rattle.object_machine.specs.Entering.{Pays, paid}
-use Rattle.object_machine.specs.Running.{Begins, IsFit}
+use Rattle.object_machine.specs.Running.{Begins, IsFit, IsUnread}
 use Rattle.object_machine.specs.Standing.{Leaves}
 use Rattle.object_machine.proofs.Firsts.{enters_alone, first_entry, first_is, none_some, none_stores, pays_off}
 use Rattle.object_machine.proofs.Jumps.{found_at}
@@ -39,6 +39,7 @@ returns-in-Err-clause-row c code before now o e e2 s = subst (λ b. Begins b cod
 pub returns-in_default-flow : goal.returns-in_default-flow
 returns-in_default-flow c = record {
   fits = subst (λ b. IsFit b) (sym c.stopped-in_default-flow.ensures) tt;
+  read = subst (λ b. IsUnread b) (sym c.stopped-in_default-flow.ensures) c.pay-flow.ensures.read;
   texts = c.pay-flow.ensures.texts;
   image = c.pay-flow.ensures.image;
   row = λ code before now o e e2 s.

@@ -138,7 +138,12 @@ returns-in-AddrR-clause-row c code line below now e =
 
 pub returns-in-AddrImg-clause-row : goal.returns-in-AddrImg-clause-row
 returns-in-AddrImg-clause-row c code line below now e =
-    for_instr _ code c.args.limits.now line _ _ _ _ _ _ below now c.args.instr _ (c.in-AddrImg.is) (c.no_rule-in-AddrImg.ensures c.args.limits.now line c.args.storage.now c.args.regs.now c.args.stack.now below now)
+    let enumber : to_z w64 (of_z w64 c.in-AddrImg.number) ≡ c.in-AddrImg.number = search rules in
+    for_instr _ code c.args.limits.now line _ _ _ _ _ _ below now c.args.instr _ (c.in-AddrImg.is ∙ ap i.AddrImg (sym enumber)) (c.image_address.ensures.row c.args.limits.now line c.args.storage.now below now)
+
+pub returns-in-NoText-clause-row : goal.returns-in-NoText-clause-row
+returns-in-NoText-clause-row c code line below now e =
+    for_instr _ code c.args.limits.now line _ _ _ _ _ _ below now c.args.instr _ (c.in-NoText.is) (c.notext.ensures.row c.args.limits.now line c.args.storage.now below now)
 
 pub returns-in-Is-clause-row : goal.returns-in-Is-clause-row
 returns-in-Is-clause-row c code line below now e =
@@ -204,10 +209,6 @@ pub returns-in-Inner-clause-row : goal.returns-in-Inner-clause-row
 returns-in-Inner-clause-row c code line below now e =
     for_instr _ code c.args.limits.now line _ _ _ _ _ _ below now c.args.instr _ (c.in-Inner.is) (c.no_rule-in-Inner.ensures c.args.limits.now line c.args.storage.now c.args.regs.now c.args.stack.now below now)
 
-pub returns-in-AssignT-clause-row : goal.returns-in-AssignT-clause-row
-returns-in-AssignT-clause-row c code line below now e =
-    for_instr _ code c.args.limits.now line _ _ _ _ _ _ below now c.args.instr _ (c.in-AssignT.is) (c.no_rule-in-AssignT.ensures c.args.limits.now line c.args.storage.now c.args.regs.now c.args.stack.now below now)
-
 pub returns-in-Act-clause-row : goal.returns-in-Act-clause-row
 returns-in-Act-clause-row c code line below now e =
     for_instr _ code c.args.limits.now line _ _ _ _ _ _ below now c.args.instr _ (c.in-Act.is) (c.no_rule-in-Act.ensures c.args.limits.now line c.args.storage.now c.args.regs.now c.args.stack.now below now)
@@ -241,7 +242,7 @@ returns-in-Elem-clause-row c code line below now e =
 
 pub returns-in-Fetch-clause-row : goal.returns-in-Fetch-clause-row
 returns-in-Fetch-clause-row c code line below now e =
-    for_instr _ code c.args.limits.now line _ _ _ _ _ _ below now c.args.instr _ (c.in-Fetch.is) (c.fetch.ensures.row c.args.limits.now line c.args.storage.now below now (sym c.deref-in-Fetch.ensures.value) (sym c.deref-in-Fetch-2.ensures.value) refl)
+    for_instr _ code c.args.limits.now line _ _ _ _ _ _ below now c.args.instr _ (c.in-Fetch.is) (c.fetch.ensures.row c.args.limits.now line c.args.storage.now below now (sym c.deref-in-Fetch.ensures.value) (sym c.deref-in-Fetch-2.ensures.value) refl refl)
 
 pub returns-in-Put-clause-row : goal.returns-in-Put-clause-row
 returns-in-Put-clause-row c code line below now e =
@@ -269,3 +270,12 @@ returns-in-Addr-clause-row c code line below now e =
     for_instr _ code c.args.limits.now line _ _ _ _ _ _ below now c.args.instr _
     (c.in-Addr.is ∙ ap (λ z. i.Addr z c.in-Addr.cell c.in-Addr.class) (sym elevel) ∙ ap (λ z. i.Addr (to_z w64 (of_z w64 c.in-Addr.level)) z c.in-Addr.class) (sym ecell) ∙ ap (λ z. i.Addr (to_z w64 (of_z w64 c.in-Addr.level)) (to_z w64 (of_z w64 c.in-Addr.cell)) z) (sym eclass))
     (c.address.ensures.row c.args.limits.now line c.args.storage.now below now (sym c.deref-in-Addr.ensures.value))
+
+pub returns-in-RelT-clause-row : goal.returns-in-RelT-clause-row
+returns-in-RelT-clause-row c code line below now e =
+    let eoperand : to_z w64 (of_z w64 c.in-RelT.operand) ≡ c.in-RelT.operand = search rules in
+    for_instr _ code c.args.limits.now line _ _ _ _ _ _ below now c.args.instr _ (c.in-RelT.is ∙ ap i.RelT (sym eoperand)) (c.relation_of_texts.ensures.row c.args.limits.now line c.args.storage.now below now refl)
+
+pub returns-in-SameT-clause-row : goal.returns-in-SameT-clause-row
+returns-in-SameT-clause-row c code line below now e =
+    for_instr _ code c.args.limits.now line _ _ _ _ _ _ below now c.args.instr _ (c.in-SameT.is) (c.relate.ensures.row c.args.limits.now line c.args.storage.now below now refl)

@@ -1,5 +1,6 @@
-use Rattle.std.proofs.Common.{rules, ◌≡◌, ◌+◌, List, [], ◌∷◌, ◌++◌, length, sym, refl, ap, ◌∙◌, arith}
-use Rattle.sim_values.specs.declared.value.TextVal.{TextVal}
+use Rattle.std.proofs.Common.{rules, ℕ, ◌≡◌, ◌+◌, List, [], ◌∷◌, ◌++◌, length, sym, refl, ap, ◌∙◌, arith}
+use Rattle.std.specs.Prelude.{false}
+use Rattle.object_machine.specs.Standing.{Ports, ports_of}
 use Rattle.sim_values.specs.Store.{constant_frames, image_frame}
 use Rattle.sim_values.specs.Texts.{Frame}
 use Rattle.frame_arena.specs.Frames.{empty_memory}
@@ -14,23 +15,31 @@ returns-clause-row c before input =
     let a : Frame = image_frame c.args.limits.now.in_length in
     let b : Frame = image_frame c.args.limits.now.out_length in
     let e0 : c.add_constants.new.texts ≡ cf = c.in_ok-add_constants.ensures ∙ ap (λ l. l ++ cf) c.new-texts.ensures.empty in
-    let e1 : c.image.new.self ≡ cf ++ a ∷ [] = c.in_ok-image.ensures.ok ∙ ap (λ l. l ++ a ∷ []) e0 in
-    let e2 : c.new.new.texts ≡ cf ++ (a ∷ b ∷ []) = c.in_ok-image-2.ensures.ok ∙ ap (λ l. l ++ b ∷ []) e1 ∙ images_behind cf a b in
-    let n : length c.image.new.self ≡ length cs + 1 = ap length e1 ∙ count_behind cf a ∙ ap (λ n. n + 1) (constants_count cs) in
-    let none : c.new-2.result.items ≡ [] = search rules in
-    let none2 : c.new-3.result.items ≡ [] = search rules in
+    let e1 : c.new.new.texts ≡ cf ++ a ∷ [] = c.in_ok-input.ensures.ok ∙ ap (λ l. l ++ a ∷ []) e0 in
+    let e2 : c.new-2.new.texts ≡ cf ++ (a ∷ b ∷ []) = c.in_ok-output.ensures.ok ∙ ap (λ l. l ++ b ∷ []) e1 ∙ images_behind cf a b in
+    let n : length c.new.new.texts ≡ length cs + 1 = ap length e1 ∙ count_behind cf a ∙ ap (λ n. n + 1) (constants_count cs) in
+    let P : ℕ → ℕ → Ports = λ j k. record {
+      sysin = record { text_frame = j; start = 1; length = c.args.limits.now.in_length; pos = c.args.limits.now.in_length + 1 };
+      endfile = false;
+      left = input;
+      sysout = record { text_frame = k; start = 1; length = c.args.limits.now.out_length; pos = 1 };
+    } in
+    let none : c.new-3.result.items ≡ [] = search rules in
+    let none2 : c.new-4.result.items ≡ [] = search rules in
     record {
       world = record {
         ticks = refl;
         words = refl;
         texts = sym e2;
-        image = sym (c.in_ok-image-2.ensures.made ∙ ap (λ n. let t : TextVal = record { text_frame = n; start = 1; length = c.args.limits.now.out_length; pos = 1 } in t) n);
+        image = sym (ap (λ i. ports_of (record { input = i; output = c.in_ok-output.output }) input) c.in_ok-input.ensures.made
+            ∙ ap (λ t. record { sysin = record { text_frame = length c.add_constants.new.texts; start = 1; length = c.args.limits.now.in_length; pos = c.args.limits.now.in_length + 1 }; endfile = false; left = input; sysout = t }) c.in_ok-output.ensures.made
+            ∙ ap (λ k. P k (length c.new.new.texts)) (ap length e0 ∙ constants_count cs) ∙ ap (λ k. P (length cs) k) n);
         written = append_nothing before;
       };
       budget = omega arith;
-      frames = holds_empty c.new-2.result.items c.new-3.result.items none none2;
+      frames = holds_empty c.new-3.result.items c.new-4.result.items none none2;
       entered = refl;
-      arrays = c.new-6.ensures.holds;
-      cells = leads_empty c.new-6.result.regions [] c.new-3.result.items none2;
-      elements = elements_empty c.new-2.result.items empty_memory c.new-6.result c.new-6.ensures.none;
+      arrays = c.new-7.ensures.holds;
+      cells = leads_empty c.new-7.result.regions [] c.new-4.result.items none2;
+      elements = elements_empty c.new-3.result.items empty_memory c.new-7.result c.new-7.ensures.none;
     }

@@ -1,25 +1,29 @@
-use Rattle.std.proofs.Common.{Err, ap}
 use Rattle.sim_scope.specs.Source.{source_of}
-use Rattle.sim_driver.specs.SourceMeaning.{limits}
-use Rattle.sim_driver.proofs.Meant.{failed_begins, lacking_does, lacking_means, ran_does, ran_means}
+use Rattle.sim_run.specs.declared.running.RunFailure.TheVariants.{Input, Memory, Output}
+use Rattle.sim_driver.proofs.Meant.{broken_by, failed_begins, ran_does, ran_means}
 use Rattle.sim_driver.proofs.command.run.Goals as goal
 
 pub returns-in-Ok-clause-known : goal.returns-in-Ok-clause-known
-returns-in-Ok-clause-known g c = ran_means (source_of c.args.bound.now) c.in-Ok.ending _ _ (rw c.default_limits.ensures at c.in-Ok.ensures.ran)
+returns-in-Ok-clause-known g c given told = ran_means (source_of c.args.bound.now) given c.in-Ok.end _ _ (rw c.default_limits.ensures at (c.in-Ok.ensures.ran given told))
 
 pub returns-in-Ok-clause-does : goal.returns-in-Ok-clause-does
-returns-in-Ok-clause-does g c = ran_does (source_of c.args.bound.now) c.in-Ok.ending c.ending_of.result _ _ (rw c.default_limits.ensures at c.in-Ok.ensures.ran) c.ending_of.ensures
-
-pub returns-in-Err-NotBuilt-clause-known : goal.returns-in-Err-NotBuilt-clause-known
-returns-in-Err-NotBuilt-clause-known g c = lacking_means (source_of c.args.bound.now) (c.in-Err-NotBuilt.ensures.not_built (ap Err c.in-Err-NotBuilt.field-0-is)).0
-
-pub returns-in-Err-NotBuilt-clause-does : goal.returns-in-Err-NotBuilt-clause-does
-returns-in-Err-NotBuilt-clause-does g c =
-    let none = c.in-Err-NotBuilt.ensures.not_built (ap Err c.in-Err-NotBuilt.field-0-is) in
-    lacking_does (source_of c.args.bound.now) _ _ none.0 none.1
+returns-in-Ok-clause-does g c given meaning told = ran_does (source_of c.args.bound.now) given c.in-Ok.end c.ending_of.result _ _ (rw c.default_limits.ensures at (c.in-Ok.ensures.ran given told)) c.ending_of.ensures meaning
 
 pub returns-in-Err-Memory-clause-does : goal.returns-in-Err-Memory-clause-does
-returns-in-Err-Memory-clause-does g c = failed_begins (source_of c.args.bound.now) _ _ c.in-Err-Memory.ensures.unwritten (rw c.default_limits.ensures at c.in-Err-Memory.ensures.part)
+returns-in-Err-Memory-clause-does g c given meaning told =
+    failed_begins (source_of c.args.bound.now) given _ _
+    (broken_by (source_of c.args.bound.now) c.default_limits.result given _ _ c.in-Err-Memory.field-0 Memory c.in-Err-Memory.field-0-is c.default_limits.ensures (c.in-Err-Memory.ensures.broken given told)) meaning
+
+pub returns-in-Err-Input-clause-does : goal.returns-in-Err-Input-clause-does
+returns-in-Err-Input-clause-does g c given meaning told =
+    failed_begins (source_of c.args.bound.now) given _ _
+    (broken_by (source_of c.args.bound.now) c.default_limits.result given _ _ c.in-Err-Input.field-0 Input c.in-Err-Input.field-0-is c.default_limits.ensures (c.in-Err-Input.ensures.broken given told)).1 meaning
+
+pub returns-in-Err-Input-clause-cut : goal.returns-in-Err-Input-clause-cut
+returns-in-Err-Input-clause-cut g c given told is =
+    (broken_by (source_of c.args.bound.now) c.default_limits.result given _ _ c.in-Err-Input.field-0 Input c.in-Err-Input.field-0-is c.default_limits.ensures (c.in-Err-Input.ensures.broken given told)).0
 
 pub returns-in-Err-Output-clause-does : goal.returns-in-Err-Output-clause-does
-returns-in-Err-Output-clause-does g c = failed_begins (source_of c.args.bound.now) _ _ c.in-Err-Output.ensures.unwritten (rw c.default_limits.ensures at c.in-Err-Output.ensures.part)
+returns-in-Err-Output-clause-does g c given meaning told =
+    failed_begins (source_of c.args.bound.now) given _ _
+    (broken_by (source_of c.args.bound.now) c.default_limits.result given _ _ c.in-Err-Output.field-0 Output c.in-Err-Output.field-0-is c.default_limits.ensures (c.in-Err-Output.ensures.broken given told)) meaning

@@ -1,10 +1,24 @@
 use Rattle.std.proofs.Common.{[], Option, refl, subst}
 use Rattle.sim_driver.specs.Answer.{Answer, IsAnswerFor}
-use Rattle.sim_driver.specs.Words.{Request}
+use Rattle.sim_driver.specs.Words.{Request, texts}
 use Rattle.sim_driver.specs.declared.status.Status.TheVariants.{Usage}
+use Rattle.sim_driver.proofs.Requests.{answer_of, tells_file}
 use Rattle.sim_driver.proofs.command.run_command.Goals as goal
 
 pub returns-in-None-clause-answered : goal.returns-in-None-clause-answered
-returns-in-None-clause-answered g c source tells is =
+returns-in-None-clause-answered g c source given tells told is =
     let usage : Answer = record { status = Usage; output = [] } in
-    (usage, subst (λ (request : Option Request). IsAnswerFor request source usage) c.in-None.ensures refl)
+    (usage, subst (λ (request : Option Request). IsAnswerFor request source given usage) c.in-None.ensures refl)
+
+pub returns-in-Some-clause-answered : goal.returns-in-Some-clause-answered
+returns-in-Some-clause-answered g c source given tells told is =
+    let words = texts c.args.words.now in
+    let request : Request = record { command = c.in-Some.field-0.command; file = c.in-Some.field-0.file.now } in
+    answer_of words source given request c.in-Some.ensures
+    (c.answer_request.ensures.answered source given (tells_file (g.F.Files.content c.args.files.now) words source request c.in-Some.ensures tells) told is)
+
+pub returns-in-Some-clause-untouched : goal.returns-in-Some-clause-untouched
+returns-in-Some-clause-untouched g c source rule line tells compiles =
+    let words = texts c.args.words.now in
+    let request : Request = record { command = c.in-Some.field-0.command; file = c.in-Some.field-0.file.now } in
+    c.answer_request.ensures.untouched source rule line (tells_file (g.F.Files.content c.args.files.now) words source request c.in-Some.ensures tells) compiles

@@ -1,8 +1,8 @@
-use Rattle.sim_driver.proofs.Known.{bound_checked, refused_checked}
+use Rattle.sim_driver.proofs.Known.{checks_as, refused_checked}
 use Rattle.sim_driver.proofs.compiling.bind_checked.Goals as goal
 
 pub returns-in-Ok : goal.returns-in-Ok
-returns-in-Ok c = bound_checked c.args.tokens.now c.args.tree c.in-Ok.bound c.in-Ok.ensures.answers.0 c.in-Ok.ensures.answers.1
+returns-in-Ok c = checks_as c.args.tokens.now c.args.tree c.in-Ok.bound c.in-Ok.ensures.answers.0 c.in-Ok.ensures.answers.1
 
 pub returns-in-Err-Broken : goal.returns-in-Err-Broken
 returns-in-Err-Broken c =

@@ -14,6 +14,6 @@ pub returns-in-Ok-clause-whole : goal.returns-in-Ok-clause-whole
 returns-in-Ok-clause-whole c = whole_source c.in-Ok.tokens.items c.in-Ok.ensures.ended (omega (arith, c.in-Ok.ensures.few, c.requires))
 
 pub returns-in-Err-Broken-clause-reads : goal.returns-in-Err-Broken-clause-reads
-returns-in-Err-Broken-clause-reads c =
-    subst (λ (n : ℕ). SourceRejects c.args.source.now c.in-Err-Broken.rule (record { 0 = n })) (sym c.line_of.ensures.line)
-    (broken_source c.args.source.now c.in-Err-Broken.rule c.in-Err-Broken.place (rw c.in-Err-Broken.field-0-is at c.in-Err-Broken.ensures.sound))
+returns-in-Err-Broken-clause-reads c command =
+    subst (λ (n : ℕ). SourceRejects command c.args.source.now c.in-Err-Broken.rule (record { 0 = n })) (sym c.line_of.ensures.line)
+    (broken_source c.args.source.now c.in-Err-Broken.rule c.in-Err-Broken.place (rw c.in-Err-Broken.field-0-is at c.in-Err-Broken.ensures.sound) command)

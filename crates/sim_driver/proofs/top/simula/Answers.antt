@@ -8,18 +8,18 @@ returns-clause-line_part g c =
     elim c.write_status_line.ensures.says [
       | inl own ↦ (
         c.run_command-status.result,
-        (λ is source answer tells means. (ran.answer source answer tells means is).ends),
+        (λ is source given answer tells told means. (ran.answer source given answer tells told means is).ends),
         record {
           usage = ran.usage;
           file = λ is. (ran.file_fault is).0;
-          read = λ is. absurd (ran.no_input_fault is);
+          read = ran.input_fault;
           write = ran.write_fault;
         },
         own,
       )
       | inr memory ↦ (
         Memory,
-        (λ is source answer tells means. let no : false ≡ true = is in cc no),
+        (λ is source given answer tells told means. let no : false ≡ true = is in cc no),
         record {
           usage = λ is. cc;
           file = λ is. cc;

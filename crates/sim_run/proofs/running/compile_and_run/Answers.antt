@@ -1,14 +1,23 @@
-use Rattle.std.proofs.Common.{Result, Ok, Err}
 use Rattle.sim_scope.specs.Source.{source_of}
-use Rattle.sim_run.proofs.Ran.{part_of_all, ran_of}
+use Rattle.sim_run.proofs.OneEnd.{has_end}
+use Rattle.sim_run.proofs.Ran.{broken_of, ran_of}
+use Rattle.sim_run.proofs.Showing.{is_ruled}
 use Rattle.sim_run.proofs.running.compile_and_run.Goals as goal
 
-pub returns-in-Ok-clause-ran : goal.returns-in-Ok-clause-ran
-returns-in-Ok-clause-ran g c =
-    let built = c.in-Ok.ensures in
-    ran_of (source_of c.args.bound.now) c.in-Ok.code (c.compiled_code_runs_as_meant.ensures (source_of c.args.bound.now) c.in-Ok.code built.0) built.2 c.args.limits.now _ _ c.run_code.result c.run_code.ensures.ended
+pub run_code-requires-clause-ruled : goal.run_code-requires-clause-ruled
+run_code-requires-clause-ruled g c input =
+    is_ruled (source_of c.args.bound.now) c.in-Ok.code (c.compiled_code_runs_as_meant.ensures (source_of c.args.bound.now) c.in-Ok.code c.in-Ok.ensures.0) c.args.limits.now input c.requires
 
-pub returns-in-Ok-clause-part : goal.returns-in-Ok-clause-part
-returns-in-Ok-clause-part g c =
-    let built = c.in-Ok.ensures in
-    part_of_all c.output_grows.ensures (source_of c.args.bound.now) c.in-Ok.code (c.compiled_code_runs_as_meant.ensures (source_of c.args.bound.now) c.in-Ok.code built.0) c.args.limits.now _ _ c.run_code.result c.run_code.ensures.broken
+pub returns-in-Ok-clause-ran : goal.returns-in-Ok-clause-ran
+returns-in-Ok-clause-ran g c bytes told =
+    ran_of (source_of c.args.bound.now) c.in-Ok.code (c.compiled_code_runs_as_meant.ensures (source_of c.args.bound.now) c.in-Ok.code c.in-Ok.ensures.0) c.args.limits.now bytes _ _ c.run_code.result (c.run_code.ensures.ran bytes told)
+
+pub returns-in-Ok-clause-broken : goal.returns-in-Ok-clause-broken
+returns-in-Ok-clause-broken g c bytes told =
+    broken_of c.output_grows.ensures (source_of c.args.bound.now) c.in-Ok.code (c.compiled_code_runs_as_meant.ensures (source_of c.args.bound.now) c.in-Ok.code c.in-Ok.ensures.0) c.args.limits.now bytes _ _ c.run_code.result (c.run_code.ensures.broken bytes told)
+
+pub returns-in-Ok-clause-ends : goal.returns-in-Ok-clause-ends
+returns-in-Ok-clause-ends g c bytes = has_end (source_of c.args.bound.now) c.args.limits.now bytes c.requires (c.every_run_ends.ensures (source_of c.args.bound.now) c.args.limits.now bytes)
+
+pub returns-in-Err-Memory-clause-ends : goal.returns-in-Err-Memory-clause-ends
+returns-in-Err-Memory-clause-ends g c bytes = has_end (source_of c.args.bound.now) c.args.limits.now bytes c.requires (c.every_run_ends.ensures (source_of c.args.bound.now) c.args.limits.now bytes)

@@ -1,4 +1,3 @@
-use Rattle.sim_scope.specs.Source.{source_of}
 use Rattle.text_tables.proofs.Passing as p
 use Rattle.text_tables.proofs.formals.formals_among.Goals as goal
 

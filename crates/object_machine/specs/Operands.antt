@@ -1,0 +1,39 @@
+-- Operands of standard names, which may be addresses of texts.
+use Rattle.std.specs.Prelude.{◌≡◌, ℕ, zero, suc, ◌+◌, ◌-◌, ◌<◌, ◌≤◌, Bool, true, false, List, Option, Some, None}
+use Rattle.sim_values.specs.Plain.{Plain}
+use Rattle.sim_code.specs.Events.{only_text}
+use Rattle.sim_code.specs.Machine.{Frames, Value, operand, plain, plain_in}
+use Rattle.sim_code.specs.Outcome.{World}
+use Rattle.frame_arena.specs.declared.slot.Slot.{Slot}
+use Rattle.frame_arena.specs.Slots.{empty_slot, value_of}
+use Rattle.frame_arena.specs.Stacks.{slot_at}
+
+-- the text of a value, if it is one
+abbrev pub text_there : Option Value → Option Plain
+text_there v = only_text (plain_in v)
+
+-- what was read, if anything was
+abbrev pub read_as : Option Slot → Option Plain
+read_as None = None
+read_as (Some s) = plain (value_of s)
+
+-- the first of as many last values
+abbrev pub first_slot : (count depth : ℕ) → List Slot → Slot
+first_slot zero depth stack = empty_slot
+first_slot (suc n) depth stack = slot_at stack (depth - suc n)
+
+-- each operand of a stack is what stands in its place in another one, and below them both are the same
+pub record AllRead (o : World) (m : Frames) (first end : ℕ) (old new : List Slot) : Type 0 where
+  pub read : (at : ℕ) → first ≤ at → at < end → operand o m (value_of (slot_at old at)) ≡ plain (value_of (slot_at new at))
+  pub below : (at : ℕ) → at < first → slot_at new at ≡ slot_at old at
+
+-- an operand is nothing
+pub record OneUnread (o : World) (m : Frames) (first end : ℕ) (old : List Slot) : Type 0 where
+  pub place : ℕ
+  pub begins : first ≤ place
+  pub ends : place < end
+  pub nothing : operand o m (value_of (slot_at old place)) ≡ None
+
+abbrev pub OperandsRead : Bool → World → Frames → (first end : ℕ) → (old new : List Slot) → Type 0
+OperandsRead true o m first end old new = AllRead o m first end old new
+OperandsRead false o m first end old new = OneUnread o m first end old

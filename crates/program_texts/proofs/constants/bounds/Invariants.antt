@@ -1,0 +1,6 @@
+use Rattle.program_texts.specs.ConstantTrees.{of_bounds}
+use Rattle.program_texts.proofs.Gathered.{Owes}
+use Rattle.program_texts.proofs.constants.bounds.Given as goal
+
+abbrev pub invariant-loop-item : goal.invariant-loop-item
+invariant-loop-item l = Owes of_bounds l.fn.list.items l.trees l.list.items l.item-index

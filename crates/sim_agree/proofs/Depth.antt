@@ -1,0 +1,435 @@
+-- Where the tokens of a plain program are in order, a block whose text has a token is around the innermost block of that token.
+use Rattle.std.proofs.Common.{◌≡◌, ◌<◌, ◌≤◌, ◌+◌, ◌-◌, ◌⊎◌, inl, inr, ℕ, zero, suc, Bool, true, false, List, [], ◌∷◌, ◌++◌, length, Option, Some, None, refl, sym, ap, ◌∙◌, subst, arith, if◌then◌else◌}
+use Rattle.std.specs.Prelude.{◌&&◌, nat_eq, nat_le, nat_lt, replicate, slice_get, slice_set}
+use Rattle.std.specs.List.{list_any}
+use Rattle.std.specs.Str.{bytes_eq}
+use Rattle.std.proofs.lemmas.List.{length-append, length-set}
+use Rattle.std.proofs.lemmas.Option.{slice_get_within}
+use Rattle.std.proofs.lemmas.Bool.Decides.{nat_tests}
+use Rattle.sim_base.specs.declared.rule.Rule.{Rule}
+use Rattle.sim_base.specs.declared.rule.Rule.TheVariants as r
+use Rattle.sim_tree.specs.declared.expr.Identifier.{Identifier}
+use Rattle.sim_tree.specs.Order.{Ascends, InOrder, Spot}
+use Rattle.sim_tree.specs.Syntax.{Program}
+use Rattle.sim_scope.specs.declared.types.BlockKind.{BlockKind}
+use Rattle.sim_scope.specs.declared.types.BlockKind.TheVariants as kind
+use Rattle.sim_scope.specs.declared.types.Entry.{Entry}
+use Rattle.sim_scope.specs.declared.types.Entry.TheVariants as entry
+use Rattle.sim_scope.specs.Building.{BuildingOf, Mark, block_around, broken, broken_if, closed, closed_at, counted, counted_in, declared, declared_at, declared_inside, declared_new, found_in, headed as headed_of, level_in, marked, most_levels, opened, owner_of, parameter as parameter_of, placed, unspecified_at, with_name}
+use Rattle.sim_scope.specs.Calls.{inside_block, is_inside}
+use Rattle.sim_scope.specs.Declare.{declared_by, empty, result_named}
+use Rattle.sim_scope.specs.Runs.{run}
+use Rattle.sim_scope.specs.Scopes.{around, block_at, declared_in, encloser, joined}
+use Rattle.sim_scope.specs.Source.{Source}
+use Rattle.sim_scope.specs.Tables.{BlockOf, Tables}
+use Rattle.sim_scope.proofs.Kept.{kept_set, more_here, more_other, set_here, set_other}
+use Rattle.sim_meaning.specs.Texts.{Text}
+use Rattle.sim_sound.specs.Typed.{Around, further, itself}
+use Rattle.sim_agree.specs.Plain.{Plain}
+use Rattle.sim_agree.proofs.Clean.{Quiet, moded_quiet, specified_quiet}
+use Rattle.sim_agree.proofs.Laid.{Frame, Laid, block, closes, declares, headed, leaves, moded, nothing, parameter, passes, procedure, program, program_laid, specified, uses}
+use Rattle.sim_agree.proofs.Spots.{reached}
+use Rattle.sim_agree.proofs.Steps.{Step, declared_step, headed_step, moded_step, parameter_step, specified_step}
+
+-- ---- what marks that begin and end no block leave as it is
+
+-- the first token of a block, the token behind it, and the block around it
+abbrev Span : Type 0
+Span = Option (ℕ × ℕ × Option ℕ)
+
+abbrev span : Option BlockOf → Span
+span None = None
+span (Some row) = Some (row.first, row.end, row.encloser)
+
+record Calm (b c : BuildingOf) : Type 0 where
+  current : c.current ≡ b.current
+  size : length c.tables.blocks ≡ length b.tables.blocks
+  places : c.tables.places ≡ b.tables.places
+  spans : (j : ℕ) → span (slice_get c.tables.blocks j) ≡ span (slice_get b.tables.blocks j)
+
+some_same : {A : Type 0} (a b : A) → Some a ≡ Some b → a ≡ b
+some_same a b e = cc
+
+if_spans : (a : Bool) (b c : BuildingOf) (token : ℕ) (rule : Rule) → ((j : ℕ) → span (slice_get c.tables.blocks j) ≡ span (slice_get b.tables.blocks j)) → (j : ℕ) → span (slice_get (broken_if a c token rule).tables.blocks j) ≡ span (slice_get b.tables.blocks j)
+if_spans true b c token rule h j = h j
+if_spans false b c token rule h j = h j
+
+declared_row : (b : BuildingOf) (x : Identifier) (e : Entry) (n : ℕ) (o : Option BlockOf) → slice_get b.tables.blocks n ≡ o → (j : ℕ) → span (slice_get (declared_at b x e n o).tables.blocks j) ≡ span (slice_get b.tables.blocks j)
+declared_row b x e n None at j = refl
+declared_row b x e n (Some row) at j = go (list_any (bytes_eq x.name) row.names)
+  where
+    go : (c : Bool) → span (slice_get (if c then broken (record b { latest = declared_in (Some row) x.name }) x.token.0 r.DeclaredTwice else declared_new b x e n row).tables.blocks j) ≡ span (slice_get b.tables.blocks j)
+    go true = refl
+    go false = if_spans (nat_eq (length b.tables.declarations) 65535) b _ x.token.0 r.TooManyDeclarations (λ i. kept_set span b.tables.blocks n row (with_name row x.name (record { 0 = length b.tables.declarations })) at refl i) j
+
+declared_spans : (b : BuildingOf) (x : Identifier) (e : Entry) (o : Option ℕ) (j : ℕ) → span (slice_get (declared_inside b x e o).tables.blocks j) ≡ span (slice_get b.tables.blocks j)
+declared_spans b x e None j = refl
+declared_spans b x e (Some n) j = declared_row b x e n (slice_get b.tables.blocks n) refl j
+
+counted_spans : (b : BuildingOf) (o : Option ℕ) (j : ℕ) → span (slice_get (counted_in b o).tables.blocks j) ≡ span (slice_get b.tables.blocks j)
+counted_spans b None j = refl
+counted_spans b (Some n) j = go (slice_get b.tables.blocks n) refl
+  where
+    go : (o : Option BlockOf) → slice_get b.tables.blocks n ≡ o → span (slice_get (counted b n o).tables.blocks j) ≡ span (slice_get b.tables.blocks j)
+    go None at = refl
+    go (Some row) at = kept_set span b.tables.blocks n row (record row { formals = length row.numbers }) at refl j
+
+calm : (b c : BuildingOf) {New : ℕ → _} → Step b c New → ((j : ℕ) → span (slice_get c.tables.blocks j) ≡ span (slice_get b.tables.blocks j)) → Calm b c
+calm b c s h = record { current = s.current; size = s.size; places = s.places; spans = h }
+
+quiet_calm : (b c : BuildingOf) {New : ℕ → _} → Step b c New → Quiet b c → Calm b c
+quiet_calm b c s q = calm b c s (λ j. ap (λ z. span (slice_get z j)) q.0)
+
+-- ---- blocks around one another
+
+data Chain (bs : List BlockOf) : (inner outer : ℕ) → Type 0 where
+  same : {k : ℕ} → Chain bs k k
+  beyond : {k u j : ℕ} → around (slice_get bs k) ≡ Some u → Chain bs u j → Chain bs k j
+
+chain_kept : (bs cs : List BlockOf) → ((t u : ℕ) → around (slice_get bs t) ≡ Some u → around (slice_get cs t) ≡ Some u) → {k j : ℕ} → Chain bs k j → Chain cs k j
+chain_kept bs cs keep same = same
+chain_kept bs cs keep (beyond e c) = beyond (keep _ _ e) (chain_kept bs cs keep c)
+
+-- a block that is open
+abbrev IsOpen : BuildingOf → ℕ → Type 0
+IsOpen b j = (n : ℕ) × (b.current ≡ Some n) × Chain b.tables.blocks n j
+
+record Deep (b : BuildingOf) (from : ℕ) : Type 0 where
+  reach : length b.tables.places ≤ from
+  within : (n : ℕ) → b.current ≡ Some n → n < length b.tables.blocks
+  nested : (t u : ℕ) → around (slice_get b.tables.blocks t) ≡ Some u → u < length b.tables.blocks
+  ends : (j : ℕ) (row : BlockOf) → slice_get b.tables.blocks j ≡ Some row → IsOpen b j ⊎ (row.end ≤ length b.tables.places)
+  deep : (i k j : ℕ) (row : BlockOf) → slice_get b.tables.places i ≡ Some (Some k) → slice_get b.tables.blocks j ≡ Some row → row.first ≤ i → IsOpen b j ⊎ (i < row.end) → Chain b.tables.blocks k j
+
+later_deep : (b : BuildingOf) (from to : ℕ) → from ≤ to → Deep b from → Deep b to
+later_deep b from to le d = record { reach = (let q : length b.tables.places ≤ from = d.reach in omega arith); within = d.within; nested = d.nested; ends = d.ends; deep = d.deep }
+
+abbrev out_of : Span → Option ℕ
+out_of None = None
+out_of (Some x) = x.2
+
+out_span : (o : Option BlockOf) → out_of (span o) ≡ around o
+out_span None = refl
+out_span (Some row) = refl
+
+span_row : (o : Option BlockOf) (row : BlockOf) → span o ≡ span (Some row) → (old : BlockOf) × (o ≡ Some old) × (old.first ≡ row.first) × (old.end ≡ row.end)
+span_row None row e = absurd (cc)
+span_row (Some old) row e =
+    let both : (old.first, old.end, old.encloser) ≡ (row.first, row.end, row.encloser) = some_same {A = ℕ × ℕ × Option ℕ} (old.first, old.end, old.encloser) (row.first, row.end, row.encloser) e in
+    (old, refl, ap (λ (z : ℕ × ℕ × Option ℕ). z.0) both, ap (λ (z : ℕ × ℕ × Option ℕ). z.1) both)
+
+calm_deep : (b c : BuildingOf) (from : ℕ) → Calm b c → Deep b from → Deep c from
+calm_deep b c from m d = record {
+  reach = (let q : length b.tables.places ≤ from = d.reach in let e : length c.tables.places ≡ length b.tables.places = ap length m.places in omega arith);
+  within = λ n e. (let lt : n < length b.tables.blocks = d.within n (sym m.current ∙ e) in let z : length c.tables.blocks ≡ length b.tables.blocks = m.size in omega arith);
+  nested = λ t u e. (let lt : u < length b.tables.blocks = d.nested t u (sym (out t) ∙ e) in let z : length c.tables.blocks ≡ length b.tables.blocks = m.size in omega arith);
+  ends = λ j row at. (let q = old j row at in ends j q.0 row q.2.1 (d.ends j q.0 q.1));
+  deep = λ i k j row p at le h. (let q = old j row at in chain_kept b.tables.blocks c.tables.blocks (λ t u e. out t ∙ e) (d.deep i k j q.0 (sym (ap (λ z. slice_get z i) m.places) ∙ p) q.1 (let e : q.0.first ≡ row.first = q.2.0 in omega arith) (back j i q.0 row q.2.1 h)));
+}
+  where
+    out : (t : ℕ) → around (slice_get c.tables.blocks t) ≡ around (slice_get b.tables.blocks t)
+    out t = sym (out_span (slice_get c.tables.blocks t)) ∙ ap out_of (m.spans t) ∙ out_span (slice_get b.tables.blocks t)
+
+    old : (j : ℕ) (row : BlockOf) → slice_get c.tables.blocks j ≡ Some row → (was : BlockOf) × (slice_get b.tables.blocks j ≡ Some was) × ((was.first ≡ row.first) × (was.end ≡ row.end))
+    old j row at = let q = span_row (slice_get b.tables.blocks j) row (sym (m.spans j) ∙ ap span at) in (q.0, q.1, (q.2, q.3))
+
+    forth : (j : ℕ) → IsOpen b j → IsOpen c j
+    forth j q = (q.0, m.current ∙ q.1, chain_kept b.tables.blocks c.tables.blocks (λ t u e. out t ∙ e) q.2)
+
+    ends : (j : ℕ) (was row : BlockOf) → was.end ≡ row.end → IsOpen b j ⊎ (was.end ≤ length b.tables.places) → IsOpen c j ⊎ (row.end ≤ length c.tables.places)
+    ends j was row e (inl q) = inl (forth j q)
+    ends j was row e (inr q) = inr (let le : was.end ≤ length b.tables.places = q in let z : length c.tables.places ≡ length b.tables.places = ap length m.places in omega (arith, e))
+
+    back : (j i : ℕ) (was row : BlockOf) → was.end ≡ row.end → IsOpen c j ⊎ (i < row.end) → IsOpen b j ⊎ (i < was.end)
+    back j i was row e (inl q) = inl (q.0, sym m.current ∙ q.1, chain_kept c.tables.blocks b.tables.blocks (λ t u f. sym (out t) ∙ f) q.2)
+    back j i was row e (inr q) = inr (let lt : i < row.end = q in omega (arith, e))
+
+-- ---- a block begins
+
+place_cases : (xs : List (Option ℕ)) (o : Option ℕ) (m i : ℕ) (y : Option ℕ) → slice_get (xs ++ replicate m o) i ≡ Some y → (slice_get xs i ≡ Some y) ⊎ ((y ≡ o) × (length xs ≤ i))
+place_cases [] o m i y at = inr (repeated m i at, omega arith)
+  where
+    repeated : (m i : ℕ) → slice_get (replicate m o) i ≡ Some y → y ≡ o
+    repeated zero i at = absurd (cc)
+    repeated (suc m) zero at = cc
+    repeated (suc m) (suc i) at = repeated m i at
+place_cases (x ∷ xs) o m zero y at = inl at
+place_cases (x ∷ xs) o m (suc i) y at = next (place_cases xs o m i y at)
+  where
+    next : (slice_get xs i ≡ Some y) ⊎ ((y ≡ o) × (length xs ≤ i)) → (slice_get (x ∷ xs) (suc i) ≡ Some y) ⊎ ((y ≡ o) × (length (x ∷ xs) ≤ suc i))
+    next (inl h) = inl h
+    next (inr h) = inr (h.0, (let le : length xs ≤ i = h.1 in omega arith))
+
+begun_deep : (b : BuildingOf) (new : BlockOf) (first from : ℕ) → from ≤ first → new.first ≡ first → new.end ≡ first → new.encloser ≡ b.current → Deep b from
+    → Deep (record b { tables = record b.tables { blocks = b.tables.blocks ++ new ∷ []; places = (placed b.tables b.current first).places }; current = Some (length b.tables.blocks) }) (first + 1)
+begun_deep b new first from le is_first is_end out d = record {
+  reach = (let e : length ps ≡ first = long in omega arith);
+  within = λ n e. (let z : length b.tables.blocks ≡ n = some_same (length b.tables.blocks) n e in let m : length cs ≡ length b.tables.blocks + 1 = more in omega arith);
+  nested = λ t u e. nested t u (nat_eq t (length b.tables.blocks)) refl e;
+  ends = λ j row at. ends j row (nat_eq j (length b.tables.blocks)) refl at;
+  deep = λ i k j row p at lo h. deep i k j row (nat_eq j (length b.tables.blocks)) refl at lo h (let lt : i < length ps = slice_get_within ps i (Some k) p in let e : length ps ≡ first = long in omega arith) (place_cases b.tables.places b.current (first - length b.tables.places) i (Some k) p);
+}
+  where
+    bs : List BlockOf
+    bs = b.tables.blocks
+
+    cs : List BlockOf
+    cs = b.tables.blocks ++ new ∷ []
+
+    ps : List (Option ℕ)
+    ps = (placed b.tables b.current first).places
+
+    c : BuildingOf
+    c = record b { tables = record b.tables { blocks = b.tables.blocks ++ new ∷ []; places = (placed b.tables b.current first).places }; current = Some (length b.tables.blocks) }
+
+    reach : length b.tables.places ≤ first
+    reach = let q : length b.tables.places ≤ from = d.reach in omega arith
+
+    long : length (placed b.tables b.current first).places ≡ first
+    long = reached b.tables.places b.current first reach
+
+    more : length (b.tables.blocks ++ new ∷ []) ≡ length b.tables.blocks + 1
+    more = length-append bs (new ∷ [])
+
+    is_new : (t : ℕ) → nat_eq t (length b.tables.blocks) ≡ true → slice_get (b.tables.blocks ++ new ∷ []) t ≡ Some new
+    is_new t e = let z : t ≡ length b.tables.blocks = grind (arith, nat_tests) in ap (slice_get cs) z ∙ more_here bs new
+
+    under : around (slice_get (b.tables.blocks ++ new ∷ []) (length b.tables.blocks)) ≡ b.current
+    under = ap around (more_here bs new) ∙ out
+
+    in_range : (t u : ℕ) → around (slice_get b.tables.blocks t) ≡ Some u → t < length b.tables.blocks
+    in_range t u e = go (slice_get bs t) refl e
+      where
+        go : (o : Option BlockOf) → slice_get bs t ≡ o → around o ≡ Some u → t < length b.tables.blocks
+        go None at f = absurd (cc)
+        go (Some row) at f = slice_get_within bs t row at
+
+    keep : (t u : ℕ) → around (slice_get b.tables.blocks t) ≡ Some u → around (slice_get (b.tables.blocks ++ new ∷ []) t) ≡ Some u
+    keep t u e = let lt : t < length b.tables.blocks = in_range t u e in ap around (more_other bs new t (let P : nat_eq t (length b.tables.blocks) ≡ false = grind (arith, nat_tests) in P)) ∙ e
+
+    nested : (t u : ℕ) (z : Bool) → nat_eq t (length b.tables.blocks) ≡ z → around (slice_get (b.tables.blocks ++ new ∷ []) t) ≡ Some u → u < length (b.tables.blocks ++ new ∷ [])
+    nested t u true z e = let lt : u < length b.tables.blocks = d.within u (sym out ∙ sym (ap around (is_new t z)) ∙ e) in let m : length cs ≡ length b.tables.blocks + 1 = more in omega arith
+    nested t u false z e = let lt : u < length b.tables.blocks = d.nested t u (sym (ap around (more_other bs new t z)) ∙ e) in let m : length cs ≡ length b.tables.blocks + 1 = more in omega arith
+
+    -- what is open with the new block innermost
+    opens : (j : ℕ) → IsOpen b j → IsOpen c j
+    opens j q = (length bs, refl, beyond (under ∙ q.1) (chain_kept bs cs keep q.2))
+
+    -- from an old block outward nothing is new
+    old_chain : {k j : ℕ} → k < length b.tables.blocks → Chain (b.tables.blocks ++ new ∷ []) k j → Chain b.tables.blocks k j
+    old_chain lt same = same
+    old_chain {k = k} lt (beyond {u = u} e rest) =
+        let f : around (slice_get bs k) ≡ Some u = sym (ap around (more_other bs new k (let P : nat_eq k (length b.tables.blocks) ≡ false = grind (arith, nat_tests) in P))) ∙ e in
+        beyond f (old_chain (d.nested k u f) rest)
+
+    open_old : (j : ℕ) → nat_eq j (length b.tables.blocks) ≡ false → {n : ℕ} → Some (length b.tables.blocks) ≡ Some n → Chain (b.tables.blocks ++ new ∷ []) n j → IsOpen b j
+    open_old j z e same = absurd (let f : length b.tables.blocks ≡ j = some_same (length b.tables.blocks) j e in let P : nat_eq j (length b.tables.blocks) ≡ true = grind (arith, nat_tests) in let Q : true ≡ false = sym P ∙ z in cc)
+    open_old j z {n = n} e (beyond {u = u} f rest) =
+        let g : b.current ≡ Some u = sym under ∙ subst (λ m. around (slice_get cs m) ≡ Some u) (sym (some_same (length b.tables.blocks) n e)) f in
+        (u, g, old_chain (d.within u g) rest)
+
+    ends : (j : ℕ) (row : BlockOf) (z : Bool) → nat_eq j (length b.tables.blocks) ≡ z → slice_get (b.tables.blocks ++ new ∷ []) j ≡ Some row → IsOpen c j ⊎ (row.end ≤ length (placed b.tables b.current first).places)
+    ends j row true z at = let e : length b.tables.blocks ≡ j = grind (arith, nat_tests) in inl (length bs, refl, subst (λ m. Chain cs (length bs) m) e same)
+    ends j row false z at = go (d.ends j row (sym (more_other bs new j z) ∙ at))
+      where
+        go : IsOpen b j ⊎ (row.end ≤ length b.tables.places) → IsOpen c j ⊎ (row.end ≤ length (placed b.tables b.current first).places)
+        go (inl q) = inl (opens j q)
+        go (inr q) = inr (let lo : row.end ≤ length b.tables.places = q in let e : length ps ≡ first = long in omega arith)
+
+    deep : (i k j : ℕ) (row : BlockOf) (z : Bool) → nat_eq j (length b.tables.blocks) ≡ z → slice_get (b.tables.blocks ++ new ∷ []) j ≡ Some row → row.first ≤ i → IsOpen c j ⊎ (i < row.end) → i < first
+        → (slice_get b.tables.places i ≡ Some (Some k)) ⊎ ((Some k ≡ b.current) × (length b.tables.places ≤ i)) → Chain (b.tables.blocks ++ new ∷ []) k j
+    deep i k j row true z at lo h lt p = let e : row.first ≡ first = ap (λ (y : BlockOf). y.first) (some_same row new (sym at ∙ is_new j z)) ∙ is_first in absurd (omega arith)
+    deep i k j row false z at lo h lt (inl p) = chain_kept bs cs keep (d.deep i k j row p (sym (more_other bs new j z) ∙ at) lo (back h))
+      where
+        back : IsOpen c j ⊎ (i < row.end) → IsOpen b j ⊎ (i < row.end)
+        back (inl q) = inl (open_old j z q.1 q.2)
+        back (inr q) = inr q
+    deep i k j row false z at lo h lt (inr p) = chain_kept bs cs keep (go h (d.ends j row (sym (more_other bs new j z) ∙ at)))
+      where
+        of_open : IsOpen b j → Chain b.tables.blocks k j
+        of_open q = subst (λ m. Chain b.tables.blocks m j) (some_same q.0 k (sym q.1 ∙ sym p.0)) q.2
+
+        go : IsOpen c j ⊎ (i < row.end) → IsOpen b j ⊎ (row.end ≤ length b.tables.places) → Chain b.tables.blocks k j
+        go (inl q) e = of_open (open_old j z q.1 q.2)
+        go (inr q) (inl e) = of_open e
+        go (inr q) (inr e) = absurd (let lt' : i < row.end = q in let hi : row.end ≤ length b.tables.places = e in let lo' : length b.tables.places ≤ i = p.1 in omega arith)
+
+-- ---- a block ends
+
+closed_row : (b : BuildingOf) (end n from : ℕ) (o : Option BlockOf) → from ≤ end → b.current ≡ Some n → slice_get b.tables.blocks n ≡ o → (row : BlockOf) → o ≡ Some row → Deep b from → Deep (closed_at b end n o) end
+closed_row b end n from None le cur at found is d = absurd (cc)
+closed_row b end n from (Some row) le cur at found is d = record {
+  reach = (let e : length (placed b.tables b.current end).places ≡ end = long in omega arith);
+  within = λ m e. (let lt : m < length bs = d.nested n m (ap around at ∙ e) in let z : length (slice_set b.tables.blocks n (record row { end = end })) ≡ length bs = length-set bs n (record row { end = end }) in omega arith);
+  nested = λ t u e. (let lt : u < length bs = d.nested t u (sym (out t) ∙ e) in let z : length (slice_set b.tables.blocks n (record row { end = end })) ≡ length bs = length-set bs n (record row { end = end }) in omega arith);
+  ends = λ j other at'. ends j other (nat_eq n j) refl at';
+  deep = λ i k j other p at' lo h. deep i k j other (nat_eq n j) refl at' lo h (place_cases b.tables.places b.current (end - length b.tables.places) i (Some k) p);
+}
+  where
+    bs : List BlockOf
+    bs = b.tables.blocks
+
+    new : BlockOf
+    new = record row { end = end }
+
+    cs : List BlockOf
+    cs = slice_set b.tables.blocks n (record row { end = end })
+
+    c : BuildingOf
+    c = closed_at b end n (Some row)
+
+    long : length (placed b.tables b.current end).places ≡ end
+    long = reached b.tables.places b.current end (let q : length b.tables.places ≤ from = d.reach in omega arith)
+
+    out : (t : ℕ) → around (slice_get (slice_set b.tables.blocks n (record row { end = end })) t) ≡ around (slice_get b.tables.blocks t)
+    out t = kept_set around bs n row new at refl t
+
+    keep : (t u : ℕ) → around (slice_get b.tables.blocks t) ≡ Some u → around (slice_get (slice_set b.tables.blocks n (record row { end = end })) t) ≡ Some u
+    keep t u e = out t ∙ e
+
+    -- what is open stays so, but the block that ends
+    opens : (j : ℕ) → nat_eq n j ≡ false → IsOpen b j → IsOpen (closed_at b end n (Some row)) j
+    opens j z q = go q.1 q.2
+      where
+        go : {m : ℕ} → b.current ≡ Some m → Chain b.tables.blocks m j → IsOpen (closed_at b end n (Some row)) j
+        go e same = absurd (let f : n ≡ j = some_same n j (sym cur ∙ e) in let P : nat_eq n j ≡ true = grind (arith, nat_tests) in let Q : true ≡ false = sym P ∙ z in cc)
+        go {m = m} e (beyond {u = u} f rest) =
+            let g : row.encloser ≡ Some u = sym (ap around at) ∙ subst (λ y. around (slice_get bs y) ≡ Some u) (some_same m n (sym e ∙ cur)) f in (u, g, chain_kept bs cs keep rest)
+
+    back : (j : ℕ) → IsOpen (closed_at b end n (Some row)) j → IsOpen b j
+    back j q = (n, cur, beyond (ap around at ∙ q.1) (chain_kept cs bs (λ t u e. sym (out t) ∙ e) q.2))
+
+    ends : (j : ℕ) (other : BlockOf) (z : Bool) → nat_eq n j ≡ z → slice_get (slice_set b.tables.blocks n (record row { end = end })) j ≡ Some other → IsOpen (closed_at b end n (Some row)) j ⊎ (other.end ≤ length (placed b.tables b.current end).places)
+    ends j other true z at' =
+        let f : n ≡ j = grind (arith, nat_tests) in
+        let g : new ≡ other = some_same new other (sym (set_here bs n row new at) ∙ subst (λ m. slice_get cs m ≡ Some other) (sym f) at') in
+        inr (let e : end ≡ other.end = ap (λ (y : BlockOf). y.end) g in let l : length (placed b.tables b.current end).places ≡ end = long in omega arith)
+    ends j other false z at' = go (d.ends j other (sym (set_other bs n j new z) ∙ at'))
+      where
+        go : IsOpen b j ⊎ (other.end ≤ length b.tables.places) → IsOpen (closed_at b end n (Some row)) j ⊎ (other.end ≤ length (placed b.tables b.current end).places)
+        go (inl q) = inl (opens j z q)
+        go (inr q) = inr (let lo : other.end ≤ length b.tables.places = q in let hi : length b.tables.places ≤ from = d.reach in let l : length (placed b.tables b.current end).places ≡ end = long in omega arith)
+
+    deep : (i k j : ℕ) (other : BlockOf) (z : Bool) → nat_eq n j ≡ z → slice_get (slice_set b.tables.blocks n (record row { end = end })) j ≡ Some other → other.first ≤ i → IsOpen (closed_at b end n (Some row)) j ⊎ (i < other.end)
+        → (slice_get b.tables.places i ≡ Some (Some k)) ⊎ ((Some k ≡ b.current) × (length b.tables.places ≤ i)) → Chain (slice_set b.tables.blocks n (record row { end = end })) k j
+    deep i k j other true z at' lo h (inl p) =
+        let f : n ≡ j = grind (arith, nat_tests) in
+        let g : new ≡ other = some_same new other (sym (set_here bs n row new at) ∙ subst (λ m. slice_get cs m ≡ Some other) (sym f) at') in
+        let e : row.first ≡ other.first = ap (λ (y : BlockOf). y.first) g in
+        chain_kept bs cs keep (subst (λ m. Chain bs k m) f (d.deep i k n row p at (omega arith) (inl (n, cur, same))))
+    deep i k j other true z at' lo h (inr p) = let f : n ≡ j = grind (arith, nat_tests) in let g : n ≡ k = some_same n k (sym cur ∙ sym p.0) in subst (λ m. Chain cs k m) (sym g ∙ f) same
+    deep i k j other false z at' lo h (inl p) = chain_kept bs cs keep (d.deep i k j other p (sym (set_other bs n j new z) ∙ at') lo (earlier h))
+      where
+        earlier : IsOpen (closed_at b end n (Some row)) j ⊎ (i < other.end) → IsOpen b j ⊎ (i < other.end)
+        earlier (inl q) = inl (back j q)
+        earlier (inr q) = inr q
+    deep i k j other false z at' lo h (inr p) = chain_kept bs cs keep (go h (d.ends j other (sym (set_other bs n j new z) ∙ at')))
+      where
+        of_open : IsOpen b j → Chain b.tables.blocks k j
+        of_open q = subst (λ m. Chain b.tables.blocks m j) (some_same q.0 k (sym q.1 ∙ sym p.0)) q.2
+
+        go : IsOpen (closed_at b end n (Some row)) j ⊎ (i < other.end) → IsOpen b j ⊎ (other.end ≤ length b.tables.places) → Chain b.tables.blocks k j
+        go (inl q) e = of_open (back j q)
+        go (inr q) (inl e) = of_open e
+        go (inr q) (inr e) = absurd (let lt : i < other.end = q in let hi : other.end ≤ length b.tables.places = e in let lo' : length b.tables.places ≤ i = p.1 in omega arith)
+
+row_in : (bs : List BlockOf) (n : ℕ) → n < length bs → (row : BlockOf) × (slice_get bs n ≡ Some row)
+row_in [] n lt = absurd (omega arith)
+row_in (b ∷ bs) zero lt = (b, refl)
+row_in (b ∷ bs) (suc n) lt = let e : length (b ∷ bs) ≡ suc (length bs) = omega arith in row_in bs n (omega arith)
+
+-- where no block is open none ends
+closed_deep : (b : BuildingOf) (end from : ℕ) (o : Option ℕ) → b.current ≡ o → from ≤ end → Deep b from → Deep (closed b end o) end
+closed_deep b end from None e le d = later_deep b from end le d
+closed_deep b end from (Some n) e le d = let r = row_in b.tables.blocks n (d.within n e) in closed_row b end n from (slice_get b.tables.blocks n) le e refl r.0 r.1 d
+
+-- ---- the whole
+
+if_deep : (a : Bool) (b : BuildingOf) (token : ℕ) (rule : Rule) (from : ℕ) → Deep b from → Deep (broken_if a b token rule) from
+if_deep true b token rule from d = record { reach = d.reach; within = d.within; nested = d.nested; ends = d.ends; deep = d.deep }
+if_deep false b token rule from d = d
+
+opened_deep : (b : BuildingOf) (k : BlockKind) (text first from : ℕ) → from ≤ first → Deep b from → Deep (opened b k text first) (first + 1)
+opened_deep b k text first from le d =
+    if_deep (nat_lt most_levels (level_in k (block_around b.tables b.current))) _ text r.TooManyLevels (first + 1)
+    (begun_deep b (record { kind = k; first = first; end = first; encloser = b.current; level = level_in k (block_around b.tables b.current); owner = owner_of k b.latest; formals = 0; inner = None; names = []; numbers = [] }) first from le refl refl refl d)
+
+nothing_calm : (b : BuildingOf) → Calm b b
+nothing_calm b = record { current = refl; size = refl; places = refl; spans = λ j. refl }
+
+declared_calm : (b : BuildingOf) (x : Identifier) (e : Entry) (o : Option ℕ) → b.current ≡ o → Calm b (declared b x e)
+declared_calm b x e None cur = subst (λ z. Calm b (declared_inside b x e z)) (sym cur) (nothing_calm b)
+declared_calm b x e (Some n) cur = calm b (declared b x e) (declared_step b x e n cur) (declared_spans b x e b.current)
+
+parameter_calm : (b : BuildingOf) (x : Identifier) (o : Option ℕ) → b.current ≡ o → Calm b (parameter_of b x)
+parameter_calm b x None cur =
+    subst (λ z. Calm b (counted_in (declared_inside b x (entry.Unspecified None) z) (declared_inside b x (entry.Unspecified None) z).current)) (sym cur) (subst (λ z. Calm b (counted_in b z)) (sym cur) (nothing_calm b))
+parameter_calm b x (Some n) cur =
+    let c : BuildingOf = declared b x (entry.Unspecified None) in
+    calm b (parameter_of b x) (parameter_step b x n cur) (λ j. counted_spans c c.current j ∙ declared_spans b x (entry.Unspecified None) b.current j)
+
+run_deep : {os : List Frame} {ms : List Mark} {l : List Spot} {xs : List Text} (b : BuildingOf) (from : ℕ) → Laid os ms l xs → Ascends from l → Deep b from → (to : ℕ) × Deep (run marked b ms) to
+unfolding run marked
+run_deep b from (nothing e) a d = (from, d)
+run_deep b from (uses x u i g) a d = run_deep b (i + 1) g a.1 (later_deep b from (i + 1) (let le : from ≤ i = a.0 in omega arith) d)
+run_deep b from (passes i g) a d = run_deep b (i + 1) g a.1 (later_deep b from (i + 1) (let le : from ≤ i = a.0 in omega arith) d)
+run_deep b from (leaves i g) a d = run_deep b i g a.1 (later_deep b from i a.0 d)
+run_deep b from (declares x e g) a d =
+    run_deep (declared b x e) (x.token.0 + 1) g a.1 (later_deep (declared b x e) from (x.token.0 + 1) (let le : from ≤ x.token.0 = a.0 in omega arith) (calm_deep b (declared b x e) from (declared_calm b x e b.current refl) d))
+run_deep b from (parameter x g) a d =
+    run_deep (parameter_of b x) (x.token.0 + 1) g a.1 (later_deep (parameter_of b x) from (x.token.0 + 1) (let le : from ≤ x.token.0 = a.0 in omega arith) (calm_deep b (parameter_of b x) from (parameter_calm b x b.current refl) d))
+run_deep b from (moded x g) a d =
+    run_deep _ from g a (calm_deep b _ from (quiet_calm b _ (moded_step b x.token (found_in b.tables b.current x.name)) (moded_quiet b x.token (found_in b.tables b.current x.name))) d)
+run_deep b from (specified x k ty p g) a d =
+    run_deep _ from g a (calm_deep b _ from (quiet_calm b _ (specified_step b x.token k ty (found_in b.tables b.current x.name) p) (specified_quiet b x.token k ty (found_in b.tables b.current x.name))) d)
+run_deep b from (headed x g) a d =
+    run_deep _ from g a (calm_deep b _ from (calm b _ (headed_step b x.token (unspecified_at b.tables (found_in b.tables b.current x.name))) (headed_spans (unspecified_at b.tables (found_in b.tables b.current x.name)))) d)
+  where
+    headed_spans : (o : Option _) (j : ℕ) → span (slice_get (headed_of b x.token o).tables.blocks j) ≡ span (slice_get b.tables.blocks j)
+    headed_spans None j = refl
+    headed_spans (Some w) j = refl
+run_deep b from (program text i ds ss g) a d = run_deep (opened b kind.Program text i) (i + 1) g a.1 (opened_deep b kind.Program text i from a.0 d)
+run_deep b from (block text i ds ss y u g) a d = run_deep (opened b kind.SubBlock text i) (i + 1) g a.1 (opened_deep b kind.SubBlock text i from a.0 d)
+run_deep b from (procedure text result h body g) a d =
+    let e : Entry = entry.Procedure (result_named result) (length b.tables.blocks) in
+    let i : ℕ = h.name.token.0 in
+    run_deep (opened (declared b h.name e) kind.Procedure text i) (i + 1) g a.1 (opened_deep (declared b h.name e) kind.Procedure text i from a.0 (calm_deep b (declared b h.name e) from (declared_calm b h.name e b.current refl) d))
+run_deep b from (closes x end g) a d = run_deep (closed b end b.current) end g a.1 (closed_deep b end from b.current refl a.0 d)
+
+nothing_deep : Deep empty 0
+nothing_deep = record { reach = omega arith; within = λ n e. absurd (cc); nested = λ t u e. absurd (cc); ends = λ j row e. absurd (cc); deep = λ i k j row e at. absurd (cc) }
+
+program_deep : (p : Program) → Plain p → InOrder p → (to : ℕ) × Deep (declared_by p) to
+unfolding declared_by
+program_deep p q order = run_deep empty 0 (program_laid p q) order nothing_deep
+
+module _ (s : Source) (is : s.tables ≡ (declared_by s.program).tables) (plain : Plain s.program) (order : InOrder s.program) where
+  chain_around : {k j : ℕ} → Chain (declared_by s.program).tables.blocks k j → Around s.tables k j
+  unfolding encloser
+  chain_around same = itself
+  chain_around (beyond {k = k} e c) = further (ap (λ (z : Tables). around (slice_get z.blocks k)) is ∙ e) (chain_around c)
+
+  -- a block whose text has the token is around the innermost block of the token
+  pub inside : (token k j : ℕ) → block_at s.tables token ≡ Some k → is_inside s.tables token j ≡ true → Around s.tables k j
+  unfolding block_at is_inside
+  inside token k j at has = go (slice_get T.places token) refl (sym (ap (λ (z : Tables). joined (slice_get z.places token)) is) ∙ at) (slice_get T.blocks j) refl (sym (ap (λ (z : Tables). inside_block token (slice_get z.blocks j)) is) ∙ has)
+    where
+      T : Tables
+      T = (declared_by s.program).tables
+
+      low_high : (f e : ℕ) → (nat_le f token && nat_lt token e) ≡ true → (f ≤ token) × (token < e)
+      low_high f e h = both (nat_le f token) (nat_lt token e) refl refl h
+        where
+          both : (a b : Bool) → nat_le f token ≡ a → nat_lt token e ≡ b → (a && b) ≡ true → (f ≤ token) × (token < e)
+          both true true p q h = ((let P : f ≤ token = grind (arith, nat_tests) in P), (let P : token < e = grind (arith, nat_tests) in P))
+          both true false p q h = absurd (cc)
+          both false b p q h = absurd (cc)
+
+      go : (o : Option (Option ℕ)) → slice_get T.places token ≡ o → joined o ≡ Some k → (r : Option BlockOf) → slice_get T.blocks j ≡ r → inside_block token r ≡ true → Around s.tables k j
+      go None e f r g h = absurd (cc)
+      go (Some None) e f r g h = absurd (cc)
+      go (Some (Some m)) e f None g h = absurd (cc)
+      go (Some (Some m)) e f (Some row) g h =
+          let d = (program_deep s.program plain order).1 in
+          let q = low_high row.first row.end h in
+          chain_around (d.deep token k j row (e ∙ ap Some f) g q.0 (inr q.1))

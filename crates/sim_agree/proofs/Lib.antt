@@ -1,0 +1,13 @@
+pub mod Groups
+pub mod Steps
+pub mod Fine
+pub mod Clean
+pub mod Tables
+pub mod Laid
+pub mod Spots
+pub mod Placing
+pub mod ArrayNames
+pub mod TextOrder
+pub mod Constants
+pub mod Depth
+pub mod Whole

@@ -1,0 +1,477 @@
+-- Where the tokens of a plain program are in order, the innermost block around each that is used in a text is the block of that text, each sub-block
+-- stands in its text, and declarations stand at tokens of their own.
+use Rattle.std.proofs.Common.{◌≡◌, ◌<◌, ◌≤◌, ◌+◌, ◌-◌, ◌⊎◌, inl, inr, ℕ, zero, suc, Bool, true, false, List, [], ◌∷◌, ◌++◌, length, Option, Some, None, refl, sym, ap, ◌∙◌, subst, arith, append-nil, append_assoc}
+use Rattle.std.specs.Prelude.{nat_eq, nat_lt, replicate, slice_get, slice_set}
+use Rattle.std.proofs.lemmas.List.{length-append, length-replicate, length-set}
+use Rattle.std.proofs.lemmas.Option.{slice_get_within}
+use Rattle.std.proofs.lemmas.Bool.Decides.{nat_tests}
+use Rattle.sim_base.specs.declared.numbering.TokenNo.{TokenNo}
+use Rattle.sim_base.specs.declared.rule.Rule.{Rule}
+use Rattle.sim_base.specs.declared.rule.Rule.TheVariants as r
+use Rattle.sim_tree.specs.declared.expr.Identifier.{Identifier}
+use Rattle.sim_tree.specs.Syntax.{Declarations, Statements}
+use Rattle.sim_scope.specs.declared.scopes.Declaration.{Declaration}
+use Rattle.sim_scope.specs.declared.types.BlockKind.{BlockKind}
+use Rattle.sim_scope.specs.declared.types.BlockKind.TheVariants as kind
+use Rattle.sim_scope.specs.declared.types.Entry.{Entry}
+use Rattle.sim_scope.specs.declared.types.Entry.TheVariants as entry
+use Rattle.sim_scope.specs.Building.{BuildingOf, Mark, block_around, broken_if, closed, closed_at, declared, found_in, level_in, marked, most_levels, opened, owner_of, parameter as parameter_of, placed, unspecified_at}
+use Rattle.sim_scope.specs.Declare.{result_named}
+use Rattle.sim_scope.specs.Runs.{run}
+use Rattle.sim_scope.specs.Scopes.{around, declared_in}
+use Rattle.sim_meaning.specs.Entries.{numbers_in}
+use Rattle.sim_sound.specs.Typed.{Among}
+use Rattle.sim_scope.specs.Tables.{BlockOf}
+use Rattle.sim_scope.proofs.Kept.{kept_set, more_here, more_other}
+use Rattle.sim_meaning.specs.Texts.{BlockText, ProcedureText, Text}
+use Rattle.sim_tree.specs.Order.{Ascends, Spot}
+use Rattle.sim_agree.proofs.Laid.{Frame, Laid, Part, Sub, Use, block, closes, declares, frame, headed, leaves, moded, nothing, parameter, passes, procedure, program, specified, text_used, uses}
+use Rattle.sim_agree.proofs.Steps.{AllEven, Changed, Declared, Nothing, Step, declared_step, headed_step, moded_step, parameter_step, specified_step}
+use Rattle.sim_agree.proofs.Fine.{same_around}
+
+-- ---- the open texts
+
+abbrev pub Stack : List BlockOf → List Text → (current : Option ℕ) → List Frame → Type 0
+Stack bs ts current [] = current ≡ None
+Stack bs ts current (o ∷ os) = (n : ℕ) × (current ≡ Some n) × (slice_get ts n ≡ Some o.text) × Stack bs ts (around (slice_get bs n)) os
+
+abbrev Keeps : List BlockOf → List BlockOf → List Text → List Text → Type 0
+Keeps bs cs ts us = (n : ℕ) (x : Text) → slice_get ts n ≡ Some x → (around (slice_get cs n) ≡ around (slice_get bs n)) × (slice_get us n ≡ Some x)
+
+stack_kept : (bs cs : List BlockOf) (ts us : List Text) → Keeps bs cs ts us → (os : List Frame) (current : Option ℕ) → Stack bs ts current os → Stack cs us current os
+stack_kept bs cs ts us keep [] current h = h
+stack_kept bs cs ts us keep (o ∷ os) current h =
+    let k = keep h.0 o.text h.2 in
+    (h.0, h.1, k.1, subst (λ z. Stack cs us z os) (sym k.0) (stack_kept bs cs ts us keep os (around (slice_get bs h.0)) h.3))
+
+pub data Has (p : Part) : List Part → Type 0 where
+  here : {ps : List Part} → Has p (p ∷ ps)
+  there : {q : Part} {ps : List Part} → Has p ps → Has p (q ∷ ps)
+
+has_cases : {p q : Part} {ps : List Part} → Has p (q ∷ ps) → (p ≡ q) ⊎ Has p ps
+has_cases here = inl refl
+has_cases (there h) = inr h
+
+abbrev pub out : List BlockOf → Option ℕ → Option ℕ
+out bs None = None
+out bs (Some k) = around (slice_get bs k)
+
+abbrev pub LeftAt : List BlockOf → (current : Option ℕ) → List Frame → (block : ℕ) → Part → Type 0
+LeftAt bs current [] n p = ⊥
+LeftAt bs current (o ∷ os) n p = ((current ≡ Some n) × Has p o.left) ⊎ LeftAt bs (out bs current) os n p
+
+left_kept : (bs cs : List BlockOf) (ts us : List Text) → Keeps bs cs ts us → (os : List Frame) (current : Option ℕ) (n : ℕ) (p : Part) → Stack bs ts current os → LeftAt bs current os n p → LeftAt cs current os n p
+left_kept bs cs ts us keep [] current n p s q = absurd q
+left_kept bs cs ts us keep (o ∷ os) current n p s (inl q) = inl q
+left_kept bs cs ts us keep (o ∷ os) current n p s (inr q) =
+    let e : out bs current ≡ around (slice_get bs s.0) = ap (out bs) s.1 in
+    let f : out cs current ≡ around (slice_get bs s.0) = ap (out cs) s.1 ∙ (keep s.0 o.text s.2).0 in
+    inr (subst (λ z. LeftAt cs z os n p) (sym f) (left_kept bs cs ts us keep os (around (slice_get bs s.0)) n p s.3 (subst (λ z. LeftAt bs z os n p) e q)))
+
+-- ---- what is known of a token
+
+-- The block around a token is this one; or the token has no place yet, and this block is the innermost one.
+abbrev pub Here : BuildingOf → (from block token : ℕ) → Type 0
+Here b from n i = (slice_get b.tables.places i ≡ Some (Some n)) ⊎ ((length b.tables.places ≤ i) × (i < from) × (b.current ≡ Some n))
+
+-- a sub-block stands in the block
+pub record Inner (b : BuildingOf) (ts : List Text) (from n i : ℕ) : Type 0 where
+  pub number : ℕ
+  pub declarations : Declarations
+  pub statements : Statements
+  pub text : slice_get ts number ≡ Some (BlockText i declarations statements)
+  pub around : around (slice_get b.tables.blocks number) ≡ Some n
+  pub there : Here b from number i
+
+abbrev pub Fact : BuildingOf → List Text → (from block : ℕ) → Part → Type 0
+Fact b ts from n (Use i) = Here b from n i
+Fact b ts from n (Sub i) = Inner b ts from n i
+
+-- The places reach to the one number, the tokens of declarations to the other.
+pub record Lays (b : BuildingOf) (ts : List Text) (os : List Frame) (from high : ℕ) : Type 0 where
+  pub size : length b.tables.blocks ≡ length ts
+  pub stack : Stack b.tables.blocks ts b.current os
+  pub reach : length b.tables.places ≤ from
+  pub done : (n : ℕ) (x : Text) (p : Part) → slice_get ts n ≡ Some x → Has p (text_used x) → Fact b ts from n p ⊎ LeftAt b.tables.blocks b.current os n p
+  pub below : (d : ℕ) (row : Declaration) → slice_get b.tables.declarations d ≡ Some row → row.token.0 < high
+  pub rising : (d e : ℕ) (row other : Declaration) → slice_get b.tables.declarations d ≡ Some row → slice_get b.tables.declarations e ≡ Some other → d < e → row.token.0 < other.token.0
+
+abbrev pub Lay : BuildingOf → List Text → List Frame → ℕ → Type 0
+Lay b ts os from = Lays b ts os from from
+
+-- from one state to a later one
+abbrev Moves : BuildingOf → BuildingOf → (from to : ℕ) → Type 0
+Moves b c from to = (n i : ℕ) → Here b from n i → Here c to n i
+
+fact_moves : (b c : BuildingOf) (ts us : List Text) (from to : ℕ) → Keeps b.tables.blocks c.tables.blocks ts us → Moves b c from to → (n : ℕ) (p : Part) → Fact b ts from n p → Fact c us to n p
+fact_moves b c ts us from to keep m n (Use i) f = m n i f
+fact_moves b c ts us from to keep m n (Sub i) f =
+    let k = keep f.number (BlockText i f.declarations f.statements) f.text in
+    record { number = f.number; declarations = f.declarations; statements = f.statements; text = k.1; around = k.0 ∙ f.around; there = m f.number i f.there }
+
+-- ---- a use
+
+use_laid : (b : BuildingOf) (ts : List Text) (x : Text) (u : List Part) (i : ℕ) (os : List Frame) (from : ℕ) → from ≤ i → Lay b ts (frame x (Use i ∷ u) ∷ os) from → Lay b ts (frame x u ∷ os) (i + 1)
+use_laid b ts x u i os from le l = record {
+  size = l.size;
+  stack = l.stack;
+  reach = (let q : length b.tables.places ≤ from = l.reach in omega arith);
+  done = λ n y p at has. done n p (l.done n y p at has);
+  below = λ d row at. (let lt : row.token.0 < from = l.below d row at in omega arith);
+  rising = l.rising;
+}
+  where
+    later : (n j : ℕ) → Here b from n j → Here b (i + 1) n j
+    later n j (inl q) = inl q
+    later n j (inr q) = inr (q.0, (let lt : j < from = q.1 in omega arith), q.2)
+
+    done : (n : ℕ) (p : Part) → Fact b ts from n p ⊎ LeftAt b.tables.blocks b.current (frame x (Use i ∷ u) ∷ os) n p → Fact b ts (i + 1) n p ⊎ LeftAt b.tables.blocks b.current (frame x u ∷ os) n p
+    done n p (inl f) = inl (fact_moves b b ts ts from (i + 1) (λ m y is. (refl, is)) later n p f)
+    done n p (inr (inr q)) = inr (inr q)
+    done n p (inr (inl q)) = go (has_cases q.1)
+      where
+        go : (p ≡ Use i) ⊎ Has p u → Fact b ts (i + 1) n p ⊎ LeftAt b.tables.blocks b.current (frame x u ∷ os) n p
+        go (inr h) = inr (inl (q.0, h))
+        go (inl e) = inl (subst (Fact b ts (i + 1) n) (sym e) (inr ((let le' : length b.tables.places ≤ from = l.reach in omega arith), (let z : i < i + 1 = omega arith in z), q.0)))
+
+-- a token that is no use
+later_laid : (b : BuildingOf) (ts : List Text) (os : List Frame) (from high to : ℕ) → from ≤ to → high ≤ to → Lays b ts os from high → Lay b ts os to
+later_laid b ts os from high to le up l = record {
+  size = l.size;
+  stack = l.stack;
+  reach = (let q : length b.tables.places ≤ from = l.reach in omega arith);
+  done = λ n y p at has. done n p (l.done n y p at has);
+  below = λ d row at. (let lt : row.token.0 < high = l.below d row at in omega arith);
+  rising = l.rising;
+}
+  where
+    later : (n j : ℕ) → Here b from n j → Here b to n j
+    later n j (inl q) = inl q
+    later n j (inr q) = inr (q.0, (let lt : j < from = q.1 in omega arith), q.2)
+
+    done : (n : ℕ) (p : Part) → Fact b ts from n p ⊎ LeftAt b.tables.blocks b.current os n p → Fact b ts to n p ⊎ LeftAt b.tables.blocks b.current os n p
+    done n p (inl f) = inl (fact_moves b b ts ts from to (λ m y is. (refl, is)) later n p f)
+    done n p (inr q) = inr q
+
+-- ---- marks that begin and end no block
+
+-- a row is an old one, or the new one
+abbrev RowIs : BuildingOf → (from to : ℕ) → ℕ → Declaration → Type 0
+RowIs b from to d row = ((old : Declaration) × (slice_get b.tables.declarations d ≡ Some old) × (row.token ≡ old.token)) ⊎ ((d ≡ length b.tables.declarations) × (from ≤ row.token.0) × (row.token.0 < to))
+
+row_is : (b c : BuildingOf) (New : ℕ → Declaration → Type 0) → Step b c New → (from to : ℕ) → ((d : ℕ) (row : Declaration) → New d row → (d ≡ length b.tables.declarations) × (from ≤ row.token.0) × (row.token.0 < to))
+    → (d : ℕ) (row : Declaration) → slice_get c.tables.declarations d ≡ Some row → RowIs b from to d row
+row_is b c New s from to new d row at = go (s.rows d row at)
+  where
+    go : ((old : Declaration) × (slice_get b.tables.declarations d ≡ Some old) × Changed old row) ⊎ (New d row × Among (record { 0 = d }) (numbers_in (slice_get c.tables.blocks row.block)) × (AllEven b.tables.blocks → declared_in (slice_get c.tables.blocks row.block) row.name ≡ Some (record { 0 = d }))) → RowIs b from to d row
+    go (inl q) = inl (q.0, q.1, q.2.token)
+    go (inr q) = inr (new d row q.0)
+
+step_laid : (b c : BuildingOf) (New : ℕ → Declaration → Type 0) (s : Step b c New) (ts : List Text) (os : List Frame) (from to : ℕ) → from ≤ to
+    → ((d : ℕ) (row : Declaration) → New d row → (d ≡ length b.tables.declarations) × (from ≤ row.token.0) × (row.token.0 < to)) → Lay b ts os from → Lays c ts os from to
+step_laid b c New s ts os from to le new l = record {
+  size = s.size ∙ l.size;
+  stack = subst (λ z. Stack c.tables.blocks ts z os) (sym s.current) (stack_kept b.tables.blocks c.tables.blocks ts ts keep os b.current l.stack);
+  reach = (let q : length b.tables.places ≤ from = l.reach in let e : length c.tables.places ≡ length b.tables.places = ap length s.places in omega arith);
+  done = λ n y p at has. done n p (l.done n y p at has);
+  below = λ d row at. below row (row_of d row at);
+  rising = λ d e row other at at' lt. rising d e row other lt (row_of d row at) (row_of e other at');
+}
+  where
+    keep : (n : ℕ) (x : Text) → slice_get ts n ≡ Some x → (around (slice_get c.tables.blocks n) ≡ around (slice_get b.tables.blocks n)) × (slice_get ts n ≡ Some x)
+    keep n x is = (same_around (slice_get c.tables.blocks n) (slice_get b.tables.blocks n) (s.fixes n), is)
+
+    later : (n j : ℕ) → Here b from n j → Here c from n j
+    later n j (inl q) = inl (ap (λ z. slice_get z j) s.places ∙ q)
+    later n j (inr q) = inr ((let le' : length b.tables.places ≤ j = q.0 in let e : length c.tables.places ≡ length b.tables.places = ap length s.places in omega arith), q.1, s.current ∙ q.2)
+
+    done : (n : ℕ) (p : Part) → Fact b ts from n p ⊎ LeftAt b.tables.blocks b.current os n p → Fact c ts from n p ⊎ LeftAt c.tables.blocks c.current os n p
+    done n p (inl f) = inl (fact_moves b c ts ts from from keep later n p f)
+    done n p (inr q) = inr (subst (λ z. LeftAt c.tables.blocks z os n p) (sym s.current) (left_kept b.tables.blocks c.tables.blocks ts ts keep os b.current n p l.stack q))
+
+    row_of : (d : ℕ) (row : Declaration) → slice_get c.tables.declarations d ≡ Some row → RowIs b from to d row
+    row_of d row at = row_is b c New s from to new d row at
+
+    below : {d : ℕ} (row : Declaration) → RowIs b from to d row → row.token.0 < to
+    below row (inl q) = (let lt : q.0.token.0 < from = l.below _ q.0 q.1 in let e : row.token.0 ≡ q.0.token.0 = ap (λ (z : TokenNo). z.0) q.2 in omega arith)
+    below row (inr q) = q.2
+
+    rising : (d e : ℕ) (row other : Declaration) → d < e → RowIs b from to d row → RowIs b from to e other → row.token.0 < other.token.0
+    rising d e row other lt (inl p) (inl q) =
+        let r : p.0.token.0 < q.0.token.0 = l.rising d e p.0 q.0 p.1 q.1 lt in
+        let f : row.token.0 ≡ p.0.token.0 = ap (λ (z : TokenNo). z.0) p.2 in
+        let g : other.token.0 ≡ q.0.token.0 = ap (λ (z : TokenNo). z.0) q.2 in omega arith
+    rising d e row other lt (inl p) (inr q) =
+        let r : p.0.token.0 < from = l.below d p.0 p.1 in
+        let f : row.token.0 ≡ p.0.token.0 = ap (λ (z : TokenNo). z.0) p.2 in
+        let g : from ≤ other.token.0 = q.1 in omega arith
+    rising d e row other lt (inr p) (inl q) =
+        let f : d ≡ length b.tables.declarations = p.0 in
+        let g : e < length b.tables.declarations = slice_get_within b.tables.declarations e q.0 q.1 in absurd (omega arith)
+    rising d e row other lt (inr p) (inr q) = let f : d ≡ length b.tables.declarations = p.0 in let g : e ≡ length b.tables.declarations = q.0 in absurd (omega arith)
+
+-- ---- a block begins
+
+pub filled_at : (xs : List (Option ℕ)) (o : Option ℕ) (m i : ℕ) → length xs ≤ i → i < length xs + m → slice_get (xs ++ replicate m o) i ≡ Some o
+filled_at [] o m i le lt = repeated m i lt
+  where
+    repeated : (m i : ℕ) → i < length {A = Option ℕ} [] + m → slice_get (replicate m o) i ≡ Some o
+    repeated zero i lt = absurd (omega arith)
+    repeated (suc m) zero lt = refl
+    repeated (suc m) (suc i) lt = repeated m i (omega arith)
+filled_at (x ∷ xs) o m zero le lt = absurd (let e : length (x ∷ xs) ≡ suc (length xs) = omega arith in omega arith)
+filled_at (x ∷ xs) o m (suc i) le lt = let e : length (x ∷ xs) ≡ suc (length xs) = omega arith in filled_at xs o m i (omega arith) (omega arith)
+
+pub more_at : {A : Type 0} (xs ys : List A) (i : ℕ) (x : A) → slice_get xs i ≡ Some x → slice_get (xs ++ ys) i ≡ Some x
+more_at [] ys i x is = absurd (cc)
+more_at (y ∷ xs) ys zero x is = is
+more_at (y ∷ xs) ys (suc i) x is = more_at xs ys i x is
+
+some_same : {A : Type 0} (a b : A) → Some a ≡ Some b → a ≡ b
+some_same a b e = cc
+
+text_cases : (ts : List Text) (x : Text) (n : ℕ) (y : Text) → slice_get (ts ++ x ∷ []) n ≡ Some y → (slice_get ts n ≡ Some y) ⊎ ((n ≡ length ts) × (x ≡ y))
+text_cases [] x zero y is = inr (refl, some_same x y is)
+text_cases [] x (suc n) y is = absurd (cc)
+text_cases (t ∷ ts) x zero y is = inl is
+text_cases (t ∷ ts) x (suc n) y is = go (text_cases ts x n y is)
+  where
+    go : (slice_get ts n ≡ Some y) ⊎ ((n ≡ length ts) × (x ≡ y)) → (slice_get (t ∷ ts) (suc n) ≡ Some y) ⊎ ((suc n ≡ length (t ∷ ts)) × (x ≡ y))
+    go (inl q) = inl q
+    go (inr q) = inr ((let e : n ≡ length ts = q.0 in let f : length (t ∷ ts) ≡ suc (length ts) = omega arith in omega arith), q.1)
+
+last_text : (ts : List Text) (x : Text) → slice_get (ts ++ x ∷ []) (length ts) ≡ Some x
+last_text [] x = refl
+last_text (t ∷ ts) x = let e : length (t ∷ ts) ≡ suc (length ts) = omega arith in ap (slice_get ((t ∷ ts) ++ x ∷ [])) e ∙ last_text ts x
+
+pub reached : (xs : List (Option ℕ)) (o : Option ℕ) (to : ℕ) → length xs ≤ to → length (xs ++ replicate (to - length xs) o) ≡ to
+reached xs o to le =
+    let e : length (xs ++ replicate (to - length xs) o) ≡ length xs + (to - length xs) = length-append xs (replicate (to - length xs) o) ∙ ap (λ z. length xs + z) (length-replicate (to - length xs) o) in omega arith
+
+-- the tokens in front of this one have their places
+filled_here : (b : BuildingOf) (from to n i : ℕ) → from ≤ to → length b.tables.places ≤ from → Here b from n i → slice_get (placed b.tables b.current to).places i ≡ Some (Some n)
+filled_here b from to n i le reach (inl q) = more_at b.tables.places _ i (Some n) q
+filled_here b from to n i le reach (inr q) =
+    let low : length b.tables.places ≤ i = q.0 in
+    let lt : i < from = q.1 in
+    filled_at b.tables.places b.current (to - length b.tables.places) i low (omega arith) ∙ ap Some q.2
+
+begun_laid : (b : BuildingOf) (new : BlockOf) (first : ℕ) (ts : List Text) (x : Text) (os ps : List Frame) (from high : ℕ) → from ≤ first → high ≤ first + 1 → new.encloser ≡ b.current
+    → Lays b ts os from high → Stack b.tables.blocks ts b.current ps
+    → ((n : ℕ) (p : Part) → LeftAt b.tables.blocks b.current os n p → LeftAt b.tables.blocks b.current ps n p ⊎ ((b.current ≡ Some n) × (i : ℕ) × (ds : Declarations) × (ss : Statements) × (p ≡ Sub i) × (x ≡ BlockText i ds ss) × (i ≡ first)))
+    → Lay (record b { tables = record b.tables { blocks = b.tables.blocks ++ new ∷ []; places = (placed b.tables b.current first).places }; current = Some (length b.tables.blocks) }) (ts ++ x ∷ []) (frame x (text_used x) ∷ ps) (first + 1)
+begun_laid b new first ts x os ps from high le up around_is l stack pop = record {
+  size = length-append bs (new ∷ []) ∙ (let e : length bs ≡ length ts = l.size in ap (λ z. z + 1) e) ∙ sym (length-append ts (x ∷ []));
+  stack = (length bs, refl, at, subst (λ z. Stack cs us z ps) (sym under) (stack_kept bs cs ts us keep ps b.current stack));
+  reach = (let e : length (placed b.tables b.current first).places ≡ first = long in omega arith);
+  done = λ n y p is has. done n y p has (text_cases ts x n y is);
+  below = λ d row is. (let lt : row.token.0 < high = l.below d row is in omega arith);
+  rising = l.rising;
+}
+  where
+    bs : List BlockOf
+    bs = b.tables.blocks
+
+    cs : List BlockOf
+    cs = b.tables.blocks ++ new ∷ []
+
+    us : List Text
+    us = ts ++ x ∷ []
+
+    c : BuildingOf
+    c = record b { tables = record b.tables { blocks = b.tables.blocks ++ new ∷ []; places = (placed b.tables b.current first).places }; current = Some (length b.tables.blocks) }
+
+    long : length (placed b.tables b.current first).places ≡ first
+    long = reached b.tables.places b.current first (let q : length b.tables.places ≤ from = l.reach in omega arith)
+
+    at : slice_get (ts ++ x ∷ []) (length b.tables.blocks) ≡ Some x
+    at = ap (slice_get (ts ++ x ∷ [])) l.size ∙ last_text ts x
+
+    under : around (slice_get (b.tables.blocks ++ new ∷ []) (length b.tables.blocks)) ≡ b.current
+    under = ap around (more_here bs new) ∙ around_is
+
+    keep : (n : ℕ) (y : Text) → slice_get ts n ≡ Some y → (around (slice_get (b.tables.blocks ++ new ∷ []) n) ≡ around (slice_get b.tables.blocks n)) × (slice_get (ts ++ x ∷ []) n ≡ Some y)
+    keep n y is =
+        let lt : n < length ts = slice_get_within ts n y is in
+        let same : length b.tables.blocks ≡ length ts = l.size in
+        (ap around (more_other bs new n (let P : nat_eq n (length b.tables.blocks) ≡ false = grind (arith, nat_tests) in P)), more_at ts (x ∷ []) n y is)
+
+    later : (n j : ℕ) → Here b from n j → Here c (first + 1) n j
+    later n j h = inl (filled_here b from first n j le l.reach h)
+
+    moved : (n : ℕ) (p : Part) → LeftAt bs b.current ps n p → LeftAt cs (Some (length bs)) (frame x (text_used x) ∷ ps) n p
+    moved n p q = inr (subst (λ z. LeftAt cs z ps n p) (sym under) (left_kept bs cs ts us keep ps b.current n p stack q))
+
+    done : (n : ℕ) (y : Text) (p : Part) → Has p (text_used y) → (slice_get ts n ≡ Some y) ⊎ ((n ≡ length ts) × (x ≡ y)) → Fact c us (first + 1) n p ⊎ LeftAt cs (Some (length bs)) (frame x (text_used x) ∷ ps) n p
+    done n y p has (inr q) =
+        let here_now : length bs ≡ n = l.size ∙ sym q.0 in inr (inl (ap Some here_now, subst (λ z. Has p (text_used z)) (sym q.1) has))
+    done n y p has (inl q) = go (l.done n y p q has)
+      where
+        sub : (b.current ≡ Some n) × (i : ℕ) × (ds : Declarations) × (ss : Statements) × (p ≡ Sub i) × (x ≡ BlockText i ds ss) × (i ≡ first) → Fact c us (first + 1) n p
+        sub (cur, i, ds, ss, e, f, g) = subst (Fact c us (first + 1) n) (sym e) (record {
+          number = length bs;
+          declarations = ds;
+          statements = ss;
+          text = at ∙ ap Some f;
+          around = under ∙ cur;
+          there = inr ((let z : length (placed b.tables b.current first).places ≡ first = long in omega (arith, g)), (omega (arith, g)), refl);
+        })
+
+        go : Fact b ts from n p ⊎ LeftAt bs b.current os n p → Fact c us (first + 1) n p ⊎ LeftAt cs (Some (length bs)) (frame x (text_used x) ∷ ps) n p
+        go (inl f) = inl (fact_moves b c ts us from (first + 1) keep later n p f)
+        go (inr h) = pick (pop n p h)
+          where
+            pick : LeftAt bs b.current ps n p ⊎ ((b.current ≡ Some n) × (i : ℕ) × (ds : Declarations) × (ss : Statements) × (p ≡ Sub i) × (x ≡ BlockText i ds ss) × (i ≡ first)) → Fact c us (first + 1) n p ⊎ LeftAt cs (Some (length bs)) (frame x (text_used x) ∷ ps) n p
+            pick (inl k) = inr (moved n p k)
+            pick (inr k) = inl (sub k)
+
+-- ---- a broken rule changes no table
+
+if_laid : (a : Bool) (b : BuildingOf) (token : ℕ) (rule : Rule) (ts : List Text) (os : List Frame) (from : ℕ) → Lay b ts os from → Lay (broken_if a b token rule) ts os from
+if_laid false b token rule ts os from l = l
+if_laid true b token rule ts os from l = record {
+  size = l.size;
+  stack = l.stack;
+  reach = l.reach;
+  done = λ n x p at has. done n p (l.done n x p at has);
+  below = l.below;
+  rising = l.rising;
+}
+  where
+    done : (n : ℕ) (p : Part) → Fact b ts from n p ⊎ LeftAt b.tables.blocks b.current os n p → Fact (broken_if true b token rule) ts from n p ⊎ LeftAt b.tables.blocks b.current os n p
+    done n p (inl f) = inl (fact_moves b (broken_if true b token rule) ts ts from from (λ m y is. (refl, is)) (λ m i h. h) n p f)
+    done n p (inr q) = inr q
+
+abbrev Pops : BuildingOf → Text → (first : ℕ) → (os ps : List Frame) → Type 0
+Pops b x first os ps = (n : ℕ) (p : Part) → LeftAt b.tables.blocks b.current os n p → LeftAt b.tables.blocks b.current ps n p ⊎ ((b.current ≡ Some n) × (i : ℕ) × (ds : Declarations) × (ss : Statements) × (p ≡ Sub i) × (x ≡ BlockText i ds ss) × (i ≡ first))
+
+opened_laid : (b : BuildingOf) (k : BlockKind) (text first : ℕ) (ts : List Text) (x : Text) (os ps : List Frame) (from high : ℕ) → from ≤ first → high ≤ first + 1 → Lays b ts os from high → Stack b.tables.blocks ts b.current ps → Pops b x first os ps
+    → Lay (opened b k text first) (ts ++ x ∷ []) (frame x (text_used x) ∷ ps) (first + 1)
+opened_laid b k text first ts x os ps from high le up l stack pop =
+    if_laid (nat_lt most_levels (level_in k (block_around b.tables b.current))) _ text r.TooManyLevels (ts ++ x ∷ []) (frame x (text_used x) ∷ ps) (first + 1)
+    (begun_laid b (record { kind = k; first = first; end = first; encloser = b.current; level = level_in k (block_around b.tables b.current); owner = owner_of k b.latest; formals = 0; inner = None; names = []; numbers = [] }) first ts x os ps from high le up refl l stack pop)
+
+-- a sub-block stands among the parts of the text around it
+pop_sub : (b : BuildingOf) (i : ℕ) (ds : Declarations) (ss : Statements) (x : Text) (u : List Part) (os : List Frame) → Pops b (BlockText i ds ss) i (frame x (Sub i ∷ u) ∷ os) (frame x u ∷ os)
+pop_sub b i ds ss x u os n p (inr q) = inl (inr q)
+pop_sub b i ds ss x u os n p (inl q) = go (has_cases q.1)
+  where
+    go : (p ≡ Sub i) ⊎ Has p u → LeftAt b.tables.blocks b.current (frame x u ∷ os) n p ⊎ ((b.current ≡ Some n) × (j : ℕ) × (es : Declarations) × (sss : Statements) × (p ≡ Sub j) × (BlockText i ds ss ≡ BlockText j es sss) × (j ≡ i))
+    go (inr h) = inl (inl (q.0, h))
+    go (inl e) = inr (q.0, i, ds, ss, e, refl, refl)
+
+pop_none : (b : BuildingOf) (x : Text) (first : ℕ) (os : List Frame) → Pops b x first os os
+pop_none b x first os n p q = inl q
+
+-- ---- a block ends
+
+closed_row : (b : BuildingOf) (end n : ℕ) (o : Option BlockOf) (ts : List Text) (x : Text) (os : List Frame) (from : ℕ) → from ≤ end → b.current ≡ Some n → slice_get b.tables.blocks n ≡ o → (row : BlockOf) → o ≡ Some row
+    → Lay b ts (frame x [] ∷ os) from → Lay (closed_at b end n o) ts os end
+closed_row b end n None ts x os from le cur at found is l = absurd (cc)
+closed_row b end n (Some row) ts x os from le cur at found is l = record {
+  size = length-set bs n new ∙ l.size;
+  stack = subst (λ z. Stack cs ts z os) (ap around at) (stack_kept bs cs ts ts keep os (around (slice_get bs n)) (subst (λ z. Stack bs ts (around (slice_get bs z)) os) (some_same l.stack.0 n (sym l.stack.1 ∙ cur)) l.stack.3));
+  reach = (let e : length (placed b.tables b.current end).places ≡ end = reached b.tables.places b.current end (let q : length b.tables.places ≤ from = l.reach in omega arith) in omega arith);
+  done = λ m y p is has. done m p (l.done m y p is has);
+  below = λ d r is. (let lt : r.token.0 < from = l.below d r is in omega arith);
+  rising = l.rising;
+}
+  where
+    bs : List BlockOf
+    bs = b.tables.blocks
+
+    new : BlockOf
+    new = record row { end = end }
+
+    cs : List BlockOf
+    cs = slice_set b.tables.blocks n (record row { end = end })
+
+    c : BuildingOf
+    c = closed_at b end n (Some row)
+
+    keep : (j : ℕ) (y : Text) → slice_get ts j ≡ Some y → (around (slice_get (slice_set b.tables.blocks n (record row { end = end })) j) ≡ around (slice_get b.tables.blocks j)) × (slice_get ts j ≡ Some y)
+    keep j y is = (kept_set around bs n row new at refl j, is)
+
+    later : (m j : ℕ) → Here b from m j → Here c end m j
+    later m j h = inl (filled_here b from end m j le l.reach h)
+
+    under : Stack b.tables.blocks ts (around (slice_get b.tables.blocks n)) os
+    under = subst (λ z. Stack bs ts (around (slice_get bs z)) os) (some_same l.stack.0 n (sym l.stack.1 ∙ cur)) l.stack.3
+
+    done : (m : ℕ) (p : Part) → Fact b ts from m p ⊎ LeftAt bs b.current (frame x [] ∷ os) m p → Fact c ts end m p ⊎ LeftAt cs row.encloser os m p
+    done m p (inl f) = inl (fact_moves b c ts ts from end keep later m p f)
+    done m p (inr (inl q)) = absurd (elim q.1 [ ])
+    done m p (inr (inr q)) =
+        let e : out bs b.current ≡ around (slice_get bs n) = ap (out bs) cur in
+        inr (subst (λ z. LeftAt cs z os m p) (ap around at) (left_kept bs cs ts ts keep os (around (slice_get bs n)) m p under (subst (λ z. LeftAt bs z os m p) e q)))
+
+closed_laid : (b : BuildingOf) (end : ℕ) (ts : List Text) (x : Text) (os : List Frame) (from : ℕ) → from ≤ end → (l : Lay b ts (frame x [] ∷ os) from) → (row : BlockOf) → slice_get b.tables.blocks l.stack.0 ≡ Some row → Lay (closed b end b.current) ts os end
+closed_laid b end ts x os from le l row at = subst (λ o. Lay (closed b end o) ts os end) (sym l.stack.1) (closed_row b end l.stack.0 (slice_get b.tables.blocks l.stack.0) ts x os from le l.stack.1 refl row at l)
+
+-- ---- the whole
+
+-- a text has a row
+row_of_text : (b : BuildingOf) (ts : List Text) (os : List Frame) (from : ℕ) → Lay b ts os from → (n : ℕ) (x : Text) → slice_get ts n ≡ Some x → (row : BlockOf) × (slice_get b.tables.blocks n ≡ Some row)
+row_of_text b ts os from l n x is =
+    let lt : n < length ts = slice_get_within ts n x is in
+    let e : length b.tables.blocks ≡ length ts = l.size in go b.tables.blocks n (omega arith)
+  where
+    go : (bs : List BlockOf) (n : ℕ) → n < length bs → (row : BlockOf) × (slice_get bs n ≡ Some row)
+    go [] n lt = absurd (omega arith)
+    go (c ∷ bs) zero lt = (c, refl)
+    go (c ∷ bs) (suc n) lt = let e : length (c ∷ bs) ≡ suc (length bs) = omega arith in go bs n (omega arith)
+
+-- where the marks lead, and how far the tokens reach
+pub record Final (b : BuildingOf) (ts : List Text) : Type 0 where
+  pub to : ℕ
+  pub laid : Lay b ts [] to
+
+-- an identifier is declared
+named_laid : (b : BuildingOf) (x : Identifier) (e : Entry) (n : ℕ) (ts : List Text) (o : Frame) (os : List Frame) (from : ℕ) → from ≤ x.token.0 → b.current ≡ Some n → Lay b ts (o ∷ os) from → Lays (declared b x e) ts (o ∷ os) from (x.token.0 + 1)
+named_laid b x e n ts o os from le cur f =
+    step_laid b (declared b x e) (Declared (length b.tables.declarations) x e n) (declared_step b x e n cur) ts (o ∷ os) from (x.token.0 + 1) (omega arith)
+    (λ d row q. (q.0, (let t : row.token.0 ≡ x.token.0 = ap (λ (z : TokenNo). z.0) q.1.1 in omega arith), (let t : row.token.0 ≡ x.token.0 = ap (λ (z : TokenNo). z.0) q.1.1 in omega arith))) f
+
+pub run_laid : {os : List Frame} {ms : List Mark} {l : List Spot} {xs : List Text} (b : BuildingOf) (ts : List Text) (from : ℕ) → Laid os ms l xs → Ascends from l → Lay b ts os from → Final (run marked b ms) (ts ++ xs)
+unfolding run marked
+run_laid {os = os} b ts from (nothing e) a f = record { to = from; laid = subst (λ z. Lay b z [] from) (sym (append-nil ts)) (subst (λ z. Lay b ts z from) e f) }
+run_laid b ts from (uses {os = os} x u i g) a f = run_laid b ts (i + 1) g a.1 (use_laid b ts x u i os from a.0 f)
+run_laid {os = os} b ts from (passes i g) a f = run_laid b ts (i + 1) g a.1 (later_laid b ts os from from (i + 1) (let le : from ≤ i = a.0 in omega arith) (let le : from ≤ i = a.0 in omega arith) f)
+run_laid {os = os} b ts from (leaves i g) a f = run_laid b ts i g a.1 (later_laid b ts os from from i a.0 a.0 f)
+run_laid b ts from (declares {o = o} {os = os} x e g) a f =
+    let n : ℕ = f.stack.0 in
+    run_laid (declared b x e) ts (x.token.0 + 1) g a.1
+    (later_laid (declared b x e) ts (o ∷ os) from (x.token.0 + 1) (x.token.0 + 1) (let le : from ≤ x.token.0 = a.0 in omega arith) (let z : x.token.0 + 1 ≤ x.token.0 + 1 = omega arith in z)
+    (named_laid b x e n ts o os from a.0 f.stack.1 f))
+run_laid b ts from (parameter {o = o} {os = os} x g) a f =
+    let n : ℕ = f.stack.0 in
+    run_laid (parameter_of b x) ts (x.token.0 + 1) g a.1
+    (later_laid (parameter_of b x) ts (o ∷ os) from (x.token.0 + 1) (x.token.0 + 1) (let le : from ≤ x.token.0 = a.0 in omega arith) (let z : x.token.0 + 1 ≤ x.token.0 + 1 = omega arith in z)
+    (step_laid b (parameter_of b x) (Declared (length b.tables.declarations) x (entry.Unspecified None) n) (parameter_step b x n f.stack.1) ts (o ∷ os) from (x.token.0 + 1) (let le : from ≤ x.token.0 = a.0 in omega arith)
+    (λ d row q. (q.0, (let t : row.token.0 ≡ x.token.0 = ap (λ (z : TokenNo). z.0) q.1.1 in let le : from ≤ x.token.0 = a.0 in omega arith), (let t : row.token.0 ≡ x.token.0 = ap (λ (z : TokenNo). z.0) q.1.1 in omega arith))) f))
+run_laid {os = os} b ts from (moded x g) a f =
+    run_laid _ ts from g a (step_laid b _ Nothing (moded_step b x.token (found_in b.tables b.current x.name)) ts os from from (let z : from ≤ from = omega arith in z) (λ d row q. absurd q) f)
+run_laid {os = os} b ts from (specified x k ty p g) a f =
+    run_laid _ ts from g a (step_laid b _ Nothing (specified_step b x.token k ty (found_in b.tables b.current x.name) p) ts os from from (let z : from ≤ from = omega arith in z) (λ d row q. absurd q) f)
+run_laid {os = os} b ts from (headed x g) a f =
+    run_laid _ ts from g a (step_laid b _ Nothing (headed_step b x.token (unspecified_at b.tables (found_in b.tables b.current x.name))) ts os from from (let z : from ≤ from = omega arith in z) (λ d row q. absurd q) f)
+run_laid b ts from (program {ms = ms} {xs = xs} text i ds ss g) a f =
+    let x : Text = BlockText i ds ss in
+    let q = run_laid (opened b kind.Program text i) (ts ++ x ∷ []) (i + 1) g a.1 (opened_laid b kind.Program text i ts x [] [] from from a.0 (let le : from ≤ i = a.0 in omega arith) f f.stack (pop_none b x i [])) in
+    record { to = q.to; laid = subst (λ z. Lay (run marked (opened b kind.Program text i) ms) z [] q.to) (append_assoc ts (x ∷ []) xs) q.laid }
+run_laid b ts from (block {os = os} {ms = ms} {xs = xs} text i ds ss y u g) a f =
+    let x : Text = BlockText i ds ss in
+    let q = run_laid (opened b kind.SubBlock text i) (ts ++ x ∷ []) (i + 1) g a.1 (opened_laid b kind.SubBlock text i ts x (frame y (Sub i ∷ u) ∷ os) (frame y u ∷ os) from from a.0 (let le : from ≤ i = a.0 in omega arith) f f.stack (pop_sub b i ds ss y u os)) in
+    record { to = q.to; laid = subst (λ z. Lay (run marked (opened b kind.SubBlock text i) ms) z [] q.to) (append_assoc ts (x ∷ []) xs) q.laid }
+run_laid b ts from (procedure {o = o} {os = os} {ms = ms} {xs = xs} text result h body g) a f =
+    let x : Text = ProcedureText result h body in
+    let n : ℕ = f.stack.0 in
+    let i : ℕ = h.name.token.0 in
+    let e : Entry = entry.Procedure (result_named result) (length b.tables.blocks) in
+    let c : BuildingOf = declared b h.name (entry.Procedure (result_named result) (length b.tables.blocks)) in
+    let k = named_laid b h.name e n ts o os from a.0 f.stack.1 f in
+    let q = run_laid (opened c kind.Procedure text i) (ts ++ x ∷ []) (i + 1) g a.1
+    (opened_laid c kind.Procedure text i ts x (o ∷ os) (o ∷ os) from (i + 1) a.0 (let z : i + 1 ≤ i + 1 = omega arith in z) k k.stack (pop_none c x i (o ∷ os))) in
+    record { to = q.to; laid = subst (λ z. Lay (run marked (opened c kind.Procedure text i) ms) z [] q.to) (append_assoc ts (x ∷ []) xs) q.laid }
+run_laid b ts from (closes {os = os} x end g) a f =
+    let row = row_of_text b ts (frame x [] ∷ os) from f f.stack.0 x f.stack.2 in run_laid (closed b end b.current) ts end g a.1 (closed_laid b end ts x os from a.0 f row.0 row.1)

@@ -1,0 +1,457 @@
+-- What one mark does to the tables, but for the beginning and the end of a block.
+use Rattle.std.proofs.Common.{◌≡◌, ◌<◌, ◌+◌, ◌⊎◌, inl, inr, ℕ, zero, suc, Bool, true, false, List, [], ◌∷◌, ◌++◌, length, Option, Some, None, refl, sym, ap, ◌∙◌, subst, arith, if◌then◌else◌}
+use Rattle.std.specs.Prelude.{◌&&◌, ◌||◌, cond, nat_eq, nat_lt, not, position, slice_get, slice_set}
+use Rattle.std.specs.List.{list_any, position_or_len}
+use Rattle.std.specs.Str.{bytes_eq}
+use Rattle.std.proofs.lemmas.List.{length-append, length-set}
+use Rattle.std.proofs.lemmas.Option.{slice_get_within}
+use Rattle.std.proofs.lemmas.Slice.Eq.{bytes_eq-Decides}
+use Rattle.std.proofs.lemmas.Bool.Decides.{nat_tests}
+use Rattle.sim_base.specs.declared.numbering.DeclNo.{DeclNo}
+use Rattle.sim_base.specs.declared.numbering.TokenNo.{TokenNo}
+use Rattle.sim_base.specs.declared.rule.Rule.{Rule}
+use Rattle.sim_base.specs.declared.rule.Rule.TheVariants as r
+use Rattle.sim_tree.specs.declared.expr.Identifier.{Identifier}
+use Rattle.sim_scope.specs.declared.scopes.Declaration.{Declaration}
+use Rattle.sim_scope.specs.declared.types.BlockKind.{BlockKind}
+use Rattle.sim_scope.specs.declared.types.Entry.{Entry}
+use Rattle.sim_scope.specs.declared.types.Entry.TheVariants as entry
+use Rattle.sim_scope.specs.declared.types.FormalKind.{FormalKind}
+use Rattle.sim_scope.specs.declared.types.FormalKind.TheVariants as shape
+use Rattle.sim_scope.specs.declared.types.Mode.{Mode}
+use Rattle.sim_scope.specs.declared.types.Mode.TheVariants as mode
+use Rattle.sim_scope.specs.declared.types.SimType.{SimType}
+use Rattle.sim_scope.specs.declared.types.WrittenMode.{WrittenMode}
+use Rattle.sim_scope.specs.Building.{BuildingOf, broken, broken_if, counted, counted_in, declared, declared_at, declared_inside, declared_new, default_mode, entered, formal, headed, in_class, is_procedure, is_simple, mode_allowed, moded, moded_as, parameter, specified, specified_as, token_in, unspecified_in, with_entry, with_mode, with_name}
+use Rattle.sim_scope.specs.Scopes.{declared_in, entry_in, entry_of, numbered}
+use Rattle.sim_scope.specs.Tables.{BlockOf, Tables}
+use Rattle.sim_scope.proofs.Kept.{kept_set, more_here, more_other, set_here, set_other}
+use Rattle.sim_meaning.specs.Entries.{numbers_in}
+use Rattle.sim_sound.specs.Typed.{Among, first, later}
+use Rattle.sim_agree.proofs.Groups.{PlainFormal}
+
+-- ---- lists of numbers
+
+pub among_more : (d : DeclNo) (xs ys : List DeclNo) → Among d xs → Among d (xs ++ ys)
+among_more d [] ys a = elim a [ ]
+among_more d (x ∷ xs) ys first = first
+among_more d (x ∷ xs) ys (later a) = later (among_more d xs ys a)
+
+pub among_last : (d : DeclNo) (xs : List DeclNo) → Among d (xs ++ d ∷ [])
+among_last d [] = first
+among_last d (x ∷ xs) = later (among_last d xs)
+
+pub among_before : (d e : DeclNo) (xs : List DeclNo) → Among d (xs ++ e ∷ []) → Among d xs ⊎ (d ≡ e)
+among_before d e [] first = inr refl
+among_before d e [] (later a) = absurd (elim a [ ])
+among_before d e (x ∷ xs) first = inl first
+among_before d e (x ∷ xs) (later a) = go (among_before d e xs a)
+  where
+    go : Among d xs ⊎ (d ≡ e) → Among d (x ∷ xs) ⊎ (d ≡ e)
+    go (inl b) = inl (later b)
+    go (inr b) = inr b
+
+-- ---- rows
+
+-- what no mark changes of a block
+abbrev pub Fixed : Type 0
+Fixed = Option (BlockKind × Option ℕ × ℕ)
+
+abbrev pub fixed : Option BlockOf → Fixed
+fixed None = None
+fixed (Some row) = Some (row.kind, row.encloser, row.level)
+
+-- a parameter that no mode part names, or one by value; and one that is specified as something plain
+abbrev pub WrittenPlain : Option WrittenMode → Type 0
+WrittenPlain None = Unit {0}
+WrittenPlain (Some w) = w.mode ≡ mode.ByValue
+
+abbrev pub NoName : Mode → Type 0
+NoName mode.ByName = ⊥
+NoName _ = Unit {0}
+
+abbrev pub Parametric : Entry → Type 0
+Parametric (entry.Unspecified w) = WrittenPlain w
+Parametric (entry.Formal f) = NoName f.mode × PlainFormal f.kind f.ty
+Parametric _ = ⊥
+
+-- ---- the declaration of an identifier in a block
+
+-- as many identifiers as declarations
+abbrev pub Even : Option BlockOf → Type 0
+Even None = Unit {0}
+Even (Some row) = length row.names ≡ length row.numbers
+
+abbrev pub AllEven : List BlockOf → Type 0
+AllEven bs = (j : ℕ) → Even (slice_get bs j)
+
+module _ (p : List ℕ → Bool) where
+  count_true : (x : List ℕ) (xs : List (List ℕ)) → p x ≡ true → position_or_len p (x ∷ xs) ≡ 0
+  count_true x xs is = ap (λ c. cond (not c) (1 + position_or_len p xs) 0) is
+
+  count_false : (x : List ℕ) (xs : List (List ℕ)) → p x ≡ false → position_or_len p (x ∷ xs) ≡ suc (position_or_len p xs)
+  count_false x xs is = ap (λ c. cond (not c) (1 + position_or_len p xs) 0) is ∙ (let e : 1 + position_or_len p xs ≡ suc (position_or_len p xs) = omega arith in e)
+
+  count_more : (xs ys : List (List ℕ)) → position_or_len p xs < length xs → position_or_len p (xs ++ ys) ≡ position_or_len p xs
+  count_more [] ys lt = absurd (omega arith)
+  count_more (x ∷ xs) ys lt = go (p x) refl (λ q. count_more xs ys q)
+    where
+      go : (c : Bool) → p x ≡ c → (position_or_len p xs < length xs → position_or_len p (xs ++ ys) ≡ position_or_len p xs) → position_or_len p ((x ∷ xs) ++ ys) ≡ position_or_len p (x ∷ xs)
+      go true is rest = count_true x (xs ++ ys) is ∙ sym (count_true x xs is)
+      go false is rest =
+          let e : position_or_len p (x ∷ xs) ≡ suc (position_or_len p xs) = count_false x xs is in
+          let n : length (x ∷ xs) ≡ suc (length xs) = omega arith in
+          count_false x (xs ++ ys) is ∙ ap suc (rest (omega arith)) ∙ sym e
+
+  count_new : (xs : List (List ℕ)) (y : List ℕ) → list_any p xs ≡ false → p y ≡ true → position_or_len p (xs ++ y ∷ []) ≡ length xs
+  count_new [] y none is = count_true y [] is
+  count_new (x ∷ xs) y none is = go (p x) refl (λ q. count_new xs y q is)
+    where
+      go : (c : Bool) → p x ≡ c → (list_any p xs ≡ false → position_or_len p (xs ++ y ∷ []) ≡ length xs) → position_or_len p ((x ∷ xs) ++ y ∷ []) ≡ length (x ∷ xs)
+      go true at rest_is = absurd (let e : true ≡ false = sym (ap (λ c. c || list_any p xs) at) ∙ none in cc)
+      go false at rest_is =
+          let rest : list_any p xs ≡ false = sym (ap (λ c. c || list_any p xs) at) ∙ none in
+          let n : length (x ∷ xs) ≡ suc (length xs) = omega arith in
+          count_false x (xs ++ y ∷ []) at ∙ ap suc (rest_is rest) ∙ sym n
+
+  found_at : (xs : List (List ℕ)) (ds : List DeclNo) (d : DeclNo) → numbered ds (position p xs) ≡ Some d → (position_or_len p xs < length xs) × (slice_get ds (position_or_len p xs) ≡ Some d)
+  found_at xs ds d is = go (nat_lt (position_or_len p xs) (length xs)) refl is
+    where
+      go : (c : Bool) → nat_lt (position_or_len p xs) (length xs) ≡ c → numbered ds (cond c (Some (position_or_len p xs)) None) ≡ Some d → (position_or_len p xs < length xs) × (slice_get ds (position_or_len p xs) ≡ Some d)
+      go true lt at = ((let P : position_or_len p xs < length xs = grind (arith, nat_tests) in P), at)
+      go false lt at = absurd (cc)
+
+  at_found : (xs : List (List ℕ)) (ds : List DeclNo) (d : DeclNo) → position_or_len p xs < length xs → slice_get ds (position_or_len p xs) ≡ Some d → numbered ds (position p xs) ≡ Some d
+  at_found xs ds d lt at =
+      let P : nat_lt (position_or_len p xs) (length xs) ≡ true = grind (arith, nat_tests) in
+      ap (λ c. numbered ds (cond c (Some (position_or_len p xs)) None)) P ∙ at
+
+get_more : {A : Type 0} (xs ys : List A) (n : ℕ) (x : A) → slice_get xs n ≡ Some x → slice_get (xs ++ ys) n ≡ Some x
+get_more [] ys n x is = absurd (cc)
+get_more (y ∷ xs) ys zero x is = is
+get_more (y ∷ xs) ys (suc n) x is = get_more xs ys n x is
+
+-- an identifier that was found is found in a block with one more
+looked_more : (row : BlockOf) (name new : List ℕ) (d number : DeclNo) → declared_in (Some row) name ≡ Some d → declared_in (Some (with_name row new number)) name ≡ Some d
+looked_more row name new d number is =
+    let q = found_at (bytes_eq name) row.names row.numbers d is in
+    let e : position_or_len (bytes_eq name) (row.names ++ new ∷ []) ≡ position_or_len (bytes_eq name) row.names = count_more (bytes_eq name) row.names (new ∷ []) q.0 in
+    let n : length (row.names ++ new ∷ []) ≡ length row.names + 1 = length-append row.names (new ∷ []) in
+    let lt : position_or_len (bytes_eq name) row.names < length row.names = q.0 in
+    at_found (bytes_eq name) (row.names ++ new ∷ []) (row.numbers ++ number ∷ []) d (omega arith) (ap (slice_get (row.numbers ++ number ∷ [])) e ∙ get_more row.numbers (number ∷ []) (position_or_len (bytes_eq name) row.names) d q.1)
+
+-- a new one is found
+looked_new : (row : BlockOf) (name : List ℕ) (number : DeclNo) → length row.names ≡ length row.numbers → list_any (bytes_eq name) row.names ≡ false → declared_in (Some (with_name row name number)) name ≡ Some number
+looked_new row name number even none =
+    let e : position_or_len (bytes_eq name) (row.names ++ name ∷ []) ≡ length row.names = count_new (bytes_eq name) row.names name none ((bytes_eq-Decides name name).1 refl) in
+    let n : length (row.names ++ name ∷ []) ≡ length row.names + 1 = length-append row.names (name ∷ []) in
+    at_found (bytes_eq name) (row.names ++ name ∷ []) (row.numbers ++ number ∷ []) number (omega arith)
+    (ap (slice_get (row.numbers ++ number ∷ [])) (e ∙ even) ∙ last_number row.numbers)
+  where
+    last_number : (xs : List DeclNo) → slice_get (xs ++ number ∷ []) (length xs) ≡ Some number
+    last_number [] = refl
+    last_number (x ∷ xs) = let m : length (x ∷ xs) ≡ suc (length xs) = omega arith in ap (slice_get ((x ∷ xs) ++ number ∷ [])) m ∙ last_number xs
+
+-- what may become of a row
+pub record Changed (old new : Declaration) : Type 0 where
+  pub name : new.name ≡ old.name
+  pub token : new.token ≡ old.token
+  pub block : new.block ≡ old.block
+  pub entry : (new.entry ≡ old.entry) ⊎ ((w : Option WrittenMode) × (old.entry ≡ entry.Unspecified w) × (WrittenPlain w → Parametric new.entry))
+
+pub unchanged : (row : Declaration) → Changed row row
+unchanged row = record { name = refl; token = refl; block = refl; entry = inl refl }
+
+-- what a mark does to the tables; of the blocks it changes the innermost one alone
+pub record Step (b c : BuildingOf) (New : ℕ → Declaration → Type 0) : Type 0 where
+  pub current : c.current ≡ b.current
+  pub size : length c.tables.blocks ≡ length b.tables.blocks
+  pub fixes : (j : ℕ) → fixed (slice_get c.tables.blocks j) ≡ fixed (slice_get b.tables.blocks j)
+  pub others : (j : ℕ) → (b.current ≡ Some j → ⊥) → slice_get c.tables.blocks j ≡ slice_get b.tables.blocks j
+  pub more : (j : ℕ) (d : DeclNo) → Among d (numbers_in (slice_get b.tables.blocks j)) → Among d (numbers_in (slice_get c.tables.blocks j))
+  pub fewer : (j : ℕ) (d : DeclNo) → Among d (numbers_in (slice_get c.tables.blocks j)) → Among d (numbers_in (slice_get b.tables.blocks j)) ⊎ ((row : Declaration) × (slice_get c.tables.declarations d.0 ≡ Some row) × (row.block ≡ j))
+  pub rows : (d : ℕ) (row : Declaration) → slice_get c.tables.declarations d ≡ Some row
+      → ((old : Declaration) × (slice_get b.tables.declarations d ≡ Some old) × Changed old row) ⊎ (New d row × Among (record { 0 = d }) (numbers_in (slice_get c.tables.blocks row.block)) × (AllEven b.tables.blocks → declared_in (slice_get c.tables.blocks row.block) row.name ≡ Some (record { 0 = d })))
+  pub places : c.tables.places ≡ b.tables.places
+  pub evens : AllEven b.tables.blocks → AllEven c.tables.blocks
+  pub looks : (j : ℕ) (name : List ℕ) (d : DeclNo) → declared_in (slice_get b.tables.blocks j) name ≡ Some d → declared_in (slice_get c.tables.blocks j) name ≡ Some d
+  pub stays : (d : ℕ) (old : Declaration) → slice_get b.tables.declarations d ≡ Some old → (row : Declaration) × (slice_get c.tables.declarations d ≡ Some row) × Changed old row
+
+-- nothing new
+abbrev pub Nothing : ℕ → Declaration → Type 0
+Nothing d row = ⊥
+
+abbrev pub IsRow : Identifier → Entry → ℕ → Declaration → Type 0
+IsRow x e n row = (row.name ≡ x.name) × (row.token ≡ x.token) × (row.block ≡ n) × (row.entry ≡ e)
+
+-- ---- steps that change no table
+
+pub same_step : (b c : BuildingOf) (New : ℕ → Declaration → Type 0) → c.tables ≡ b.tables → c.current ≡ b.current → Step b c New
+same_step b c New t k = record {
+  current = k;
+  size = ap (λ (s : Tables). length s.blocks) t;
+  fixes = λ j. ap (λ (s : Tables). fixed (slice_get s.blocks j)) t;
+  others = λ j e. ap (λ (s : Tables). slice_get s.blocks j) t;
+  more = λ j d a. subst (λ (s : Tables). Among d (numbers_in (slice_get s.blocks j))) (sym t) a;
+  fewer = λ j d a. inl (subst (λ (s : Tables). Among d (numbers_in (slice_get s.blocks j))) t a);
+  rows = λ d row e. inl (row, sym (ap (λ (s : Tables). slice_get s.declarations d) t) ∙ e, unchanged row);
+  places = ap (λ (s : Tables). s.places) t;
+  evens = λ a j. subst (λ (s : Tables). Even (slice_get s.blocks j)) (sym t) (a j);
+  looks = λ j name d e. subst (λ (s : Tables). declared_in (slice_get s.blocks j) name ≡ Some d) (sym t) e;
+  stays = λ d old e. (old, ap (λ (s : Tables). slice_get s.declarations d) t ∙ e, unchanged old);
+}
+
+-- a broken rule changes no table
+pub broken_step : (a : Bool) (b c : BuildingOf) (token : ℕ) (rule : Rule) (New : ℕ → Declaration → Type 0) → Step b c New → Step b (broken_if a c token rule) New
+broken_step true b c token rule New h = record { current = h.current; size = h.size; fixes = h.fixes; others = h.others; more = h.more; fewer = h.fewer; rows = h.rows; places = h.places; evens = h.evens; looks = h.looks; stays = h.stays }
+broken_step false b c token rule New h = h
+
+-- ---- a declaration
+
+some_same : {A : Type 0} (a b : A) → Some a ≡ Some b → a ≡ b
+some_same a b e = cc
+
+number_same : (d : DeclNo) (n : ℕ) → d ≡ record { 0 = n } → d.0 ≡ n
+number_same d n e = ap (λ (z : DeclNo). z.0) e
+
+new_step : (b : BuildingOf) (x : Identifier) (e : Entry) (n : ℕ) (row : BlockOf) → b.current ≡ Some n → slice_get b.tables.blocks n ≡ Some row → list_any (bytes_eq x.name) row.names ≡ false
+    → Step b (record b { tables = record b.tables { blocks = slice_set b.tables.blocks n (with_name row x.name (record { 0 = length b.tables.declarations })); declarations = b.tables.declarations ++ record { name = x.name; token = x.token; block = n; entry = e } ∷ [] }; latest = Some (record { 0 = length b.tables.declarations }) })
+    (λ d row. (d ≡ length b.tables.declarations) × IsRow x e n row)
+new_step b x e n row cur at fresh_name = record {
+  current = refl;
+  size = length-set bs n new;
+  fixes = λ j. kept_set fixed bs n row new at refl j;
+  others = λ j q. set_other bs n j new (differ j q (nat_eq n j) refl);
+  more = λ j d a. more j d (nat_eq n j) refl a;
+  fewer = λ j d a. fewer j d (nat_eq n j) refl a;
+  rows = λ d found is. rows d found (nat_eq d (length ds)) refl is;
+  places = refl;
+  evens = λ a j. evens j (nat_eq n j) refl (a j);
+  looks = λ j name d is. looks j name d (nat_eq n j) refl is;
+  stays = λ d old is. (old, more_other ds fresh d (within d old is) ∙ is, unchanged old);
+}
+  where
+    bs : List BlockOf
+    bs = b.tables.blocks
+
+    ds : List Declaration
+    ds = b.tables.declarations
+
+    number : DeclNo
+    number = record { 0 = length ds }
+
+    new : BlockOf
+    new = with_name row x.name number
+
+    fresh : Declaration
+    fresh = record { name = x.name; token = x.token; block = n; entry = e }
+
+    differ : (j : ℕ) → (b.current ≡ Some j → ⊥) → (c : Bool) → nat_eq n j ≡ c → nat_eq n j ≡ false
+    differ j q true is = absurd (q (cur ∙ ap Some (let P : n ≡ j = grind (arith, nat_tests) in P)))
+    differ j q false is = is
+
+    here : (j : ℕ) → nat_eq n j ≡ true → slice_get (slice_set bs n new) j ≡ Some new
+    here j is = let same : n ≡ j = grind (arith, nat_tests) in subst (λ z. slice_get (slice_set bs n new) z ≡ Some new) same (set_here bs n row new at)
+
+    old_here : (j : ℕ) → nat_eq n j ≡ true → slice_get bs j ≡ Some row
+    old_here j is = let same : n ≡ j = grind (arith, nat_tests) in subst (λ z. slice_get bs z ≡ Some row) same at
+
+    more : (j : ℕ) (d : DeclNo) (c : Bool) → nat_eq n j ≡ c → Among d (numbers_in (slice_get bs j)) → Among d (numbers_in (slice_get (slice_set bs n new) j))
+    more j d true is a = subst (λ z. Among d (numbers_in z)) (sym (here j is)) (among_more d row.numbers (number ∷ []) (subst (λ z. Among d (numbers_in z)) (old_here j is) a))
+    more j d false is a = subst (λ z. Among d (numbers_in z)) (sym (set_other bs n j new is)) a
+
+    fewer : (j : ℕ) (d : DeclNo) (c : Bool) → nat_eq n j ≡ c → Among d (numbers_in (slice_get (slice_set bs n new) j))
+        → Among d (numbers_in (slice_get bs j)) ⊎ ((found : Declaration) × (slice_get (ds ++ fresh ∷ []) d.0 ≡ Some found) × (found.block ≡ j))
+    fewer j d true is a = pick (among_before d number row.numbers (subst (λ z. Among d (numbers_in z)) (here j is) a))
+      where
+        pick : Among d row.numbers ⊎ (d ≡ number) → Among d (numbers_in (slice_get bs j)) ⊎ ((found : Declaration) × (slice_get (ds ++ fresh ∷ []) d.0 ≡ Some found) × (found.block ≡ j))
+        pick (inl q) = inl (subst (λ z. Among d (numbers_in z)) (sym (old_here j is)) q)
+        pick (inr q) = inr (fresh, ap (slice_get (ds ++ fresh ∷ [])) (number_same d (length ds) q) ∙ more_here ds fresh, (let P : n ≡ j = grind (arith, nat_tests) in P))
+    fewer j d false is a = inl (subst (λ z. Among d (numbers_in z)) (set_other bs n j new is) a)
+
+    evens : (j : ℕ) (c : Bool) → nat_eq n j ≡ c → Even (slice_get bs j) → Even (slice_get (slice_set bs n new) j)
+    evens j true is a = subst Even (sym (here j is)) (length-append row.names (x.name ∷ []) ∙ (let e : length row.names ≡ length row.numbers = subst Even (old_here j is) a in ap (λ z. z + 1) e) ∙ sym (length-append row.numbers (number ∷ [])))
+    evens j false is a = subst Even (sym (set_other bs n j new is)) a
+
+    looks : (j : ℕ) (name : List ℕ) (d : DeclNo) (c : Bool) → nat_eq n j ≡ c → declared_in (slice_get bs j) name ≡ Some d → declared_in (slice_get (slice_set bs n new) j) name ≡ Some d
+    looks j name d true is e = ap (λ z. declared_in z name) (here j is) ∙ looked_more row name x.name d number (sym (ap (λ z. declared_in z name) (old_here j is)) ∙ e)
+    looks j name d false is e = ap (λ z. declared_in z name) (set_other bs n j new is) ∙ e
+
+    within : (d : ℕ) (old : Declaration) → slice_get ds d ≡ Some old → nat_eq d (length ds) ≡ false
+    within d old is = let lt : d < length ds = slice_get_within ds d old is in let P : nat_eq d (length ds) ≡ false = grind (arith, nat_tests) in P
+
+    rows : (d : ℕ) (found : Declaration) (c : Bool) → nat_eq d (length ds) ≡ c → slice_get (ds ++ fresh ∷ []) d ≡ Some found
+        → ((old : Declaration) × (slice_get ds d ≡ Some old) × Changed old found) ⊎ (((d ≡ length ds) × IsRow x e n found) × Among (record { 0 = d }) (numbers_in (slice_get (slice_set bs n new) found.block)) × (AllEven bs → declared_in (slice_get (slice_set bs n new) found.block) found.name ≡ Some (record { 0 = d })))
+    rows d found true is at' =
+        let same : d ≡ length ds = grind (arith, nat_tests) in
+        let f : fresh ≡ found = some_same fresh found (sym (more_here ds fresh) ∙ subst (λ z. slice_get (ds ++ fresh ∷ []) z ≡ Some found) same at') in
+        inr ((same, (ap (λ (z : Declaration). z.name) (sym f), ap (λ (z : Declaration). z.token) (sym f), ap (λ (z : Declaration). z.block) (sym f), ap (λ (z : Declaration). z.entry) (sym f))), listed d found same f, λ a. named d found same f (a n))
+      where
+        listed : (d : ℕ) (found : Declaration) → d ≡ length ds → fresh ≡ found → Among (record { 0 = d }) (numbers_in (slice_get (slice_set bs n new) found.block))
+        listed d found same f =
+            subst (λ (z : Declaration). Among (record { 0 = d }) (numbers_in (slice_get (slice_set bs n new) z.block))) f
+            (subst (λ z. Among (record { 0 = z }) (numbers_in (slice_get (slice_set bs n new) n))) (sym same)
+            (subst (λ z. Among number (numbers_in z)) (sym (set_here bs n row new at)) (among_last number row.numbers)))
+
+        even_here : Even (slice_get bs n) → length row.names ≡ length row.numbers
+        even_here a = subst Even at a
+
+        named : (d : ℕ) (found : Declaration) → d ≡ length ds → fresh ≡ found → Even (slice_get bs n) → declared_in (slice_get (slice_set bs n new) found.block) found.name ≡ Some (record { 0 = d })
+        named d found same f a =
+            subst (λ (z : Declaration). declared_in (slice_get (slice_set bs n new) z.block) z.name ≡ Some (record { 0 = d })) f
+            (subst (λ z. declared_in (slice_get (slice_set bs n new) n) x.name ≡ Some (record { 0 = z })) (sym same)
+            (ap (λ z. declared_in z x.name) (set_here bs n row new at) ∙ looked_new row x.name number (even_here a) fresh_name))
+    rows d found false is at' = inl (found, sym (more_other ds fresh d is) ∙ at', unchanged found)
+
+-- the new row is that of the mark
+abbrev pub Declared : ℕ → Identifier → Entry → ℕ → ℕ → Declaration → Type 0
+Declared next x e n d row = (d ≡ next) × IsRow x e n row
+
+declared_row : (b : BuildingOf) (x : Identifier) (e : Entry) (n : ℕ) (o : Option BlockOf) → b.current ≡ Some n → slice_get b.tables.blocks n ≡ o
+    → Step b (declared_at b x e n o) (Declared (length b.tables.declarations) x e n)
+declared_row b x e n None cur at = same_step b b _ refl refl
+declared_row b x e n (Some row) cur at = go (list_any (bytes_eq x.name) row.names) refl
+  where
+    go : (c : Bool) → list_any (bytes_eq x.name) row.names ≡ c → Step b (if c then broken (record b { latest = declared_in (Some row) x.name }) x.token.0 r.DeclaredTwice else declared_new b x e n row) (Declared (length b.tables.declarations) x e n)
+    go true is = same_step b _ _ refl refl
+    go false is = broken_step (nat_eq (length b.tables.declarations) 65535) b _ x.token.0 r.TooManyDeclarations _ (new_step b x e n row cur at is)
+
+pub declared_step : (b : BuildingOf) (x : Identifier) (e : Entry) (n : ℕ) → b.current ≡ Some n → Step b (declared b x e) (Declared (length b.tables.declarations) x e n)
+declared_step b x e n cur = subst (λ o. Step b (declared_inside b x e o) (Declared (length b.tables.declarations) x e n)) (sym cur) (declared_row b x e n (slice_get b.tables.blocks n) cur refl)
+
+-- ---- parameters
+
+-- the formal parameters of the innermost block are counted
+counted_step : (b c : BuildingOf) (n : ℕ) (o : Option BlockOf) (New : ℕ → Declaration → Type 0) → b.current ≡ Some n → slice_get c.tables.blocks n ≡ o → Step b c New → Step b (counted c n o) New
+counted_step b c n None New cur at h = h
+counted_step b c n (Some row) New cur at h = record {
+  current = h.current;
+  size = length-set bs n new ∙ h.size;
+  fixes = λ j. kept_set fixed bs n row new at refl j ∙ h.fixes j;
+  others = λ j q. set_other bs n j new (differ j q (nat_eq n j) refl) ∙ h.others j q;
+  more = λ j d a. subst (λ z. Among d z) (sym (kept_set numbers_in bs n row new at refl j)) (h.more j d a);
+  fewer = λ j d a. h.fewer j d (subst (λ z. Among d z) (kept_set numbers_in bs n row new at refl j) a);
+  rows = λ d found is. listed d found (h.rows d found is);
+  places = h.places;
+  evens = λ a j. even j (nat_eq n j) refl (h.evens a j);
+  looks = λ j name d is. kept_set (λ o. declared_in o name) bs n row new at refl j ∙ h.looks j name d is;
+  stays = h.stays;
+}
+  where
+    bs : List BlockOf
+    bs = c.tables.blocks
+
+    new : BlockOf
+    new = record row { formals = length row.numbers }
+
+    differ : (j : ℕ) → (b.current ≡ Some j → ⊥) → (a : Bool) → nat_eq n j ≡ a → nat_eq n j ≡ false
+    differ j q true is = absurd (q (cur ∙ ap Some (let P : n ≡ j = grind (arith, nat_tests) in P)))
+    differ j q false is = is
+
+    even : (j : ℕ) (c : Bool) → nat_eq n j ≡ c → Even (slice_get bs j) → Even (slice_get (slice_set bs n new) j)
+    even j true is a =
+        let same : n ≡ j = grind (arith, nat_tests) in
+        subst (λ z. Even (slice_get (slice_set bs n new) z)) same (subst Even (sym (set_here bs n row new at)) (subst Even at (subst (λ z. Even (slice_get bs z)) (sym same) a)))
+    even j false is a = subst Even (sym (set_other bs n j new is)) a
+
+    listed : (d : ℕ) (found : Declaration) → ((old : Declaration) × (slice_get b.tables.declarations d ≡ Some old) × Changed old found) ⊎ (New d found × Among (record { 0 = d }) (numbers_in (slice_get bs found.block)) × (AllEven b.tables.blocks → declared_in (slice_get bs found.block) found.name ≡ Some (record { 0 = d })))
+        → ((old : Declaration) × (slice_get b.tables.declarations d ≡ Some old) × Changed old found) ⊎ (New d found × Among (record { 0 = d }) (numbers_in (slice_get (slice_set bs n new) found.block)) × (AllEven b.tables.blocks → declared_in (slice_get (slice_set bs n new) found.block) found.name ≡ Some (record { 0 = d })))
+    listed d found (inl q) = inl q
+    listed d found (inr q) = inr (q.0, subst (λ z. Among (record { 0 = d }) z) (sym (kept_set numbers_in bs n row new at refl found.block)) q.1, λ a. kept_set (λ o. declared_in o found.name) bs n row new at refl found.block ∙ q.2 a)
+
+pub parameter_step : (b : BuildingOf) (x : Identifier) (n : ℕ) → b.current ≡ Some n → Step b (parameter b x) (Declared (length b.tables.declarations) x (entry.Unspecified None) n)
+parameter_step b x n cur =
+    let c : BuildingOf = declared b x (entry.Unspecified None) in
+    let h : Step b c (Declared (length b.tables.declarations) x (entry.Unspecified None) n) = declared_step b x (entry.Unspecified None) n cur in
+    subst (λ o. Step b (counted_in c o) (Declared (length b.tables.declarations) x (entry.Unspecified None) n)) (sym (h.current ∙ cur)) (counted_step b c n (slice_get c.tables.blocks n) _ cur refl h)
+
+-- ---- what becomes known of a parameter
+
+entry_step : (b : BuildingOf) (d : DeclNo) (w : Option WrittenMode) (e : Entry) (o : Option Declaration) → slice_get b.tables.declarations d.0 ≡ o → entry_in o ≡ Some (entry.Unspecified w) → (WrittenPlain w → Parametric e) → Step b (entered b d e o) Nothing
+entry_step b d w e None at is fine = absurd (cc)
+entry_step b d w e (Some row) at is fine = record {
+  current = refl;
+  size = refl;
+  fixes = λ j. refl;
+  others = λ j q. refl;
+  more = λ j f a. a;
+  fewer = λ j f a. inl a;
+  rows = λ f found p. inl (rows f found (nat_eq d.0 f) refl p);
+  places = refl;
+  evens = λ a. a;
+  looks = λ j name f p. p;
+  stays = λ f old p. stays f old (nat_eq d.0 f) refl p;
+}
+  where
+    ds : List Declaration
+    ds = b.tables.declarations
+
+    new : Declaration
+    new = record row { entry = e }
+
+    change : Changed row new
+    change = record { name = refl; token = refl; block = refl; entry = inr (w, some_same row.entry (entry.Unspecified w) is, fine) }
+
+    here : (f : ℕ) → nat_eq d.0 f ≡ true → slice_get (slice_set ds d.0 new) f ≡ Some new
+    here f is = let same : d.0 ≡ f = grind (arith, nat_tests) in subst (λ z. slice_get (slice_set ds d.0 new) z ≡ Some new) same (set_here ds d.0 row new at)
+
+    old_here : (f : ℕ) → nat_eq d.0 f ≡ true → slice_get ds f ≡ Some row
+    old_here f is = let same : d.0 ≡ f = grind (arith, nat_tests) in subst (λ z. slice_get ds z ≡ Some row) same at
+
+    rows : (f : ℕ) (found : Declaration) (c : Bool) → nat_eq d.0 f ≡ c → slice_get (slice_set ds d.0 new) f ≡ Some found → (old : Declaration) × (slice_get ds f ≡ Some old) × Changed old found
+    rows f found true is p = (row, old_here f is, subst (Changed row) (some_same new found (sym (here f is) ∙ p)) change)
+    rows f found false is p = (found, sym (set_other ds d.0 f new is) ∙ p, unchanged found)
+
+    stays : (f : ℕ) (old : Declaration) (c : Bool) → nat_eq d.0 f ≡ c → slice_get ds f ≡ Some old → (found : Declaration) × (slice_get (slice_set ds d.0 new) f ≡ Some found) × Changed old found
+    stays f old true is p = (new, here f is, subst (λ z. Changed z new) (some_same row old (sym (old_here f is) ∙ p)) change)
+    stays f old false is p = (old, set_other ds d.0 f new is ∙ p, unchanged old)
+
+is_unspecified : (o : Option Entry) (w : Option WrittenMode) → unspecified_in o ≡ Some w → o ≡ Some (entry.Unspecified w)
+is_unspecified (Some (entry.Unspecified v)) w e = ap (λ z. Some (entry.Unspecified z)) (some_same v w e)
+is_unspecified None w e = absurd (cc)
+is_unspecified (Some (entry.Variable ty)) w e = absurd (cc)
+is_unspecified (Some (entry.Constant ty)) w e = absurd (cc)
+is_unspecified (Some (entry.Array ty n)) w e = absurd (cc)
+is_unspecified (Some (entry.Procedure ty n)) w e = absurd (cc)
+is_unspecified (Some (entry.Class n)) w e = absurd (cc)
+is_unspecified (Some (entry.Virtual ty n)) w e = absurd (cc)
+is_unspecified (Some (entry.Formal f)) w e = absurd (cc)
+
+with_entry_step : (b : BuildingOf) (d : DeclNo) (w : Option WrittenMode) (e : Entry) → unspecified_in (entry_of b.tables d) ≡ Some w → (WrittenPlain w → Parametric e) → Step b (with_entry b d e) Nothing
+unfolding entry_of
+with_entry_step b d w e is fine = entry_step b d w e (slice_get b.tables.declarations d.0) refl (is_unspecified (entry_in (slice_get b.tables.declarations d.0)) w is) fine
+
+moded_row : (b : BuildingOf) (token : TokenNo) (d : DeclNo) (o : Option (Option WrittenMode)) → unspecified_in (entry_of b.tables d) ≡ o → Step b (moded_as b token mode.ByValue d o) Nothing
+moded_row b token d None is = same_step b _ _ refl refl
+moded_row b token d (Some (Some w)) is = same_step b _ _ refl refl
+moded_row b token d (Some None) is = with_entry_step b d None (entry.Unspecified (Some (record { token = token; mode = mode.ByValue }))) is (λ q. refl)
+
+pub moded_step : (b : BuildingOf) (token : TokenNo) (o : Option DeclNo) → Step b (moded b token mode.ByValue o) Nothing
+moded_step b token None = same_step b _ _ refl refl
+moded_step b token (Some d) = moded_row b token d (unspecified_in (entry_of b.tables d)) refl
+
+no_default_name : (k : FormalKind) (ty : Option SimType) → NoName (default_mode k ty)
+unfolding default_mode
+no_default_name shape.Simple ty = go (is_simple ty)
+  where
+    go : (c : Bool) → NoName (if c then mode.ByValue else mode.ByReference)
+    go true = tt
+    go false = tt
+no_default_name shape.Array ty = tt
+no_default_name shape.Procedure ty = tt
+
+specified_mode : (b : BuildingOf) (d : DeclNo) (k : FormalKind) (ty : Option SimType) (w : Option WrittenMode) → unspecified_in (entry_of b.tables d) ≡ Some w → PlainFormal k ty → Step b (with_mode b d k ty w) Nothing
+specified_mode b d k ty None is p = with_entry_step b d None (formal (default_mode k ty) k ty) is (λ q. (no_default_name k ty, p))
+specified_mode b d k ty (Some w) is p = broken_step (not (mode_allowed w.mode k ty)) b _ w.token.0 r.ModeNotAllowed Nothing (with_entry_step b d (Some w) (formal w.mode k ty) is (λ q. (subst NoName (sym q) tt, p)))
+
+specified_row : (b : BuildingOf) (token : TokenNo) (k : FormalKind) (ty : Option SimType) (d : DeclNo) (o : Option (Option WrittenMode)) → unspecified_in (entry_of b.tables d) ≡ o → PlainFormal k ty → Step b (specified_as b token k ty d o) Nothing
+specified_row b token k ty d None is p = same_step b _ _ refl refl
+specified_row b token k ty d (Some w) is p = broken_step (is_procedure k && in_class b) b _ (token_in (slice_get b.tables.declarations d.0)) r.ModeNotAllowed Nothing (specified_mode b d k ty w is p)
+
+pub specified_step : (b : BuildingOf) (token : TokenNo) (k : FormalKind) (ty : Option SimType) (o : Option DeclNo) → PlainFormal k ty → Step b (specified b token k ty o) Nothing
+specified_step b token k ty None p = same_step b _ _ refl refl
+specified_step b token k ty (Some d) p = specified_row b token k ty d (unspecified_in (entry_of b.tables d)) refl p
+
+pub headed_step : (b : BuildingOf) (token : TokenNo) (o : Option (Option WrittenMode)) → Step b (headed b token o) Nothing
+headed_step b token None = same_step b _ _ refl refl
+headed_step b token (Some w) = same_step b _ _ refl refl

@@ -1,0 +1,6 @@
+pub mod Plain
+pub mod Places
+pub mod Facts
+pub mod TablesOf
+pub mod TablesAgree
+pub mod ConstantAt

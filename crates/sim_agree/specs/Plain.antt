@@ -1,0 +1,108 @@
+-- Programs without classes, parameters by name and formal procedures.
+use Rattle.std.specs.Prelude.{◌≡◌, List, [], ◌∷◌, Option, Some, None}
+use Rattle.sim_tree.specs.declared.stmt.Mode.{Mode as Word}
+use Rattle.sim_tree.specs.declared.stmt.Mode.TheVariants as word
+use Rattle.sim_tree.specs.declared.stmt.TypeName.{TypeName}
+use Rattle.sim_tree.specs.declared.stmt.TypeName.TheVariants as type_name
+use Rattle.sim_tree.specs.Syntax as s
+use Rattle.sim_tree.specs.Syntax.{Expression, Expressions, Literal, Statement, Statements, Arms, Block, Declarations, Declaration, RightSide, Element, BoundPair, Arrayed, Heading, Moded, Specification, Specified, Prefix, Program}
+
+abbrev pub PlainLiteral : Literal → Type 0
+PlainLiteral s.NoObject = ⊥
+PlainLiteral _ = Unit {0}
+
+abbrev mutual
+  pub PlainExpression : Expression → Type 0
+  PlainExpression (s.If i a b c) = PlainExpression a × PlainExpression b × PlainExpression c
+  PlainExpression (s.Binary operator i a b) = PlainExpression a × PlainExpression b
+  PlainExpression (s.Not i a) = PlainExpression a
+  PlainExpression (s.Signed sign i a) = PlainExpression a
+  PlainExpression (s.Dot i a name es) = PlainExpression a × PlainExpressions es
+  PlainExpression (s.Constant literal i) = PlainLiteral literal
+  PlainExpression (s.Named name es) = PlainExpressions es
+  PlainExpression (s.Parentheses i a) = PlainExpression a
+  PlainExpression _ = ⊥
+
+  pub PlainExpressions : Expressions → Type 0
+  PlainExpressions s.NoMore = Unit {0}
+  PlainExpressions (s.Then e es) = PlainExpression e × PlainExpressions es
+
+-- of each element of a list
+abbrev pub Each : {A : Type 0} → (A → Type 0) → List A → Type 0
+Each P [] = Unit {0}
+Each P (x ∷ xs) = P x × Each P xs
+
+abbrev pub PlainSide : RightSide → Type 0
+PlainSide x = PlainExpression x.value
+
+abbrev pub PlainElement : Element → Type 0
+PlainElement (s.Once a) = PlainExpression a
+PlainElement (s.Step a i b c) = PlainExpression a × PlainExpression b × PlainExpression c
+PlainElement (s.While a i b) = PlainExpression a × PlainExpression b
+
+abbrev pub PlainType : TypeName → Type 0
+PlainType (type_name.Reference i class) = ⊥
+PlainType _ = Unit {0}
+
+abbrev pub PlainResult : Option TypeName → Type 0
+PlainResult None = Unit {0}
+PlainResult (Some t) = PlainType t
+
+abbrev pub PlainBounds : BoundPair → Type 0
+PlainBounds b = PlainExpression b.lower × PlainExpression b.upper
+
+abbrev pub PlainSegment : Arrayed → Type 0
+PlainSegment a = Each PlainBounds a.bounds
+
+-- no mode part with `name`
+abbrev pub PlainWord : Word → Type 0
+PlainWord word.Value = Unit {0}
+PlainWord word.Name = ⊥
+
+abbrev pub PlainMode : Moded → Type 0
+PlainMode m = PlainWord m.mode
+
+-- no `procedure` among the specifications
+abbrev pub PlainSpecified : Specified → Type 0
+PlainSpecified (s.Simple t) = PlainType t
+PlainSpecified (s.Array t i) = PlainType t
+PlainSpecified (s.Procedure result i) = ⊥
+
+abbrev pub PlainSpecification : Specification → Type 0
+PlainSpecification x = PlainSpecified x.kind
+
+abbrev pub PlainHeading : Heading → Type 0
+PlainHeading h = Each PlainMode h.modes × Each PlainSpecification h.specifications
+
+abbrev mutual
+  pub PlainStatement : Statement → Type 0
+  PlainStatement (s.Empty i) = Unit {0}
+  PlainStatement (s.Compound b) = PlainBlock b
+  PlainStatement (s.Call e) = PlainExpression e
+  PlainStatement (s.Assign e sides) = PlainExpression e × Each PlainSide sides
+  PlainStatement (s.Choose i e x y) = PlainExpression e × PlainStatement x × PlainStatements y
+  PlainStatement (s.Repeat i e x) = PlainExpression e × PlainStatement x
+  PlainStatement (s.For i name sign j elements x) = Each PlainElement elements × PlainStatement x
+  PlainStatement _ = ⊥
+
+  pub PlainStatements : Statements → Type 0
+  PlainStatements s.NoStatement = Unit {0}
+  PlainStatements (s.Also x xs) = PlainStatement x × PlainStatements xs
+
+  pub PlainBlock : Block → Type 0
+  PlainBlock (s.Begin i ds xs end) = PlainDeclarations ds × PlainStatements xs
+
+  pub PlainDeclarations : Declarations → Type 0
+  PlainDeclarations s.NoDeclaration = Unit {0}
+  PlainDeclarations (s.With d ds) = PlainDeclaration d × PlainDeclarations ds
+
+  pub PlainDeclaration : Declaration → Type 0
+  PlainDeclaration (s.Variables t vs) = PlainType t
+  PlainDeclaration (s.Arrays t i segments) = PlainType t × Each PlainSegment segments
+  PlainDeclaration (s.DeclareProcedure result i heading x end) = PlainResult result × PlainHeading heading × PlainStatement x
+  PlainDeclaration (s.DeclareClass prefix i heading interface x end) = ⊥
+
+-- a program without classes, prefixed blocks, connections, references, parameters by name and formal procedures
+pub record Plain (p : Program) : Type 0 where
+  pub prefix : p.prefix ≡ None
+  pub block : PlainBlock p.block

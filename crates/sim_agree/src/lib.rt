@@ -1,0 +1,4 @@
+//! That the tables of a program agree with its texts.
+#![tactic(auto)]
+
+pub mod laws;

@@ -1,0 +1,306 @@
+-- What actual parameters and subscripts are.
+use Rattle.std.proofs.Common.{◌≡◌, ℕ, zero, suc, ◌+◌, Bool, true, false, List, [], ◌∷◌, length, Option, Some, None, refl, sym, ap, ◌∙◌, subst, arith, if◌then◌else◌}
+use Rattle.std.specs.Prelude.{◌&&◌, slice_get}
+use Rattle.sim_base.specs.declared.numbering.DeclNo.{DeclNo}
+use Rattle.sim_base.specs.declared.rule.Rule.TheVariants as r
+use Rattle.sim_scope.specs.declared.found.Fault.{Fault}
+use Rattle.sim_scope.specs.declared.outcome.Actual.{Actual}
+use Rattle.sim_scope.specs.declared.outcome.Actuals.{Actuals}
+use Rattle.sim_scope.specs.declared.outcome.Extent.{Extent}
+use Rattle.sim_scope.specs.declared.outcome.Outcome.{Outcome}
+use Rattle.sim_scope.specs.declared.outcome.Outcome.TheVariants as is
+use Rattle.sim_scope.specs.declared.outcome.Parameter.{Parameter}
+use Rattle.sim_scope.specs.declared.outcome.Parameter.TheVariants as parameter
+use Rattle.sim_scope.specs.declared.scopes.Denotation.{Denotation}
+use Rattle.sim_scope.specs.declared.scopes.Denotation.TheVariants as denotation
+use Rattle.sim_scope.specs.declared.standard.Signature.{Signature}
+use Rattle.sim_scope.specs.declared.standard.Standard.{Standard}
+use Rattle.sim_scope.specs.declared.types.Formal.{Formal}
+use Rattle.sim_scope.specs.declared.types.FormalKind.{FormalKind}
+use Rattle.sim_scope.specs.declared.types.FormalKind.TheVariants as shape
+use Rattle.sim_scope.specs.declared.types.Mode.{Mode}
+use Rattle.sim_scope.specs.declared.types.Mode.TheVariants as mode
+use Rattle.sim_scope.specs.declared.types.SimType.{SimType}
+use Rattle.sim_scope.specs.declared.types.SimType.TheVariants as t
+use Rattle.sim_scope.specs.Actuals.{actual, array_actual, array_fits, as_value, fitting, formal_or_none, more, parameter_at, parameter_type, procedure_actual, procedure_fits, same_or_misfit, misfitting, has_value_alone, result_in, result_matches, standard_actual, type_matches, typed_or_none, unspecified_standard, value_fits, with_actual}
+use Rattle.sim_scope.specs.Calls.{parameter_count}
+use Rattle.sim_scope.specs.Expressions.{actuals, judge}
+use Rattle.sim_scope.specs.Found.{fault, lesser, lesser_of, precedes}
+use Rattle.sim_scope.specs.Judged.{Judged, gives, next}
+use Rattle.sim_scope.specs.Outcomes.{is_stream, type_in, valued}
+use Rattle.sim_scope.specs.Scopes.{entry_of}
+use Rattle.sim_scope.specs.Source.{Source}
+use Rattle.sim_scope.specs.Standard.{signature}
+use Rattle.sim_tree.specs.Syntax.{Expression, Expressions, NoMore, Then, first_of}
+use Rattle.sim_values.specs.declared.kind.Kind.TheVariants as kind
+use Rattle.sim_meaning.specs.Texts.{kind_of_type}
+use Rattle.sim_sound.specs.Typed.{ActualFits, ActualsFit, AreIntegers, AreOf, ArrayOf, ExprIs, Simply}
+use Rattle.sim_agree.specs.Facts.{ProperFormal, ProperType, Tabled}
+use Rattle.sim_allowed.proofs.Calls.{valued_means}
+use Rattle.sim_allowed.proofs.Headings.{AllProper}
+use Rattle.sim_allowed.proofs.Meant.{Means, ValueIs}
+use Rattle.sim_allowed.proofs.Names.{kinds_of, parameter_kinds}
+use Rattle.sim_allowed.proofs.Operators.{same_type}
+use Rattle.sim_allowed.proofs.Said.{AllSay, next_says}
+
+-- ---- one actual
+
+-- how an actual fits a formal parameter, whatever its mode is
+abbrev pub FitsFormal : Source → Option ℕ → Expression → FormalKind → Option SimType → Type 0
+FitsFormal s from e shape.Simple (Some ty) = ExprIs s from e (Simply (kind_of_type ty))
+FitsFormal s from e shape.Array (Some ty) = ExprIs s from e (ArrayOf (kind_of_type ty))
+FitsFormal s from e _ _ = Unit {0}
+
+abbrev pub FitsAs : Source → Option ℕ → Expression → Parameter → Type 0
+FitsAs s from e parameter.Subscript = ExprIs s from e (Simply kind.Integer)
+FitsAs s from e (parameter.Formal f) = FitsFormal s from e f.kind f.ty
+FitsAs s from e _ = Unit {0}
+
+-- it is something, and where it is no misfit it fits
+pub record ActualIs (s : Source) (from : Option ℕ) (e : Expression) (p : Parameter) (x : Actual) : Type 0 where
+  pub typed : x.typed ≡ true
+  pub fits : x.misfit ≡ None → FitsAs s from e p
+
+no_fault : (f : Fault) → Some f ≡ None → ⊥
+no_fault f e = cc
+
+same_typed : (wanted : Option SimType) (first : ℕ) (b : SimType) → (same_or_misfit first wanted b).typed ≡ true
+same_typed wanted first b = go (type_matches wanted b)
+  where
+    go : (m : Bool) → (if m then fitting else misfitting first r.WrongType).typed ≡ true
+    go true = refl
+    go false = refl
+
+matched : (wanted : Option SimType) (first : ℕ) (b : SimType) → (same_or_misfit first wanted b).misfit ≡ None → type_matches wanted b ≡ true
+matched wanted first b e = go (type_matches wanted b) refl e
+  where
+    go : (m : Bool) → type_matches wanted b ≡ m → (if m then fitting else misfitting first r.WrongType).misfit ≡ None → type_matches wanted b ≡ true
+    go true is e = is
+    go false is e = absurd (no_fault (fault first r.WrongType) e)
+
+-- what is wanted, where it is the type that is there
+wanted_simply : (s : Source) (from : Option ℕ) (e : Expression) (wanted : Option SimType) (b : SimType) → ProperType b → ExprIs s from e (Simply (kind_of_type b)) → type_matches wanted b ≡ true → FitsFormal s from e shape.Simple wanted
+wanted_simply s from e None b p v m = tt
+wanted_simply s from e (Some a) b p v m = subst (λ z. ExprIs s from e (Simply (kind_of_type z))) (sym (same_type a b p m)) v
+
+wanted_array : (s : Source) (from : Option ℕ) (e : Expression) (wanted : Option SimType) (b : SimType) → ProperType b → ExprIs s from e (ArrayOf (kind_of_type b)) → type_matches wanted b ≡ true → FitsFormal s from e shape.Array wanted
+wanted_array s from e None b p v m = tt
+wanted_array s from e (Some a) b p v m = subst (λ z. ExprIs s from e (ArrayOf (kind_of_type z))) (sym (same_type a b p m)) v
+
+module _ (s : Source) (known : Tabled s) (from : Option ℕ) (e : Expression) (first : ℕ) where
+  abbrev Is : Actual → Type 0 → Type 0
+  Is x P = (x.typed ≡ true) × (x.misfit ≡ None → P)
+
+  is_actual : (p : Parameter) (x : Actual) → Is x (FitsAs s from e p) → ActualIs s from e p x
+  is_actual p x a = record { typed = a.0; fits = a.1 }
+
+  misfit_is : (rule : _) (P : Type 0) → Is (misfitting first rule) P
+  misfit_is rule P = (refl, λ e. absurd (no_fault (fault first rule) e))
+
+  -- a value
+  value_is : (p : Parameter) (b : SimType) → ValueIs s from e b → ActualIs s from e p (value_fits first p (Some b))
+  value_is parameter.Unknown b v = is_actual parameter.Unknown fitting (refl, λ e. tt)
+  value_is parameter.Unspecified b v = is_actual parameter.Unspecified fitting (refl, λ e. tt)
+  value_is parameter.Subscript b v =
+      is_actual parameter.Subscript (same_or_misfit first (Some t.Integer) b) (same_typed (Some t.Integer) first b, λ h. wanted_simply s from e (Some t.Integer) b v.proper v.value (matched (Some t.Integer) first b h))
+  value_is (parameter.Formal f) b v = is_actual (parameter.Formal f) (value_fits first (parameter.Formal f) (Some b)) (go f.kind f.ty)
+    where
+      go : (k : FormalKind) (wanted : Option SimType) → Is (elim k as (λ z. Actual) [ shape.Simple ↦ same_or_misfit first wanted b | _ ↦ misfitting first r.WrongType ]) (FitsFormal s from e k wanted)
+      go shape.Simple wanted = (same_typed wanted first b, λ h. wanted_simply s from e wanted b v.proper v.value (matched wanted first b h))
+      go shape.Array wanted = misfit_is r.WrongType (FitsFormal s from e shape.Array wanted)
+      go shape.Procedure wanted = misfit_is r.WrongType (FitsFormal s from e shape.Procedure wanted)
+
+  value_actual : (p : Parameter) (o : Outcome) → Means true s from e o → AllSay s (as_value s.tables first p o).events → ActualIs s from e p (as_value s.tables first p o).value
+  unfolding as_value next gives
+  value_actual p o m said =
+      let v = valued_means s known from e first o m (next_says s (valued s.tables first o) (λ v. gives (value_fits first p (type_in v))) said).0 in
+      subst (λ z. ActualIs s from e p (value_fits first p (type_in z))) (sym v.is) (value_is p v.ty v.value)
+
+  -- an array alone
+  array_is : (p : Parameter) (b : SimType) → Means true s from e (is.Array b) → AllSay s (array_actual s.tables first p (is.Array b) b).events → ActualIs s from e p (array_actual s.tables first p (is.Array b) b).value
+  unfolding gives
+  array_is parameter.Unknown b m said = is_actual parameter.Unknown fitting (refl, λ e. tt)
+  array_is parameter.Unspecified b m said = is_actual parameter.Unspecified fitting (refl, λ e. tt)
+  array_is parameter.Subscript b m said = value_actual parameter.Subscript (is.Array b) m said
+  array_is (parameter.Formal f) b m said = is_actual (parameter.Formal f) (array_fits first f b) (go f.kind f.ty)
+    where
+      go : (k : FormalKind) (wanted : Option SimType) → Is (elim k as (λ z. Actual) [ shape.Array ↦ same_or_misfit first wanted b | _ ↦ misfitting first r.WrongType ]) (FitsFormal s from e k wanted)
+      go shape.Array wanted = (same_typed wanted first b, λ h. wanted_array s from e wanted b m.0 m.1 (matched wanted first b h))
+      go shape.Simple wanted = misfit_is r.WrongType (FitsFormal s from e shape.Simple wanted)
+      go shape.Procedure wanted = misfit_is r.WrongType (FitsFormal s from e shape.Procedure wanted)
+
+  -- a procedure alone, for a formal parameter
+  abbrev procedure_judged : Formal → Outcome → (fits : Actual) → FormalKind → Judged Actual
+  procedure_judged f o fits k = (elim k as (λ z. Judged Actual) [ shape.Simple ↦ as_value s.tables first (parameter.Formal f) o | shape.Array ↦ gives (misfitting first r.WrongType) | shape.Procedure ↦ gives fits ])
+
+  procedure_is : (p : Parameter) (o : Outcome) (d : DeclNo) → Means true s from e o → AllSay s (procedure_actual s.tables first p o d).events → ActualIs s from e p (procedure_actual s.tables first p o d).value
+  unfolding gives
+  procedure_is parameter.Unknown o d m said = is_actual parameter.Unknown fitting (refl, λ e. tt)
+  procedure_is parameter.Unspecified o d m said = is_actual parameter.Unspecified fitting (refl, λ e. tt)
+  procedure_is parameter.Subscript o d m said = value_actual parameter.Subscript o m said
+  procedure_is (parameter.Formal f) o d m said = go f.kind f.ty refl refl said
+    where
+      passed : (wanted : Option SimType) (c : Bool) → Is (if c then fitting else misfitting first r.WrongType) (FitsFormal s from e shape.Procedure wanted)
+      passed wanted true = (refl, λ h. tt)
+      passed wanted false = (refl, λ h. tt)
+
+      go : (k : FormalKind) (wanted : Option SimType) → f.kind ≡ k → f.ty ≡ wanted → AllSay s (procedure_judged f o (procedure_fits first f (result_in (entry_of s.tables d))) k).events → ActualIs s from e (parameter.Formal f) (procedure_judged f o (procedure_fits first f (result_in (entry_of s.tables d))) k).value
+      go shape.Simple wanted same ty said = value_actual (parameter.Formal f) o m said
+      go shape.Array wanted same ty said = is_actual (parameter.Formal f) (misfitting first r.WrongType) (misfit_is r.WrongType (FitsFormal s from e f.kind f.ty))
+      go shape.Procedure wanted same ty said =
+          is_actual (parameter.Formal f) (procedure_fits first f (result_in (entry_of s.tables d))) (subst (λ k. Is (procedure_fits first f (result_in (entry_of s.tables d))) (FitsFormal s from e k f.ty)) (sym same) (passed f.ty (result_matches f.ty (result_in (entry_of s.tables d)))))
+
+  -- a standard name alone
+  standard_is : (p : Parameter) (o : Outcome) (g : Signature) → Means true s from e o → AllSay s (standard_actual s.tables first p o g).events → ActualIs s from e p (standard_actual s.tables first p o g).value
+  unfolding gives
+  standard_is parameter.Unknown o g m said = is_actual parameter.Unknown fitting (refl, λ e. tt)
+  standard_is parameter.Unspecified o g m said = is_actual parameter.Unspecified (unspecified_standard first g) (go (has_value_alone g))
+    where
+      go : (c : Bool) → Is (if c then fitting else misfitting first r.StandardNameLeftOut) (Unit {0})
+      go true = (refl, λ h. tt)
+      go false = (refl, λ h. tt)
+  standard_is parameter.Subscript o g m said = value_actual parameter.Subscript o m said
+  standard_is (parameter.Formal f) o g m said = go f.kind refl said
+    where
+      go : (k : FormalKind) → f.kind ≡ k → AllSay s (procedure_judged f o (misfitting first r.StandardNameLeftOut) k).events → ActualIs s from e (parameter.Formal f) (procedure_judged f o (misfitting first r.StandardNameLeftOut) k).value
+      go shape.Simple same said = value_actual (parameter.Formal f) o m said
+      go shape.Array same said = is_actual (parameter.Formal f) (misfitting first r.WrongType) (misfit_is r.WrongType (FitsFormal s from e f.kind f.ty))
+      go shape.Procedure same said = is_actual (parameter.Formal f) (misfitting first r.StandardNameLeftOut) (misfit_is r.StandardNameLeftOut (FitsFormal s from e f.kind f.ty))
+
+  pub actual_is : (p : Parameter) (o : Outcome) → Means true s from e o → AllSay s (actual s.tables first p o).events → ActualIs s from e p (actual s.tables first p o).value
+  unfolding actual
+  actual_is p (is.Array b) m said = array_is p b m said
+  actual_is p (is.Procedure d token own) m said = procedure_is p (is.Procedure d token own) d m said
+  actual_is p (is.Standard name token) m said = go (is_stream name) said
+    where
+      go : (b : Bool) → AllSay s (if b then as_value s.tables first p (is.Standard name token) else standard_actual s.tables first p (is.Standard name token) (signature name)).events → ActualIs s from e p (if b then as_value s.tables first p (is.Standard name token) else standard_actual s.tables first p (is.Standard name token) (signature name)).value
+      go true said = value_actual p (is.Standard name token) m said
+      go false said = standard_is p (is.Standard name token) (signature name) m said
+  actual_is p is.Refused m said = absurd m
+  actual_is p is.NoValue m said = value_actual p is.NoValue m said
+  actual_is p is.NoValueInParentheses m said = value_actual p is.NoValueInParentheses m said
+  actual_is p (is.Value b) m said = value_actual p (is.Value b) m said
+  actual_is p (is.Called b) m said = value_actual p (is.Called b) m said
+  actual_is p (is.Variable b) m said = value_actual p (is.Variable b) m said
+  actual_is p (is.Constant b) m said = value_actual p (is.Constant b) m said
+  actual_is p is.Class m said = absurd m
+
+-- ---- all of them
+
+-- what an expression is is known
+abbrev pub Known : Source → Option ℕ → Extent → Expression → Type 0
+Known s from x e = AllSay s (judge s.tables x e).events → Means true s from e (judge s.tables x e).value
+
+abbrev pub AllKnown : Source → Option ℕ → Extent → Expressions → Type 0
+AllKnown s from x NoMore = Unit {0}
+AllKnown s from x (Then e es) = Known s from x e × AllKnown s from x es
+
+-- each fits the parameter at its place
+abbrev pub AllFit : Source → Option ℕ → Option Denotation → (place : ℕ) → Expressions → Type 0
+AllFit s from d n NoMore = Unit {0}
+AllFit s from d n (Then e es) = FitsAs s from e (parameter_at s.tables d n) × AllFit s from d (n + 1) es
+
+abbrev pub size : Expressions → ℕ
+size NoMore = 0
+size (Then e es) = suc (size es)
+
+pub record AllActuals (s : Source) (from : Option ℕ) (d : Option Denotation) (es : Expressions) (a b : Actuals) : Type 0 where
+  pub count : b.count ≡ a.count + size es
+  pub typed : a.typed ≡ true → b.typed ≡ true
+  pub fits : b.misfit ≡ None → (a.misfit ≡ None) × AllFit s from d a.count es
+
+no_lesser : (m : Option Fault) (f : Fault) → lesser m f ≡ None → ⊥
+no_lesser None f e = no_fault f e
+no_lesser (Some l) f e = go (precedes f l) e
+  where
+    go : (b : Bool) → (if b then Some f else Some l) ≡ None → ⊥
+    go true e = no_fault f e
+    go false e = no_fault l e
+
+pub neither : (a b : Option Fault) → lesser_of a b ≡ None → (a ≡ None) × (b ≡ None)
+neither a None e = (e, refl)
+neither a (Some f) e = absurd (no_lesser a f e)
+
+pub both_true : (a b : Bool) → a ≡ true → b ≡ true → (a && b) ≡ true
+both_true a b e f = subst (λ z. (z && b) ≡ true) (sym e) f
+
+pub actuals_are : (s : Source) → Tabled s → (from : Option ℕ) (x : Extent) (d : Option Denotation) (es : Expressions) → AllKnown s from x es → (a : Actuals) → AllSay s (actuals s.tables x d a es).events
+    → AllActuals s from d es a (actuals s.tables x d a es).value
+unfolding actuals next gives more with_actual
+actuals_are s known from x d NoMore all a said = record { count = omega arith; typed = λ e. e; fits = λ e. (e, tt) }
+actuals_are s known from x d (Then e es) all a said =
+    let parts = next_says s (next (judge s.tables x e) (more s.tables d a (first_of e))) (λ b. actuals s.tables x d b es) said in
+    let inner = next_says s (judge s.tables x e) (more s.tables d a (first_of e)) parts.0 in
+    let o = (judge s.tables x e).value in
+    let p = parameter_at s.tables d a.count in
+    let own = next_says s (actual s.tables (first_of e) p o) (λ y. gives (with_actual a y)) inner.1 in
+    let one = actual_is s known from e (first_of e) p o (all.0 inner.0) own.0 in
+    let y = (actual s.tables (first_of e) p o).value in
+    let b = with_actual a y in
+    let rest = actuals_are s known from x d es all.1 b parts.1 in
+    let counted = rest.count in
+    record {
+      count = omega (arith, counted);
+      typed = λ h. rest.typed (both_true a.typed y.typed h one.typed);
+      fits = λ h. (let r = rest.fits h in let m = neither a.misfit y.misfit r.0 in (m.0, (one.fits m.1, r.1)));
+    }
+
+-- ---- what they are held against
+
+pub all_integers : (s : Source) (from : Option ℕ) (d : Option Denotation) → ((i : ℕ) → parameter_at s.tables d i ≡ parameter.Subscript) → (n : ℕ) (es : Expressions) → AllFit s from d n es → AreIntegers s from es
+all_integers s from d subscripts n NoMore fit = tt
+all_integers s from d subscripts n (Then e es) fit = (subst (λ p. FitsAs s from e p) (subscripts n) fit.0, all_integers s from d subscripts (n + 1) es fit.1)
+
+actual_fits : (s : Source) (from : Option ℕ) (e : Expression) (m : Mode) (k : FormalKind) (ty : Option SimType) → ProperFormal m k ty → FitsFormal s from e k ty → ActualFits m k ty (ExprIs s from e)
+actual_fits s from e mode.ByName k ty p a = absurd p
+actual_fits s from e mode.ByValue shape.Procedure ty p a = absurd p
+actual_fits s from e mode.ByReference shape.Procedure ty p a = absurd p
+actual_fits s from e mode.ByValue shape.Simple None p a = absurd p
+actual_fits s from e mode.ByValue shape.Array None p a = absurd p
+actual_fits s from e mode.ByReference shape.Simple None p a = absurd p
+actual_fits s from e mode.ByReference shape.Array None p a = absurd p
+actual_fits s from e mode.ByValue shape.Simple (Some ty) p a = a
+actual_fits s from e mode.ByValue shape.Array (Some ty) p a = a
+actual_fits s from e mode.ByReference shape.Simple (Some ty) p a = a
+actual_fits s from e mode.ByReference shape.Array (Some ty) p a = a
+
+pub all_formals : (s : Source) (from : Option ℕ) (d : Option Denotation) (n : ℕ) (es : Expressions) (fs : List Formal) → ((i : ℕ) → parameter_at s.tables d (n + i) ≡ formal_or_none (slice_get fs i)) → AllProper fs
+    → size es ≡ length fs → AllFit s from d n es → ActualsFit s from es fs
+all_formals s from d n NoMore [] at proper same fit = tt
+all_formals s from d n NoMore (f ∷ fs) at proper same fit = absurd (omega (arith, same))
+all_formals s from d n (Then e es) [] at proper same fit = absurd (omega (arith, same))
+all_formals s from d n (Then e es) (f ∷ fs) at proper same fit =
+    let here : n ≡ n + 0 = omega arith in (
+      actual_fits s from e f.mode f.kind f.ty proper.0 (subst (λ p. FitsAs s from e p) (ap (parameter_at s.tables d) here ∙ at 0) fit.0),
+      all_formals s from d (n + 1) es fs (λ i. (let next_place : (n + 1) + i ≡ n + suc i = omega arith in ap (parameter_at s.tables d) next_place ∙ at (suc i))) proper.1 (omega (arith, same)) fit.1,
+    )
+
+-- of a standard name
+abbrev AllHeld : Source → Option ℕ → (first second : Option SimType) → (place : ℕ) → Expressions → Type 0
+AllHeld s from first second n NoMore = Unit {0}
+AllHeld s from first second n (Then e es) = FitsAs s from e (typed_or_none (parameter_type (record { first = first; second = second; result = None }) n)) × AllHeld s from first second (n + 1) es
+
+same_type_at : (g : Signature) (n : ℕ) → parameter_type g n ≡ parameter_type (record { first = g.first; second = g.second; result = None }) n
+same_type_at g zero = refl
+same_type_at g (suc zero) = refl
+same_type_at g (suc (suc n)) = refl
+
+held : (s : Source) (from : Option ℕ) (name : Standard) (n : ℕ) (es : Expressions) → AllFit s from (Some (denotation.Standard name)) n es → AllHeld s from (signature name).first (signature name).second n es
+unfolding parameter_at
+held s from name n NoMore fit = tt
+held s from name n (Then e es) fit = (subst (λ p. FitsAs s from e (typed_or_none p)) (same_type_at (signature name) n) fit.0, held s from name (n + 1) es fit.1)
+
+pub all_operands : (s : Source) (from : Option ℕ) (name : Standard) (es : Expressions) → parameter_count (signature name) ≡ size es → AllFit s from (Some (denotation.Standard name)) 0 es → AreOf s from es (kinds_of (signature name))
+all_operands s from name es same fit = go (signature name).first (signature name).second es same (held s from name 0 es fit)
+  where
+    go : (first second : Option SimType) (es : Expressions) → (elim first as (λ z. ℕ) [ None ↦ 0 | Some a ↦ elim second as (λ z. ℕ) [ None ↦ 1 | Some b ↦ 2 ] ]) ≡ size es
+        → AllHeld s from first second 0 es → AreOf s from es (parameter_kinds first second)
+    go None second NoMore same fit = tt
+    go None second (Then e es) same fit = absurd (omega (arith, same))
+    go (Some a) None NoMore same fit = absurd (omega (arith, same))
+    go (Some a) None (Then e NoMore) same fit = (fit.0, tt)
+    go (Some a) None (Then e (Then f es)) same fit = absurd (omega (arith, same))
+    go (Some a) (Some b) NoMore same fit = absurd (omega (arith, same))
+    go (Some a) (Some b) (Then e NoMore) same fit = absurd (omega (arith, same))
+    go (Some a) (Some b) (Then e (Then f NoMore)) same fit = (fit.0, (fit.1.0, tt))
+    go (Some a) (Some b) (Then e (Then f (Then g es))) same fit = absurd (omega (arith, same))

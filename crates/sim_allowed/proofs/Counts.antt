@@ -1,0 +1,460 @@
+-- How often a round tells what is at a token: at most once for each time that the token stands in the text.
+use Rattle.std.proofs.Common.{◌≡◌, ◌≤◌, ◌+◌, ℕ, Bool, true, false, List, [], ◌∷◌, ◌++◌, Option, Some, None, refl, arith, if◌then◌else◌}
+use Rattle.std.specs.Prelude.{nat_eq, length}
+use Rattle.sim_base.specs.declared.rule.Rule.{Rule}
+use Rattle.sim_base.specs.declared.rule.Rule.TheVariants as r
+use Rattle.sim_scope.specs.declared.found.Fault.{Fault}
+use Rattle.sim_scope.specs.declared.outcome.Actual.{Actual}
+use Rattle.sim_scope.specs.declared.outcome.Actuals.{Actuals}
+use Rattle.sim_scope.specs.declared.outcome.Extent.{Extent}
+use Rattle.sim_scope.specs.declared.outcome.Fit.{Fit}
+use Rattle.sim_scope.specs.declared.outcome.Fit.TheVariants as fit
+use Rattle.sim_scope.specs.declared.outcome.Outcome.{Outcome}
+use Rattle.sim_scope.specs.declared.outcome.Outcome.TheVariants as is
+use Rattle.sim_scope.specs.declared.outcome.Parameter.{Parameter}
+use Rattle.sim_scope.specs.declared.outcome.Parameter.TheVariants as parameter
+use Rattle.sim_scope.specs.declared.outcome.Side.{Side}
+use Rattle.sim_scope.specs.declared.scopes.Denotation.{Denotation}
+use Rattle.sim_scope.specs.declared.scopes.Denotation.TheVariants as denotation
+use Rattle.sim_scope.specs.declared.standard.Signature.{Signature}
+use Rattle.sim_scope.specs.declared.standard.Standard.{Standard}
+use Rattle.sim_scope.specs.declared.standard.Standard.TheVariants as found
+use Rattle.sim_scope.specs.declared.types.Entry.{Entry}
+use Rattle.sim_scope.specs.declared.types.Entry.TheVariants as entry
+use Rattle.sim_scope.specs.declared.types.Formal.{Formal}
+use Rattle.sim_scope.specs.declared.types.FormalKind.{FormalKind}
+use Rattle.sim_scope.specs.declared.types.FormalKind.TheVariants as shape
+use Rattle.sim_scope.specs.declared.types.SimType.{SimType}
+use Rattle.sim_scope.specs.declared.types.SimType.TheVariants as t
+use Rattle.sim_scope.specs.Actuals.{actual, array_actual, as_value, misfitting, more, parameter_at, procedure_actual, procedure_fits, result_in, standard_actual, value_fits, with_actual}
+use Rattle.sim_scope.specs.Calls.{alone, applied, attribute, attribute_by_value, attribute_found, attribute_of_type, attribute_of_value, bound, declared_alone, declared_applied, element_of, formal_alone, formal_applied, found_as, is_barred, is_inside, misfitting_or, parameter_count, procedure_alone, resulting, standard_applied, typed_if, used, used_or_barred}
+use Rattle.sim_scope.specs.Found.{Event, Broken, Typed, Uses}
+use Rattle.sim_scope.specs.Judged.{Judged, gives, next, telling}
+use Rattle.sim_scope.specs.Operators.{common_type, is_same, operands_fit}
+use Rattle.sim_scope.specs.Outcomes.{arms_fit, breaks, call_of, called, fitted, has, in_common, in_parentheses, is_stream, one, parenthesized, procedure_called, side, side_of, signature_called, standard_called, three, two, type_in, type_wanted, types_fit, value_of, valued, varies}
+use Rattle.sim_scope.specs.Scopes.{binding, entry_of, formals_of}
+use Rattle.sim_scope.specs.Standard.{signature, sysin_attribute, sysout_attribute, text_attribute, undeclared}
+use Rattle.sim_scope.specs.Tables.{Tables}
+use Rattle.sim_tree.specs.declared.expr.Identifier.{Identifier}
+use Rattle.sim_tree.specs.declared.operator.Operator.{Operator}
+
+abbrev pub here : ℕ → ℕ → ℕ
+here t i = if nat_eq t i then 1 else 0
+
+-- of uses, or of types
+abbrev pub uses_at : (uses : Bool) → ℕ → ℕ → ℕ
+uses_at true t i = here t i
+uses_at false t i = 0
+
+abbrev pub types_at : (uses : Bool) → ℕ → ℕ → ℕ
+types_at true t i = 0
+types_at false t i = here t i
+
+abbrev pub tells : Bool → ℕ → Event → ℕ
+tells k t (Broken token rule) = 0
+tells k t (Uses token d) = uses_at k t token
+tells k t (Typed token ty) = types_at k t token
+
+-- how often a list of events tells of a token
+unfoldable pub told : Bool → ℕ → List Event → ℕ
+told k t [] = 0
+told k t (e ∷ es) = tells k t e + told k t es
+
+pub told_both : (k : Bool) (t : ℕ) (xs ys : List Event) → told k t (xs ++ ys) ≡ told k t xs + told k t ys
+unfolding told
+told_both k t [] ys = omega arith
+told_both k t (x ∷ xs) ys = let d = told_both k t xs ys in omega (arith, d)
+
+-- nothing is told; the type at a token at most; the use at a token at most
+unfoldable pub Silent : List Event → Type 0
+Silent es = (k : Bool) (t : ℕ) → told k t es ≡ 0
+
+unfoldable pub Typing : ℕ → List Event → Type 0
+Typing i es = (k : Bool) (t : ℕ) → told k t es ≤ types_at k t i
+
+unfoldable pub Using : ℕ → List Event → Type 0
+Using i es = (k : Bool) (t : ℕ) → told k t es ≤ uses_at k t i
+
+pub silent_none : Silent []
+unfolding Silent told
+silent_none k t = refl
+
+pub silent_break : (token : ℕ) (rule : Rule) → Silent (Broken token rule ∷ [])
+unfolding Silent told
+silent_break token rule k t = refl
+
+pub silent_both : (xs ys : List Event) → Silent xs → Silent ys → Silent (xs ++ ys)
+unfolding Silent
+silent_both xs ys h j k t = let a = told_both k t xs ys in let b = h k t in let c = j k t in omega (arith, a, b, c)
+
+pub silent_next : {A B : Type 0} (x : Judged A) (f : A → Judged B) → Silent x.events → Silent (f x.value).events → Silent (next x f).events
+unfolding next
+silent_next x f h j = silent_both x.events (f x.value).events h j
+
+pub typing_silent : (i : ℕ) (es : List Event) → Silent es → Typing i es
+unfolding Silent Typing
+typing_silent i es h k t = let a = h k t in omega (arith, a)
+
+pub typing_one : (i : ℕ) (ty : SimType) → Typing i (Typed i ty ∷ [])
+unfolding Typing told
+typing_one i ty k t = omega arith
+
+pub using_silent : (i : ℕ) (es : List Event) → Silent es → Using i es
+unfolding Silent Using
+using_silent i es h k t = let a = h k t in omega (arith, a)
+
+pub using_one : (i : ℕ) (d : Denotation) → Using i (Uses i d ∷ [])
+unfolding Using told
+using_one i d k t = omega arith
+
+-- ---- values
+
+call_silent : (token n : ℕ) (o : Option Entry) → Silent (procedure_called token n o).events
+unfolding gives breaks telling
+call_silent token n None = silent_none
+call_silent token n (Some (entry.Procedure result block)) = go (nat_eq n 0)
+  where
+    go : (b : Bool) → Silent (if b then gives (call_of result) else breaks token r.WrongNumber).events
+    go true = silent_none
+    go false = silent_break token r.WrongNumber
+call_silent token n (Some (entry.Virtual result own)) = silent_none
+call_silent token n (Some (entry.Formal f)) = silent_none
+call_silent token n (Some (entry.Variable ty)) = silent_none
+call_silent token n (Some (entry.Constant ty)) = silent_none
+call_silent token n (Some (entry.Array e d)) = silent_none
+call_silent token n (Some (entry.Class b)) = silent_none
+call_silent token n (Some (entry.Unspecified w)) = silent_none
+
+standard_silent : (token : ℕ) (name : Standard) → Silent (standard_called token name).events
+unfolding gives breaks telling
+standard_silent token name = go (is_stream name)
+  where
+    second : (first : Option SimType) → Silent (elim first as (λ z. Judged Outcome) [ None ↦ gives (call_of (signature name).result) | Some a ↦ breaks token r.WrongNumber ]).events
+    second None = silent_none
+    second (Some a) = silent_break token r.WrongNumber
+
+    go : (b : Bool) → Silent (if b then breaks token r.StandardNameLeftOut else signature_called token (signature name)).events
+    go true = silent_break token r.StandardNameLeftOut
+    go false = second (signature name).first
+
+pub called_silent : (s : Tables) (o : Outcome) → Silent (called s o).events
+unfolding called gives
+called_silent s (is.Procedure d token own) = call_silent token.0 (length (formals_of s d)) (entry_of s d)
+called_silent s (is.Standard name token) = standard_silent token.0 name
+called_silent s is.Refused = silent_none
+called_silent s is.NoValue = silent_none
+called_silent s is.NoValueInParentheses = silent_none
+called_silent s (is.Value ty) = silent_none
+called_silent s (is.Called ty) = silent_none
+called_silent s (is.Variable ty) = silent_none
+called_silent s (is.Constant ty) = silent_none
+called_silent s (is.Array ty) = silent_none
+called_silent s is.Class = silent_none
+
+value_silent : (first : ℕ) (o : Outcome) → Silent (value_of first o).events
+unfolding value_of gives breaks telling
+value_silent first is.Refused = silent_none
+value_silent first is.NoValue = silent_break first r.WrongType
+value_silent first is.NoValueInParentheses = silent_break first r.WrongType
+value_silent first (is.Value ty) = silent_none
+value_silent first (is.Called ty) = silent_none
+value_silent first (is.Variable ty) = silent_none
+value_silent first (is.Constant ty) = silent_none
+value_silent first (is.Array ty) = silent_break first r.WrongKind
+value_silent first is.Class = silent_break first r.WrongKind
+value_silent first (is.Procedure d token own) = silent_none
+value_silent first (is.Standard name token) = silent_none
+
+pub valued_silent : (s : Tables) (first : ℕ) (o : Outcome) → Silent (valued s first o).events
+unfolding valued
+valued_silent s first o = silent_next (called s o) (value_of first) (called_silent s o) (value_silent first (called s o).value)
+
+pub side_silent : (s : Tables) (first : ℕ) (o : Outcome) → Silent (side s first o).events
+unfolding side gives
+side_silent s first o = silent_next (valued s first o) (λ v. gives (side_of first (type_in v))) (valued_silent s first o) silent_none
+
+parentheses_silent : (first : ℕ) (o : Outcome) → Silent (parenthesized first o).events
+unfolding parenthesized gives
+parentheses_silent first is.NoValue = silent_none
+parentheses_silent first is.NoValueInParentheses = silent_none
+parentheses_silent first is.Refused = value_silent first is.Refused
+parentheses_silent first (is.Value ty) = value_silent first (is.Value ty)
+parentheses_silent first (is.Called ty) = value_silent first (is.Called ty)
+parentheses_silent first (is.Variable ty) = value_silent first (is.Variable ty)
+parentheses_silent first (is.Constant ty) = value_silent first (is.Constant ty)
+parentheses_silent first (is.Array ty) = value_silent first (is.Array ty)
+parentheses_silent first is.Class = value_silent first is.Class
+parentheses_silent first (is.Procedure d token own) = value_silent first (is.Procedure d token own)
+parentheses_silent first (is.Standard name token) = value_silent first (is.Standard name token)
+
+pub in_parentheses_silent : (s : Tables) (first : ℕ) (o : Outcome) → Silent (in_parentheses s first o).events
+unfolding in_parentheses
+in_parentheses_silent s first o = silent_next (called s o) (parenthesized first) (called_silent s o) (parentheses_silent first (called s o).value)
+
+-- ---- operators
+
+pub has_types : (i : ℕ) (ty : SimType) → Typing i (has i ty).events
+unfolding has telling
+has_types i ty = typing_one i ty
+
+pub two_types : (o : Operator) (i : ℕ) (x y : Side) → Typing i (two o i x y).events
+unfolding two has breaks telling gives
+two_types o i x y = go x.ty y.ty
+  where
+    fits : (f : Fit) → Typing i (fitted i x y f).events
+    fits (fit.Fits ty) = typing_one i ty
+    fits fit.FirstWrong = typing_silent i (Broken x.first.0 r.WrongType ∷ []) (silent_break x.first.0 r.WrongType)
+    fits fit.SecondWrong = typing_silent i (Broken y.first.0 r.WrongType ∷ []) (silent_break y.first.0 r.WrongType)
+
+    go : (a b : Option SimType) → Typing i (types_fit o i x y a b).events
+    go None b = typing_silent i [] silent_none
+    go (Some a) None = typing_silent i [] silent_none
+    go (Some a) (Some b) = fits (operands_fit o a b)
+
+pub one_types : (wanted : SimType) (i : ℕ) (x : Side) → Typing i (one wanted i x).events
+unfolding one has breaks telling gives
+one_types wanted i x = go x.ty
+  where
+    same : (b : Bool) → Typing i (if b then has i wanted else breaks x.first.0 r.WrongType).events
+    same true = typing_one i wanted
+    same false = typing_silent i (Broken x.first.0 r.WrongType ∷ []) (silent_break x.first.0 r.WrongType)
+
+    go : (a : Option SimType) → Typing i (type_wanted wanted i x a).events
+    go None = typing_silent i [] silent_none
+    go (Some a) = same (is_same a wanted)
+
+pub three_types : (i : ℕ) (x y z : Side) → Typing i (three i x y z).events
+unfolding three has breaks telling gives
+three_types i x y z = go x.ty y.ty z.ty
+  where
+    common : (o : Option SimType) → Typing i (in_common i z o).events
+    common None = typing_silent i (Broken z.first.0 r.WrongType ∷ []) (silent_break z.first.0 r.WrongType)
+    common (Some ty) = typing_one i ty
+
+    test : (b : Bool) (o : Option SimType) → Typing i (if b then in_common i z o else breaks x.first.0 r.WrongType).events
+    test true o = common o
+    test false o = typing_silent i (Broken x.first.0 r.WrongType ∷ []) (silent_break x.first.0 r.WrongType)
+
+    go : (a b c : Option SimType) → Typing i (arms_fit i x y z a b c).events
+    go None b c = typing_silent i [] silent_none
+    go (Some a) None c = typing_silent i [] silent_none
+    go (Some a) (Some b) None = typing_silent i [] silent_none
+    go (Some a) (Some b) (Some c) = test (is_same a t.Boolean) (common_type b c)
+
+-- ---- identifiers
+
+pub bound_uses : (s : Tables) (x : Extent) (name : Identifier) → Using name.token.0 (bound s x name).events
+unfolding bound telling
+bound_uses s x name = go (binding s name.token.0 name.name)
+  where
+    barred : (d : Denotation) (b : Bool) → Using name.token.0 (used_or_barred name.token.0 d b).events
+    barred d true = using_silent name.token.0 (Broken name.token.0 r.BoundDependsOnItsBlock ∷ []) (silent_break name.token.0 r.BoundDependsOnItsBlock)
+    barred d false = using_one name.token.0 d
+
+    go : (o : Option Denotation) → Using name.token.0 (found_as s x name.token.0 name.name o).events
+    go None = using_silent name.token.0 (Broken name.token.0 (undeclared name.name) ∷ []) (silent_break name.token.0 (undeclared name.name))
+    go (Some d) = barred d (is_barred s x name.token.0 d)
+
+attribute_uses_found : (x : Identifier) (o : Option Standard) → Using x.token.0 (attribute_found x o).events
+unfolding telling
+attribute_uses_found x None = using_silent x.token.0 (Broken x.token.0 (undeclared x.name) ∷ []) (silent_break x.token.0 (undeclared x.name))
+attribute_uses_found x (Some name) = using_one x.token.0 (denotation.Standard name)
+
+attribute_uses_type : (x : Identifier) (first : ℕ) (ty : Option SimType) → Using x.token.0 (attribute_of_type x first ty).events
+unfolding telling gives
+attribute_uses_type x first (Some t.Text) = attribute_uses_found x (text_attribute x.name)
+attribute_uses_type x first None = using_silent x.token.0 [] silent_none
+attribute_uses_type x first (Some (t.Ref class)) = using_silent x.token.0 [] silent_none
+attribute_uses_type x first (Some t.NoneType) = attribute_uses_found x None
+attribute_uses_type x first (Some t.Integer) = using_silent x.token.0 (Broken first r.WrongType ∷ []) (silent_break first r.WrongType)
+attribute_uses_type x first (Some t.Boolean) = using_silent x.token.0 (Broken first r.WrongType ∷ []) (silent_break first r.WrongType)
+attribute_uses_type x first (Some t.Character) = using_silent x.token.0 (Broken first r.WrongType ∷ []) (silent_break first r.WrongType)
+
+silent_then_using : (i : ℕ) (xs ys : List Event) → Silent xs → Using i ys → Using i (xs ++ ys)
+unfolding Silent Using
+silent_then_using i xs ys h j k t = let a = told_both k t xs ys in let b = h k t in let c = j k t in omega (arith, a, b, c)
+
+attribute_uses_value : (s : Tables) (x : Identifier) (first : ℕ) (o : Outcome) → Using x.token.0 (attribute_by_value s x first o).events
+unfolding attribute_by_value next attribute_of_value
+attribute_uses_value s x first o =
+    silent_then_using x.token.0 (side s first o).events (attribute_of_value x (side s first o).value).events (side_silent s first o) (attribute_uses_type x (side s first o).value.first.0 (side s first o).value.ty)
+
+pub attribute_uses : (s : Tables) (x : Identifier) (first : ℕ) (o : Outcome) → Using x.token.0 (attribute s x first o).events
+unfolding attribute
+attribute_uses s x first (is.Standard found.Sysin token) = attribute_uses_found x (sysin_attribute x.name)
+attribute_uses s x first (is.Standard found.Sysout token) = attribute_uses_found x (sysout_attribute x.name)
+attribute_uses s x first o = attribute_uses_value s x first o
+
+-- ---- alone, and with actuals
+
+if_typed : (i : ℕ) (result : Option SimType) (o : Outcome) → Typing i (typed_if i result o).events
+unfolding telling gives
+if_typed i None o = typing_silent i [] silent_none
+if_typed i (Some ty) o = typing_one i ty
+
+module _ (s : Tables) (naming : ℕ) (x : Identifier) where
+  no_types : Typing naming []
+  no_types = typing_silent naming [] silent_none
+
+  broken_types : (token : ℕ) (rule : Rule) → Typing naming (Broken token rule ∷ [])
+  broken_types token rule = typing_silent naming (Broken token rule ∷ []) (silent_break token rule)
+
+  formal_types : (f : Formal) (w : Option SimType) (o : Outcome) → Typing naming (formal_alone naming f w o).events
+  unfolding gives telling varies
+  formal_types f None o = go f.kind
+    where
+      go : (k : FormalKind) → Typing naming (elim k as (λ z. Judged Outcome) [ shape.Procedure ↦ gives o | _ ↦ gives is.Refused ]).events
+      go shape.Procedure = no_types
+      go shape.Simple = no_types
+      go shape.Array = no_types
+  formal_types f (Some ty) o = go f.kind
+    where
+      go : (k : FormalKind) → Typing naming (elim k as (λ z. Judged Outcome) [ shape.Simple ↦ varies naming ty | shape.Array ↦ gives (is.Array ty) | shape.Procedure ↦ telling (Typed naming ty) o ]).events
+      go shape.Simple = typing_one naming ty
+      go shape.Array = no_types
+      go shape.Procedure = typing_one naming ty
+
+  declared_types : (d : _) (e : Option Entry) → Typing naming (declared_alone s naming x d e).events
+  unfolding gives telling varies
+  declared_types d None = no_types
+  declared_types d (Some (entry.Variable ty)) = typing_one naming ty
+  declared_types d (Some (entry.Constant ty)) = typing_one naming ty
+  declared_types d (Some (entry.Array e n)) = no_types
+  declared_types d (Some (entry.Procedure result block)) = if_typed naming result (procedure_alone d x (is_inside s x.token.0 block))
+  declared_types d (Some (entry.Class block)) = no_types
+  declared_types d (Some (entry.Virtual result own)) = if_typed naming result (procedure_alone d x false)
+  declared_types d (Some (entry.Formal f)) = formal_types f f.ty (procedure_alone d x false)
+  declared_types d (Some (entry.Unspecified w)) = no_types
+
+  alone_types : (d : Denotation) → Typing naming (alone s naming x d).events
+  unfolding alone
+  alone_types (denotation.Declared d) = declared_types d (entry_of s d)
+  alone_types (denotation.Standard name) = if_typed naming (signature name).result (is.Standard name x.token)
+
+  misfit_types : (m : Option Fault) (j : Judged Outcome) → Typing naming j.events → Typing naming (misfitting_or m j).events
+  unfolding breaks telling
+  misfit_types None j h = h
+  misfit_types (Some f) j h = broken_types f.token.0 f.rule
+
+  result_types : (m : Option Fault) (result : Option SimType) → Typing naming (resulting naming m result).events
+  unfolding resulting
+  result_types m result = misfit_types m (typed_if naming result (call_of result)) (if_typed naming result (call_of result))
+
+  element_types : (m : Option Fault) (ty : SimType) → Typing naming (element_of naming m ty).events
+  unfolding element_of varies telling
+  element_types m ty = misfit_types m (varies naming ty) (typing_one naming ty)
+
+  pub if_types : (b : Bool) (j : Judged Outcome) (token : ℕ) (rule : Rule) → Typing naming j.events → Typing naming (if b then j else breaks token rule).events
+  unfolding breaks telling
+  if_types true j token rule h = h
+  if_types false j token rule h = broken_types token rule
+
+  applied_formal_types : (token : ℕ) (f : Formal) (w : Option SimType) (m : Option Fault) → Typing naming (formal_applied naming token f w m).events
+  unfolding breaks telling gives
+  applied_formal_types token f w m = go f.kind
+    where
+      element : (w : Option SimType) → Typing naming (elim w as (λ z. Judged Outcome) [ None ↦ gives is.Refused | Some element ↦ element_of naming m element ]).events
+      element None = no_types
+      element (Some ty) = element_types m ty
+
+      go : (k : FormalKind) → Typing naming (elim k as (λ z. Judged Outcome) [ shape.Simple ↦ breaks token r.WrongKind | shape.Array ↦ elim w as (λ z. Judged Outcome) [ None ↦ gives is.Refused | Some element ↦ element_of naming m element ] | shape.Procedure ↦ resulting naming m w ]).events
+      go shape.Simple = broken_types token r.WrongKind
+      go shape.Array = element w
+      go shape.Procedure = result_types m w
+
+  declared_applied_types : (token : ℕ) (e : Option Entry) (n : ℕ) (a : Actuals) → Typing naming (declared_applied naming token e n a).events
+  unfolding breaks telling
+  declared_applied_types token None n a = broken_types token r.WrongKind
+  declared_applied_types token (Some (entry.Procedure result block)) n a = if_types (nat_eq n a.count) (resulting naming a.misfit result) token r.WrongNumber (result_types a.misfit result)
+  declared_applied_types token (Some (entry.Array e d)) n a = if_types (nat_eq d a.count) (element_of naming a.misfit e) token r.WrongNumber (element_types a.misfit e)
+  declared_applied_types token (Some (entry.Virtual result own)) n a = result_types a.misfit result
+  declared_applied_types token (Some (entry.Formal f)) n a = applied_formal_types token f f.ty a.misfit
+  declared_applied_types token (Some (entry.Variable ty)) n a = broken_types token r.WrongKind
+  declared_applied_types token (Some (entry.Constant ty)) n a = broken_types token r.WrongKind
+  declared_applied_types token (Some (entry.Class block)) n a = broken_types token r.WrongKind
+  declared_applied_types token (Some (entry.Unspecified w)) n a = broken_types token r.WrongKind
+
+  standard_applied_types : (token : ℕ) (name : Standard) (g : Signature) (a : Actuals) → Typing naming (standard_applied naming token name g a).events
+  unfolding breaks telling
+  standard_applied_types token name g a = go (is_stream name)
+    where
+      go : (b : Bool) → Typing naming (if b then breaks token r.StandardNameLeftOut else if nat_eq (parameter_count g) a.count then resulting naming a.misfit g.result else breaks token r.WrongNumber).events
+      go true = broken_types token r.StandardNameLeftOut
+      go false = if_types (nat_eq (parameter_count g) a.count) (resulting naming a.misfit g.result) token r.WrongNumber (result_types a.misfit g.result)
+
+  applied_types : (token : ℕ) (d : Denotation) (a : Actuals) → Typing naming (applied s naming token d a).events
+  unfolding applied
+  applied_types token (denotation.Declared d) a = declared_applied_types token (entry_of s d) (length (formals_of s d)) a
+  applied_types token (denotation.Standard name) a = standard_applied_types token name (signature name) a
+
+  pub used_types : (o : Option Denotation) (a : Actuals) → Typing naming (used s naming x o a).events
+  unfolding used gives
+  used_types None a = no_types
+  used_types (Some d) a = go (nat_eq a.count 0) a.typed
+    where
+      go : (b c : Bool) → Typing naming (if b then alone s naming x d else if c then applied s naming x.token.0 d a else gives is.Refused).events
+      go true c = alone_types d
+      go false true = applied_types x.token.0 d a
+      go false false = no_types
+
+-- ---- actuals
+
+module _ (s : Tables) (first : ℕ) where
+  as_value_silent : (p : Parameter) (o : Outcome) → Silent (as_value s first p o).events
+  unfolding as_value gives
+  as_value_silent p o = silent_next (valued s first o) (λ v. gives (value_fits first p (type_in v))) (valued_silent s first o) silent_none
+
+  array_silent : (p : Parameter) (o : Outcome) (ty : SimType) → Silent (array_actual s first p o ty).events
+  unfolding gives
+  array_silent parameter.Subscript o ty = as_value_silent parameter.Subscript o
+  array_silent (parameter.Formal f) o ty = silent_none
+  array_silent parameter.Unknown o ty = silent_none
+  array_silent parameter.Unspecified o ty = silent_none
+
+  procedure_silent : (p : Parameter) (o : Outcome) (d : _) → Silent (procedure_actual s first p o d).events
+  unfolding gives
+  procedure_silent parameter.Subscript o d = as_value_silent parameter.Subscript o
+  procedure_silent (parameter.Formal f) o d = go f.kind
+    where
+      go : (k : FormalKind)
+          → Silent (elim k as (λ z. Judged Actual) [ shape.Simple ↦ as_value s first (parameter.Formal f) o | shape.Array ↦ gives (misfitting first r.WrongType) | shape.Procedure ↦ gives (procedure_fits first f (result_in (entry_of s d))) ]).events
+      go shape.Simple = as_value_silent (parameter.Formal f) o
+      go shape.Array = silent_none
+      go shape.Procedure = silent_none
+  procedure_silent parameter.Unknown o d = silent_none
+  procedure_silent parameter.Unspecified o d = silent_none
+
+  standard_name_silent : (p : Parameter) (o : Outcome) (g : Signature) → Silent (standard_actual s first p o g).events
+  unfolding gives
+  standard_name_silent parameter.Subscript o g = as_value_silent parameter.Subscript o
+  standard_name_silent (parameter.Formal f) o g = go f.kind
+    where
+      go : (k : FormalKind)
+          → Silent (elim k as (λ z. Judged Actual) [ shape.Simple ↦ as_value s first (parameter.Formal f) o | shape.Array ↦ gives (misfitting first r.WrongType) | shape.Procedure ↦ gives (misfitting first r.StandardNameLeftOut) ]).events
+      go shape.Simple = as_value_silent (parameter.Formal f) o
+      go shape.Array = silent_none
+      go shape.Procedure = silent_none
+  standard_name_silent parameter.Unknown o g = silent_none
+  standard_name_silent parameter.Unspecified o g = silent_none
+
+  actual_silent : (p : Parameter) (o : Outcome) → Silent (actual s first p o).events
+  unfolding actual
+  actual_silent p (is.Array ty) = array_silent p (is.Array ty) ty
+  actual_silent p (is.Procedure d token own) = procedure_silent p (is.Procedure d token own) d
+  actual_silent p (is.Standard name token) = go (is_stream name)
+    where
+      go : (b : Bool) → Silent (if b then as_value s first p (is.Standard name token) else standard_actual s first p (is.Standard name token) (signature name)).events
+      go true = as_value_silent p (is.Standard name token)
+      go false = standard_name_silent p (is.Standard name token) (signature name)
+  actual_silent p is.Refused = as_value_silent p is.Refused
+  actual_silent p is.NoValue = as_value_silent p is.NoValue
+  actual_silent p is.NoValueInParentheses = as_value_silent p is.NoValueInParentheses
+  actual_silent p (is.Value ty) = as_value_silent p (is.Value ty)
+  actual_silent p (is.Called ty) = as_value_silent p (is.Called ty)
+  actual_silent p (is.Variable ty) = as_value_silent p (is.Variable ty)
+  actual_silent p (is.Constant ty) = as_value_silent p (is.Constant ty)
+  actual_silent p is.Class = as_value_silent p is.Class
+
+  pub more_silent : (d : Option Denotation) (a : Actuals) (o : Outcome) → Silent (more s d a first o).events
+  unfolding more gives
+  more_silent d a o = silent_next (actual s first (parameter_at s d a.count) o) (λ x. gives (with_actual a x)) (actual_silent (parameter_at s d a.count) o) silent_none

@@ -1,0 +1,139 @@
+-- What the source has of a token is what the last round tells of it.
+use Rattle.std.proofs.Common.{◌≡◌, ◌≤◌, ◌<◌, ◌+◌, ◌⊎◌, inl, inr, ℕ, zero, suc, Bool, true, false, List, [], ◌∷◌, length, Option, Some, None, refl, sym, ap, ◌∙◌, subst, arith, if◌then◌else◌}
+use Rattle.std.proofs.lemmas.Bool.Decides.{nat_tests}
+use Rattle.std.proofs.lemmas.List.{length-replicate, length-set}
+use Rattle.std.specs.Prelude.{nat_eq, replicate, slice_get}
+use Rattle.sim_scope.specs.declared.found.Fault.{Fault}
+use Rattle.sim_scope.specs.declared.scopes.Denotation.{Denotation}
+use Rattle.sim_scope.specs.declared.types.SimType.{SimType}
+use Rattle.sim_scope.specs.Found.{Broken, Event, Findings, Typed, Uses, after, found, unknown}
+use Rattle.sim_scope.specs.Least.{IsLeast, faults, least, nothing}
+use Rattle.sim_scope.specs.Runs.{run}
+use Rattle.sim_scope.specs.Scopes.{joined}
+use Rattle.sim_scope.specs.Source.{Source, denoted, type_at}
+use Rattle.sim_scope.proofs.Kept.{set_here, set_other}
+use Rattle.sim_scope.proofs.Leasts.{least_law}
+use Rattle.sim_allowed.proofs.Counts.{here, tells, told}
+use Rattle.sim_allowed.proofs.Said.{AllSay}
+
+-- ---- no rule is broken
+
+abbrev Unbroken : List Event → Type 0
+Unbroken [] = Unit {0}
+Unbroken (Broken token rule ∷ es) = ⊥
+Unbroken (Uses token d ∷ es) = Unbroken es
+Unbroken (Typed token ty ∷ es) = Unbroken es
+
+none_of : (xs : List Fault) (o : Option Fault) → IsLeast xs o → o ≡ None → xs ≡ []
+none_of xs None (nothing e) h = e
+none_of xs (Some x) (least a b) h = absurd (cc)
+
+unbroken : (es : List Event) → faults es ≡ [] → Unbroken es
+unbroken [] e = tt
+unbroken (Broken token rule ∷ es) e = absurd (cc)
+unbroken (Uses token d ∷ es) e = unbroken es e
+unbroken (Typed token ty ∷ es) e = unbroken es e
+
+no_faults : (n : ℕ) (es : List Event) → (after (unknown n) es).least ≡ None → Unbroken es
+no_faults n es e = unbroken es (none_of (faults es) (after (unknown n) es).least (least_law es (replicate n None) (replicate n None)) e)
+
+-- ---- rows
+
+other_token : (k : ℕ) (i : ℕ) (rest : ℕ) → here k i + rest ≡ 0 → nat_eq i k ≡ false
+other_token k i rest e = go (nat_eq k i) refl e
+  where
+    go : (b : Bool) → nat_eq k i ≡ b → (if b then 1 else 0) + rest ≡ 0 → nat_eq i k ≡ false
+    go true is e = absurd (omega (arith, e))
+    go false is e = grind (arith, nat_tests, is)
+
+none_more : (a b : ℕ) → a + b ≡ 0 → b ≡ 0
+none_more a b e = omega (arith, e)
+
+-- a row of which nothing more is told
+use_stays : (es : List Event) (f : Findings) (k : ℕ) → told true k es ≡ 0 → slice_get (after f es).uses k ≡ slice_get f.uses k
+unfolding run found told
+use_stays [] f k e = refl
+use_stays (Broken token rule ∷ es) f k e = use_stays es (found f (Broken token rule)) k (none_more 0 (told true k es) e)
+use_stays (Uses i d ∷ es) f k e =
+    use_stays es (found f (Uses i d)) k (none_more (here k i) (told true k es) e) ∙ set_other f.uses i k (Some d) (other_token k i (told true k es) e)
+use_stays (Typed i ty ∷ es) f k e = use_stays es (found f (Typed i ty)) k (none_more 0 (told true k es) e)
+
+type_stays : (es : List Event) (f : Findings) (k : ℕ) → told false k es ≡ 0 → slice_get (after f es).types k ≡ slice_get f.types k
+unfolding run found told
+type_stays [] f k e = refl
+type_stays (Broken token rule ∷ es) f k e = type_stays es (found f (Broken token rule)) k (none_more 0 (told false k es) e)
+type_stays (Typed i ty ∷ es) f k e =
+    type_stays es (found f (Typed i ty)) k (none_more (here k i) (told false k es) e) ∙ set_other f.types i k (Some ty) (other_token k i (told false k es) e)
+type_stays (Uses i d ∷ es) f k e = type_stays es (found f (Uses i d)) k (none_more 0 (told false k es) e)
+
+row_within : {A : Type 0} (xs : List A) (k : ℕ) → k < length xs → (x : A) × (slice_get xs k ≡ Some x)
+row_within [] k le = absurd (omega (arith, le))
+row_within (x ∷ xs) zero le = (x, refl)
+row_within (x ∷ xs) (suc k) le = row_within xs k (omega (arith, le))
+
+itself_here : (k : ℕ) → here k k ≡ 1
+itself_here k = go (nat_eq k k) refl
+  where
+    go : (b : Bool) → nat_eq k k ≡ b → ◌≡◌ {A = ℕ} (if b then 1 else 0) 1
+    go true e = refl
+    go false e = absurd (grind (arith, nat_tests, e))
+
+last_one : (k rest : ℕ) → here k k + rest ≤ 1 → rest ≡ 0
+last_one k rest le = let h = itself_here k in omega (arith, le, h)
+
+one_less : (a b : ℕ) → a + b ≤ 1 → b ≤ 1
+one_less a b le = omega (arith, le)
+
+-- an event is among others
+abbrev pub HasEvent : Event → List Event → Type 0
+HasEvent e [] = ⊥
+HasEvent e (x ∷ xs) = (e ≡ x) ⊎ HasEvent e xs
+
+use_told : (es : List Event) (f : Findings) (k : ℕ) (d : Denotation) → told true k es ≤ 1 → k < length f.uses → HasEvent (Uses k d) es → slice_get (after f es).uses k ≡ Some (Some d)
+unfolding run found told
+use_told [] f k d le within h = absurd h
+use_told (e ∷ es) f k d le within (inl is) =
+    subst (λ z. slice_get (after (found f z) es).uses k ≡ Some (Some d)) is
+    (use_stays es (found f (Uses k d)) k (last_one k (told true k es) (subst (λ z. tells true k z + told true k es ≤ 1) (sym is) le)) ∙ (let row = row_within f.uses k within in set_here f.uses k row.0 (Some d) row.1))
+use_told (Broken i rule ∷ es) f k d le within (inr h) = use_told es (found f (Broken i rule)) k d (one_less 0 (told true k es) le) within h
+use_told (Uses i c ∷ es) f k d le within (inr h) =
+    use_told es (found f (Uses i c)) k d (one_less (here k i) (told true k es) le) (let same = length-set f.uses i (Some c) in omega (arith, within, same)) h
+use_told (Typed i ty ∷ es) f k d le within (inr h) = use_told es (found f (Typed i ty)) k d (one_less 0 (told true k es) le) within h
+
+type_told : (es : List Event) (f : Findings) (k : ℕ) (ty : SimType) → told false k es ≤ 1 → k < length f.types → HasEvent (Typed k ty) es → slice_get (after f es).types k ≡ Some (Some ty)
+unfolding run found told
+type_told [] f k ty le within h = absurd h
+type_told (e ∷ es) f k ty le within (inl is) =
+    subst (λ z. slice_get (after (found f z) es).types k ≡ Some (Some ty)) is
+    (type_stays es (found f (Typed k ty)) k (last_one k (told false k es) (subst (λ z. tells false k z + told false k es ≤ 1) (sym is) le)) ∙ (let row = row_within f.types k within in set_here f.types k row.0 (Some ty) row.1))
+type_told (Broken i rule ∷ es) f k ty le within (inr h) = type_told es (found f (Broken i rule)) k ty (one_less 0 (told false k es) le) within h
+type_told (Uses i c ∷ es) f k ty le within (inr h) = type_told es (found f (Uses i c)) k ty (one_less 0 (told false k es) le) within h
+type_told (Typed i c ∷ es) f k ty le within (inr h) =
+    type_told es (found f (Typed i c)) k ty (one_less (here k i) (told false k es) le) (let same = length-set f.types i (Some c) in omega (arith, within, same)) h
+
+-- what is told is told at least once
+told_some : (k : Bool) (i : ℕ) (e : Event) (es : List Event) → HasEvent e es → tells k i e ≤ told k i es
+unfolding told
+told_some k i e [] h = absurd h
+told_some k i e (x ∷ es) (inl is) = let same = ap (tells k i) is in omega (arith, same)
+told_some k i e (x ∷ es) (inr h) = let deep = told_some k i e es h in omega (arith, deep)
+
+-- ---- the source has it
+
+all_say : (s : Source) (es whole : List Event) → Unbroken es → ((e : Event) → HasEvent e es → HasEvent e whole)
+    → ((k : ℕ) (d : Denotation) → HasEvent (Uses k d) whole → denoted s k ≡ Some d) → ((k : ℕ) (ty : SimType) → HasEvent (Typed k ty) whole → type_at s k ≡ Some ty) → AllSay s es
+all_say s [] whole ok part uses types = tt
+all_say s (Broken i rule ∷ es) whole ok part uses types = absurd ok
+all_say s (Uses i d ∷ es) whole ok part uses types = (uses i d (part (Uses i d) (inl refl)), all_say s es whole ok (λ e h. part e (inr h)) uses types)
+all_say s (Typed i ty ∷ es) whole ok part uses types = (types i ty (part (Typed i ty) (inl refl)), all_say s es whole ok (λ e h. part e (inr h)) uses types)
+
+-- events of a round over so many tokens, each told at most once, and of none past the last
+pub round_says : (s : Source) (n : ℕ) (es : List Event) → (after (unknown n) es).least ≡ None → s.uses ≡ (after (unknown n) es).uses → s.types ≡ (after (unknown n) es).types
+    → ((k : Bool) (i : ℕ) → told k i es ≤ 1) → ((k : Bool) (i : ℕ) → 1 ≤ told k i es → i < n) → AllSay s es
+unfolding denoted type_at
+round_says s n es clean uses types once within =
+    all_say s es es (no_faults n es clean) (λ e h. h)
+    (λ k d h. (let low = told_some true k (Uses k d) es h in let is = itself_here k in let some : 1 ≤ told true k es = omega (arith, low, is) in
+    ap (λ z. joined (slice_get z k)) uses ∙ ap joined (use_told es (unknown n) k d (once true k) (let m : length (unknown n).uses ≡ n = length-replicate n None in let le = within true k some in omega (arith, le, m)) h)))
+    (λ k ty h. (let low = told_some false k (Typed k ty) es h in let is = itself_here k in let some : 1 ≤ told false k es = omega (arith, low, is) in
+    ap (λ z. joined (slice_get z k)) types ∙ ap joined (type_told es (unknown n) k ty (once false k) (let m : length (unknown n).types ≡ n = length-replicate n None in let le = within false k some in omega (arith, le, m)) h)))

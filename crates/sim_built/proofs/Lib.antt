@@ -1,0 +1,7 @@
+mod Cells
+mod Names
+mod Expressions
+mod Statements
+mod Programs
+pub mod Lying
+pub mod Allowed

@@ -1,0 +1,4 @@
+//! That what breaks no rule is built.
+#![tactic(auto)]
+
+pub mod laws;

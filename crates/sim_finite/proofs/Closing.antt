@@ -1,0 +1,242 @@
+-- A closed expression takes no more steps than the expression allows.
+use Rattle.std.proofs.Common.{◌≡◌, ◌≤◌, ℕ, suc, ◌+◌, Bool, true, false, List, [], ◌∷◌, Option, Some, None, arith, refl}
+use Rattle.std.specs.Prelude.{◌&&◌}
+use Rattle.sim_base.specs.declared.numbering.DeclNo.{DeclNo}
+use Rattle.sim_scope.specs.declared.scopes.Denotation.{Denotation}
+use Rattle.sim_scope.specs.declared.scopes.Denotation.TheVariants as denotation
+use Rattle.sim_scope.specs.declared.types.Entry.{Entry}
+use Rattle.sim_scope.specs.declared.types.Entry.TheVariants as entry
+use Rattle.sim_scope.specs.declared.types.Formal.{Formal}
+use Rattle.sim_scope.specs.declared.types.FormalKind.{FormalKind}
+use Rattle.sim_scope.specs.declared.types.FormalKind.TheVariants as shape
+use Rattle.sim_scope.specs.declared.types.Mode.{Mode}
+use Rattle.sim_scope.specs.declared.types.Mode.TheVariants as mode
+use Rattle.sim_scope.specs.Scopes.{entry_of}
+use Rattle.sim_scope.specs.Source.{Source, denoted, line_at}
+use Rattle.sim_tree.specs.declared.expr.Sign.{Sign}
+use Rattle.sim_tree.specs.declared.expr.Sign.TheVariants as sign
+use Rattle.sim_tree.specs.Syntax.{Expression, Expressions, Literal, NoMore, Then}
+use Rattle.sim_tree.specs.Syntax as syntax
+use Rattle.sim_values.specs.declared.standard.Standard.{Standard}
+use Rattle.sim_values.specs.Plain.{Plain}
+use Rattle.sim_values.specs.Standard.{is_image, moves_position, on_image}
+use Rattle.sim_meaning.specs.Closing.{Joining, Lazily, Negated, Plainly, Sort, actual_term, array_place, array_term, attribute_term, behind_dot, close, close_actuals, close_all, close_place, constant_term, declared_place, declared_term, dot_term, formal_place, formal_term, formals_at, given_term, home_of, image_place, in_instance, is_text, is_text_type, is_variable, literal_term, name_term, named_place, named_term, object_term, signed_term, sort_of, standard_term, stream_of, sysout, two_term, variable_place, variable_term}
+use Rattle.sim_meaning.specs.Constants.{text_constant}
+use Rattle.sim_meaning.specs.Names.{procedure_named}
+use Rattle.sim_meaning.specs.Pending.{Instances, Term, Terms}
+use Rattle.sim_meaning.specs.Texts.{constant_of}
+use Rattle.sim_finite.proofs.Weights.{expression_weight, expressions_weight, term_weight, terms_weight}
+
+-- ---- one construct
+
+two_small : (sort : Sort) (line : ℕ) (a b : Term) → term_weight (two_term sort line a b) ≤ 4 + (term_weight a + term_weight b)
+two_small (Plainly op) line a b = omega arith
+two_small (Negated op) line a b = omega arith
+two_small (Lazily true) line a b = omega arith
+two_small (Lazily false) line a b = omega arith
+two_small Joining line a b = omega arith
+
+signed_small : (x : Sign) (line : ℕ) (a : Term) → term_weight (signed_term x line a) ≤ 2 + term_weight a
+signed_small sign.Plus line a = omega arith
+signed_small sign.Minus line a = omega arith
+
+given_small : (v : Option Plain) (n : ℕ) → 1 ≤ n → term_weight (given_term v) ≤ n
+given_small None n h = h
+given_small (Some p) n h = h
+
+literal_small : (s : Source) (token : ℕ) (x : Literal) → term_weight (literal_term s token x) ≤ 1
+literal_small s token (syntax.IntegerValue z) = omega arith
+literal_small s token (syntax.CharacterValue c) = omega arith
+literal_small s token (syntax.TextValue bytes) = given_small (text_constant s token) 1 (omega arith)
+literal_small s token (syntax.BooleanValue b) = omega arith
+literal_small s token syntax.NoObject = omega arith
+literal_small s token syntax.NoText = omega arith
+
+in_small : (x : Option ℕ) (f : ℕ → Term) (n : ℕ) → 1 ≤ n → ((j : ℕ) → term_weight (f j) ≤ n) → term_weight (in_instance x f) ≤ n
+in_small None f n h g = h
+in_small (Some j) f n h g = g j
+
+-- ---- identifiers
+
+module _ (s : Source) (m : Instances) (i n : ℕ) (some : 1 ≤ n) where
+  variable_small : (d : DeclNo) (es : Expressions) → term_weight (variable_term s m i d es) ≤ n
+  variable_small d NoMore = in_small (home_of s m i d) _ n some (λ j. some)
+  variable_small d (Then e es) = some
+
+  constant_small : (v : Option Plain) (es : Expressions) → term_weight (constant_term v es) ≤ n
+  constant_small (Some p) NoMore = some
+  constant_small (Some p) (Then e es) = some
+  constant_small None es = some
+
+  place_small : (d : DeclNo) (es : Expressions) → term_weight (variable_place s m i d es) ≤ n
+  place_small d NoMore = in_small (home_of s m i d) _ n some (λ j. some)
+  place_small d (Then e es) = some
+
+  module _ (line : ℕ) (terms : Terms) (most : 5 + terms_weight terms ≤ n) where
+    array_small : (d : DeclNo) (es : Expressions) → term_weight (array_term s m i line d es terms) ≤ n
+    array_small d NoMore = in_small (home_of s m i d) _ n some (λ j. some)
+    array_small d (Then e es) = in_small (home_of s m i d) _ n some (λ j. omega (arith, most))
+
+    element_small : (d : DeclNo) (es : Expressions) → term_weight (array_place s m i line d es terms) ≤ n
+    element_small d NoMore = some
+    element_small d (Then e es) = in_small (home_of s m i d) _ n some (λ j. omega (arith, most))
+
+    formal_small : (d : DeclNo) (mode : Mode) (kind : FormalKind) (es : Expressions) → term_weight (formal_term s m i line d mode kind es terms) ≤ n
+    formal_small d mode.ByName kind es = some
+    formal_small d mode.ByValue shape.Simple es = variable_small d es
+    formal_small d mode.ByValue shape.Array es = array_small d es
+    formal_small d mode.ByValue shape.Procedure es = some
+    formal_small d mode.ByReference shape.Simple es = variable_small d es
+    formal_small d mode.ByReference shape.Array es = array_small d es
+    formal_small d mode.ByReference shape.Procedure es = some
+
+    formal_place_small : (d : DeclNo) (mode : Mode) (kind : FormalKind) (es : Expressions) → term_weight (formal_place s m i line d mode kind es terms) ≤ n
+    formal_place_small d mode.ByName kind es = some
+    formal_place_small d mode.ByValue shape.Simple es = place_small d es
+    formal_place_small d mode.ByValue shape.Array es = element_small d es
+    formal_place_small d mode.ByValue shape.Procedure es = some
+    formal_place_small d mode.ByReference shape.Simple es = place_small d es
+    formal_place_small d mode.ByReference shape.Array es = element_small d es
+    formal_place_small d mode.ByReference shape.Procedure es = some
+
+    declared_place_small : (d : DeclNo) (e : Option Entry) (es : Expressions) → term_weight (declared_place s m i line d e es terms) ≤ n
+    declared_place_small d None es = some
+    declared_place_small d (Some (entry.Variable t)) es = place_small d es
+    declared_place_small d (Some (entry.Constant t)) es = some
+    declared_place_small d (Some (entry.Array t k)) es = element_small d es
+    declared_place_small d (Some (entry.Procedure result k)) es = some
+    declared_place_small d (Some (entry.Class k)) es = some
+    declared_place_small d (Some (entry.Virtual result own)) es = some
+    declared_place_small d (Some (entry.Formal f)) es = formal_place_small d f.mode f.kind es
+    declared_place_small d (Some (entry.Unspecified w)) es = some
+
+    named_place_small : (x : Option Denotation) (es : Expressions) → term_weight (named_place s m i line x es terms) ≤ n
+    named_place_small None es = some
+    named_place_small (Some (denotation.Declared d)) es = declared_place_small d (entry_of s.tables d) es
+    named_place_small (Some (denotation.Standard name)) es = some
+
+    name_small : (image : Bool) (other : Option Standard) (name : Standard) (k : ℕ) → term_weight (name_term image other name k line terms) ≤ n
+    name_small true other name k = omega (arith, most)
+    name_small false (Some of_text) name k = omega (arith, most)
+    name_small false None name k = omega (arith, most)
+
+    standard_small : (x : Option Standard) (k : ℕ) → term_weight (standard_term x k line terms) ≤ n
+    standard_small None k = some
+    standard_small (Some name) k = name_small (is_image name) (on_image name) name k
+
+    module _ (actuals : List Formal → Terms) (few : (fs : List Formal) → 2 + terms_weight (actuals fs) ≤ n) where
+      declared_small : (d : DeclNo) (e : Option Entry) (es : Expressions) → term_weight (declared_term s m i line d e es terms actuals) ≤ n
+      declared_small d None es = some
+      declared_small d (Some (entry.Variable t)) es = variable_small d es
+      declared_small d (Some (entry.Constant t)) es = constant_small (constant_of s d) es
+      declared_small d (Some (entry.Array t k)) es = array_small d es
+      declared_small d (Some (entry.Procedure result k)) es = in_small (home_of s m i d) _ n some (λ j. few (formals_at s d))
+      declared_small d (Some (entry.Class k)) es = some
+      declared_small d (Some (entry.Virtual result own)) es = some
+      declared_small d (Some (entry.Formal f)) es = formal_small d f.mode f.kind es
+      declared_small d (Some (entry.Unspecified w)) es = some
+
+      named_small : (x : Option Denotation) (es : Expressions) → term_weight (named_term s m i line x es terms actuals) ≤ n
+      named_small None es = some
+      named_small (Some (denotation.Declared d)) es = declared_small d (entry_of s.tables d) es
+      named_small (Some (denotation.Standard name)) es = standard_small (procedure_named name) sysout
+
+-- ---- attributes
+
+object_small : (b : Bool) (variable whole : Term) (k : ℕ) → term_weight variable ≤ k → term_weight whole ≤ k → term_weight (object_term b variable whole) ≤ k
+object_small true variable whole k f g = f
+object_small false variable whole k f g = g
+
+module _ (line k n : ℕ) (variable whole : Term) (terms : Terms) (f : term_weight variable ≤ k) (g : term_weight whole ≤ k) (most : 4 + (k + (1 + terms_weight terms)) ≤ n) where
+  attribute_small : (x : Option Standard) (is_variable : Bool) → term_weight (attribute_term x is_variable line variable whole terms) ≤ n
+  attribute_small None is_variable = omega (arith, most)
+  attribute_small (Some name) is_variable = omega (arith, most, object_small (moves_position name && is_variable) variable whole k f g)
+
+  behind_small : Source → Instances → (stream : Option ℕ) (x : Option Standard) (is_variable : Bool) → term_weight (behind_dot stream x is_variable line variable whole terms) ≤ n
+  behind_small s m (Some image) x is_variable = standard_small s m 0 n (omega (arith, most)) line terms (omega (arith, most)) x image
+  behind_small s m None x is_variable = attribute_small x is_variable
+
+  dot_small : Source → Instances → (x : Option Denotation) (stream : Option ℕ) (is_variable : Bool) → term_weight (dot_term x stream is_variable line variable whole terms) ≤ n
+  dot_small s m None stream is_variable = omega (arith, most)
+  dot_small s m (Some (denotation.Declared d)) stream is_variable = omega (arith, most)
+  dot_small s m (Some (denotation.Standard name)) stream is_variable = behind_small s m stream (procedure_named name) is_variable
+
+image_small : (x : Option ℕ) (n : ℕ) → 1 ≤ n → term_weight (image_place x) ≤ n
+image_small None n h = h
+image_small (Some k) n h = h
+
+-- ---- actual parameters
+
+actual_small : (line : ℕ) (mode : Mode) (kind : FormalKind) (text : Bool) (a : Term) → term_weight (actual_term line mode kind text a) ≤ 2 + term_weight a
+actual_small line mode.ByValue shape.Array text a = omega arith
+actual_small line mode.ByReference shape.Array text a = omega arith
+actual_small line mode.ByValue shape.Simple true a = omega arith
+actual_small line mode.ByValue shape.Simple false a = omega arith
+actual_small line mode.ByReference shape.Simple text a = omega arith
+actual_small line mode.ByValue shape.Procedure text a = omega arith
+actual_small line mode.ByReference shape.Procedure text a = omega arith
+actual_small line mode.ByName shape.Simple text a = omega arith
+actual_small line mode.ByName shape.Array text a = omega arith
+actual_small line mode.ByName shape.Procedure text a = omega arith
+
+-- ---- expressions
+
+mutual
+  pub close_small : (s : Source) (m : Instances) (i : ℕ) (e : Expression) → term_weight (close s m i e) ≤ expression_weight e
+  close_small s m i (syntax.If token c a b) = omega (arith, close_small s m i c, close_small s m i a, close_small s m i b)
+  close_small s m i (syntax.Binary op token a b) = omega (arith, two_small (sort_of (is_text s a) op) (line_at s token) (close s m i a) (close s m i b), close_small s m i a, close_small s m i b)
+  close_small s m i (syntax.Not token a) = omega (arith, close_small s m i a)
+  close_small s m i (syntax.Signed x token a) = omega (arith, signed_small x (line_at s token) (close s m i a), close_small s m i a)
+  close_small s m i (syntax.Member member token a class) = omega arith
+  close_small s m i (syntax.Dot token a name es) =
+      dot_small (line_at s name.token.0) (expression_weight a) (expression_weight (syntax.Dot token a name es)) (close_place s m i a) (close s m i a) (close_all s m i es)
+      (close_place_small s m i a) (close_small s m i a) (omega (arith, close_all_small s m i es)) s m (denoted s name.token.0) (stream_of s a) (is_variable s a)
+  close_small s m i (syntax.Qua token a class) = omega arith
+  close_small s m i (syntax.Constant literal token) = literal_small s token literal
+  close_small s m i (syntax.Named name es) =
+      let line = line_at s name.token.0 in
+      named_small s m i (5 + expressions_weight es) (omega arith) line (close_all s m i es) (omega (arith, close_all_small s m i es))
+      (λ fs. close_actuals s m i line es fs) (λ fs. omega (arith, close_actuals_small s m i line es fs)) (denoted s name.token.0) es
+  close_small s m i (syntax.This token class) = omega arith
+  close_small s m i (syntax.New token class es) = omega arith
+  close_small s m i (syntax.Parentheses token a) = close_small s m i a
+
+  close_place_small : (s : Source) (m : Instances) (i : ℕ) (e : Expression) → term_weight (close_place s m i e) ≤ expression_weight e
+  close_place_small s m i (syntax.Named name es) =
+      named_place_small s m i (5 + expressions_weight es) (omega arith) (line_at s name.token.0) (close_all s m i es) (omega (arith, close_all_small s m i es)) (denoted s name.token.0) es
+  close_place_small s m i (syntax.Dot token a name es) = image_small (stream_of s a) (expression_weight (syntax.Dot token a name es)) (omega arith)
+  close_place_small s m i (syntax.If token c a b) = omega arith
+  close_place_small s m i (syntax.Binary op token a b) = omega arith
+  close_place_small s m i (syntax.Not token a) = omega arith
+  close_place_small s m i (syntax.Signed x token a) = omega arith
+  close_place_small s m i (syntax.Member member token a class) = omega arith
+  close_place_small s m i (syntax.Qua token a class) = omega arith
+  close_place_small s m i (syntax.Constant literal token) = omega arith
+  close_place_small s m i (syntax.This token class) = omega arith
+  close_place_small s m i (syntax.New token class es) = omega arith
+  close_place_small s m i (syntax.Parentheses token a) = some_weight a
+
+  some_weight : (e : Expression) → 1 ≤ expression_weight e
+  some_weight (syntax.Parentheses token a) = some_weight a
+  some_weight (syntax.If token c a b) = omega arith
+  some_weight (syntax.Binary op token a b) = omega arith
+  some_weight (syntax.Not token a) = omega arith
+  some_weight (syntax.Signed x token a) = omega arith
+  some_weight (syntax.Member member token a class) = omega arith
+  some_weight (syntax.Dot token a name es) = omega arith
+  some_weight (syntax.Qua token a class) = omega arith
+  some_weight (syntax.Constant literal token) = omega arith
+  some_weight (syntax.Named name es) = omega arith
+  some_weight (syntax.This token class) = omega arith
+  some_weight (syntax.New token class es) = omega arith
+
+  close_all_small : (s : Source) (m : Instances) (i : ℕ) (es : Expressions) → 1 + terms_weight (close_all s m i es) ≤ expressions_weight es
+  close_all_small s m i NoMore = omega arith
+  close_all_small s m i (Then e es) = omega (arith, close_small s m i e, close_all_small s m i es)
+
+  close_actuals_small : (s : Source) (m : Instances) (i line : ℕ) (es : Expressions) (fs : List Formal) → terms_weight (close_actuals s m i line es fs) ≤ expressions_weight es
+  close_actuals_small s m i line NoMore [] = omega arith
+  close_actuals_small s m i line NoMore (f ∷ fs) = omega arith
+  close_actuals_small s m i line (Then e es) [] = omega arith
+  close_actuals_small s m i line (Then e es) (f ∷ fs) =
+      omega (arith, actual_small line f.mode f.kind (is_text_type f.ty) (close s m i e), close_small s m i e, close_actuals_small s m i line es fs)

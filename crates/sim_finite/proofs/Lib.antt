@@ -1,0 +1,5 @@
+mod Weights
+mod Lifts
+mod Closing
+mod Operators
+mod Main

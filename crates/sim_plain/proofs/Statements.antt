@@ -1,0 +1,384 @@
+-- A program of a derivation without words of classes, without prefixes and without parameters that are code, is plain.
+use Rattle.std.proofs.Common.{◌≡◌, ℕ, Bool, true, false, ◌||◌, List, [], ◌∷◌, ◌++◌, Option, Some, None, map, refl, sym, ap, ◌∙◌, subst}
+use Rattle.std.proofs.lemmas.Bool.{false≢true}
+use Rattle.std.specs.List.{list_any}
+use Rattle.std.specs.Prelude.{not, option_map}
+use Rattle.sim_base.specs.declared.token.Token.{Token}
+use Rattle.sim_base.specs.declared.token.TokenKind.{TokenKind}
+use Rattle.sim_base.specs.declared.token.TokenKind.TheVariants as k
+use Rattle.sim_tree.specs.declared.expr.Expr.{Expr}
+use Rattle.sim_tree.specs.declared.expr.Identifier.{Identifier}
+use Rattle.sim_tree.specs.declared.program.BlockPrefix.{BlockPrefix}
+use Rattle.sim_tree.specs.declared.program.Program.{Program as ProgramTree}
+use Rattle.sim_tree.specs.declared.stmt.Activation.TheVariants as activation
+use Rattle.sim_tree.specs.declared.stmt.ArraySegment.{ArraySegment}
+use Rattle.sim_tree.specs.declared.stmt.Assigned.{Assigned}
+use Rattle.sim_tree.specs.declared.stmt.Block.{Block}
+use Rattle.sim_tree.specs.declared.stmt.Bounds.{Bounds}
+use Rattle.sim_tree.specs.declared.stmt.Class.{Class}
+use Rattle.sim_tree.specs.declared.stmt.Decl.{Decl}
+use Rattle.sim_tree.specs.declared.stmt.Decl.TheOpen.{Stmt-F, Decl-F}
+use Rattle.sim_tree.specs.declared.stmt.ForElement.{ForElement}
+use Rattle.sim_tree.specs.declared.stmt.ForElement.TheVariants as for_element
+use Rattle.sim_tree.specs.declared.stmt.Mode.{Mode}
+use Rattle.sim_tree.specs.declared.stmt.Mode.TheVariants as mode
+use Rattle.sim_tree.specs.declared.stmt.ModePart.{ModePart}
+use Rattle.sim_tree.specs.declared.stmt.Procedure.{Procedure}
+use Rattle.sim_tree.specs.declared.stmt.ReferenceElement.{ReferenceElement}
+use Rattle.sim_tree.specs.declared.stmt.ReferenceElement.TheVariants as reference_element
+use Rattle.sim_tree.specs.declared.stmt.Specification.{Specification}
+use Rattle.sim_tree.specs.declared.stmt.Specifier.{Specifier}
+use Rattle.sim_tree.specs.declared.stmt.Specifier.TheVariants as specifier
+use Rattle.sim_tree.specs.declared.stmt.Stmt.{Stmt}
+use Rattle.sim_tree.specs.declared.stmt.TypeName.{TypeName}
+use Rattle.sim_tree.specs.declared.stmt.TypeName.TheVariants as type_name
+use Rattle.sim_tree.specs.declared.stmt.When.{When}
+use Rattle.sim_tree.specs.Grammar as g
+use Rattle.sim_tree.specs.Nesting.{has_token}
+use Rattle.sim_tree.specs.Reading.{Forest, done, leaf, place, node, Reads, reads-done, reads-kept, reads-mark, reads-any, reads-none, reads-here, reads-part, reads-skip, kind_at}
+use Rattle.sim_tree.specs.Shown.{shown, raise, row, expression}
+use Rattle.sim_tree.specs.ShownProgram as d
+use Rattle.sim_tree.specs.ShownProgram.{Declared, Prefixed, acted, assigned_shown, begun, block_shown, class_shown, contents, decl_shown, joined, next_statement, procedure_shown, program_shown, stmt_shown, when_shown}
+use Rattle.sim_tree.specs.Syntax as s
+use Rattle.sim_tree.specs.Syntax.{Declaration, Declarations, Statement, Statements, declarations, statements}
+use Rattle.sim_tree.specs.Syntax.{Block as BlockSyntax}
+use Rattle.sim_tree.specs.SyntaxOf.{syntax_of}
+use Rattle.sim_tree.specs.SyntaxOfProgram as t
+use Rattle.sim_tree.specs.SyntaxOfProgram.{Arm, Classed, Headed, block_syntax, declaration_syntax, program_syntax, statement_syntax}
+use Rattle.sim_tree.specs.Tree.{IsTree, is_bare}
+use Rattle.sim_tree.proofs.Full.{reads_full}
+use Rattle.sim_tree.proofs.Induction as induction
+use Rattle.sim_tree.proofs.ReadExpressions.{Full, is_full-Full}
+use Rattle.sim_tree.proofs.ReadStatements.{acted_full}
+use Rattle.sim_scope.specs.declared.types.Position.TheVariants.{Inside}
+use Rattle.sim_scope.specs.Walk.{block_events, declaration_events, declarations_events, enclosed, program_events, statement_events, statements_events, whole_events}
+use Rattle.sim_static.specs.CodeParameters.{forms, has_code, is_by_name, is_name, is_of_procedures, is_prefixed, is_procedure, passes_code, yes}
+use Rattle.sim_static.specs.NeedsClasses.{needs}
+use Rattle.sim_plain.specs.Clean.{Clean}
+use Rattle.sim_agree.specs.Plain.{Each, Plain, PlainBlock, PlainBounds, PlainDeclaration, PlainDeclarations, PlainElement, PlainExpression, PlainHeading, PlainMode, PlainResult, PlainSegment, PlainSide, PlainSpecification, PlainSpecified, PlainStatement, PlainStatements, PlainType, PlainWord}
+use Rattle.sim_plain.proofs.Expressions.{operand_plain, plain_expr, valued}
+
+no : true ≡ false → ⊥
+no e = false≢true (sym e)
+
+-- ---- places
+
+-- none of them is there
+abbrev Free : List Bool → Type 0
+Free xs = list_any yes xs ≡ false
+
+free_first : (b : Bool) (xs : List Bool) → Free (b ∷ xs) → (b ≡ false) × Free xs
+free_first true xs h = absurd (no h)
+free_first false xs h = (refl, h)
+
+free_both : (xs ys : List Bool) → Free (xs ++ ys) → Free xs × Free ys
+free_both [] ys h = (refl, h)
+free_both (true ∷ xs) ys h = absurd (no h)
+free_both (false ∷ xs) ys h = free_both xs ys h
+
+either : (a b : Bool) → (a || b) ≡ false → (a ≡ false) × (b ≡ false)
+either true b h = absurd (no h)
+either false b h = (refl, h)
+
+-- a block, whether it is one in its own right or a compound statement
+abbrev FreeBlock : BlockSyntax → Type 0
+FreeBlock (s.Begin i ds ss e) = Free (declarations_events forms ds) × Free (statements_events forms Inside ss)
+
+free_enclosed : (ds : Declarations) (inside : List Bool) → Free (enclosed ds [] inside []) → Free inside
+free_enclosed s.NoDeclaration inside h = h
+free_enclosed (s.With d ds) inside h = (free_both inside [] h).0
+
+free_block : (b : BlockSyntax) → Free (block_events forms b) → FreeBlock b
+free_block (s.Begin i ds ss e) h = free_both (declarations_events forms ds) (statements_events forms Inside ss) (free_enclosed ds (declarations_events forms ds ++ statements_events forms Inside ss) h)
+
+free_whole : (b : BlockSyntax) → Free (whole_events forms b) → FreeBlock b
+free_whole (s.Begin i ds ss e) h =
+    let both = free_both (declarations_events forms ds) (statements_events forms Inside ss ++ []) h in (both.0, (free_both (statements_events forms Inside ss) [] both.1).0)
+
+-- ---- the claims of derivations
+
+abbrev Says : Forest → Statement → Type 0
+Says f e = has_token g.Statement f ≡ true → Full f → Clean f → Free (statement_events forms Inside e) → PlainStatement e
+
+abbrev Declares : Declared → Declaration → Type 0
+Declares (d.Plain f) e = Full f → Clean f → Free (declaration_events forms e) → PlainDeclaration e
+Declares (Prefixed x i f) e = Unit {0}
+
+abbrev Blocks : Forest → BlockSyntax → Type 0
+Blocks f e = Full f → Clean f → FreeBlock e → PlainBlock e
+
+abbrev Classes : Forest → Classed → Type 0
+Classes f e = Unit {0}
+
+abbrev Procedures : Forest → Headed → Type 0
+Procedures f e = Full f → Clean f → (result : Option TypeName) (i : ℕ) → PlainResult result → Free (declaration_events forms (e result i)) → PlainDeclaration (e result i)
+
+abbrev Arms : Forest → Arm → Type 0
+Arms f e = Unit {0}
+
+abbrev EachStatement : List Forest → List Statement → Type 0
+EachStatement = induction.EachStatement Says Declares Blocks Classes Procedures Arms
+
+abbrev EachDeclaration : List Declared → List Declaration → Type 0
+EachDeclaration = induction.EachDeclaration Says Declares Blocks Classes Procedures Arms
+
+-- ---- parts of derivations
+
+clean_joined : (f h : Forest) → Clean (joined f h) → Clean f × Clean h
+clean_joined done h c = (tt, c)
+clean_joined (leaf i kind f) h c = let r = clean_joined f h c.1 in ((c.0, r.0), r.1)
+clean_joined (place i f) h c = clean_joined f h c
+clean_joined (node n inside f) h c = let r = clean_joined f h c.1 in ((c.0, r.0), r.1)
+
+clean_acted : (f rest : Forest) → Clean (acted f rest) → Clean f × Clean rest
+clean_acted (node g.Primary (leaf i (k.Identifier name) act) sel) rest c =
+    let one = clean_joined act (node g.AfterFirstOperand (joined sel rest) done) c.1 in
+    let two = clean_joined sel rest one.1.0 in
+    (((c.0, one.0), two.0), two.1)
+clean_acted f rest c = c
+
+clean_begun : (f rest : Forest) → Clean (begun f rest) → Clean f × Clean rest
+clean_begun (leaf i (k.Identifier name) f) rest c = ((c.0, c.1.0.0), c.1.0.1)
+clean_begun f rest c = c
+
+begun_full : (f rest : Forest) → Full (begun f rest) → (has_token g.Statement f ≡ true) × Full f × Full rest
+begun_full (leaf i (k.Identifier name) f) rest full = (refl, full.1.1, full.1.2)
+begun_full f rest full = full
+
+clean_behind_row : (n : g.Part) (fs : List Forest) (f : Forest) → Clean (row n fs f) → Clean f
+clean_behind_row n [] f c = c
+clean_behind_row n (x ∷ xs) f c = clean_behind_row n xs f c.1
+
+-- ---- expressions and parts of statements
+
+expr_plain : (e : Expr) → not (is_bare (expression e)) ≡ true → Full (expression e) → Clean (expression e) → PlainExpression (syntax_of e)
+expr_plain e bare full c = valued (plain_expr e) bare full c
+
+each_row : {A B : Type 0} (n : g.Part) (f : A → Forest) (t : A → B) (P : B → Type 0) (xs : List A) → ((x : A) → Full (f x) → Clean (f x) → P (t x)) → Full (row n (map f xs) done) → Clean (row n (map f xs) done) → Each P (map t xs)
+each_row n f t P [] one full c = tt
+each_row n f t P (x ∷ xs) one full c = (one x full.1 c.0, each_row n f t P xs one full.2 c.1)
+
+bounds_plain : (b : Bounds) → Full (d.bounds_shown b) → Clean (d.bounds_shown b) → PlainBounds (t.bound_pair_syntax b)
+bounds_plain b full c = (expr_plain b.lower full.0 full.1 c.0, expr_plain b.upper full.2.0 full.2.1 c.1.0)
+
+dimensions_plain : (bs : List Bounds) → Full (d.dimensions bs) → Clean (d.dimensions bs) → Each PlainBounds (map t.bound_pair_syntax bs)
+dimensions_plain [] full c = tt
+dimensions_plain (b ∷ bs) full c = (bounds_plain b full.1 c.0, each_row g.NextBounds d.next_bounds t.bound_pair_syntax PlainBounds bs (λ x full c. bounds_plain x full.1 c.0) full.2 c.1)
+
+segment_plain : (x : ArraySegment) → Full (d.segment_shown x) → Clean (d.segment_shown x) → PlainSegment (t.segment_syntax x)
+segment_plain x full c = dimensions_plain x.bounds.items full.2 c.1
+
+segments_plain : (xs : List ArraySegment) → Full (d.segments_shown xs) → Clean (d.segments_shown xs) → Each PlainSegment (map t.segment_syntax xs)
+segments_plain [] full c = tt
+segments_plain (x ∷ xs) full c = (segment_plain x full.1 c.0, each_row g.NextArraySegment d.next_segment t.segment_syntax PlainSegment xs (λ x full c. segment_plain x full.1 c.0) full.2 c.1)
+
+element_plain : (x : ForElement) → Full (d.for_element_shown x) → Clean (d.for_element_shown x) → PlainElement (t.element_syntax x)
+element_plain (for_element.Value e) full c = expr_plain e full.0 full.1 c.0
+element_plain (for_element.Step e i a b) full c =
+    (expr_plain e full.0 full.1 c.0, expr_plain a full.2.1.0 full.2.1.1 c.1.0.1.0, expr_plain b full.2.1.2.0 full.2.1.2.1 c.1.0.1.1.0)
+element_plain (for_element.While e i a) full c = (expr_plain e full.0 full.1 c.0, expr_plain a full.2.1.0 full.2.1.1 c.1.0.1.0)
+
+elements_plain : (xs : List ForElement) → Full (d.for_elements xs) → Clean (d.for_elements xs) → Each PlainElement (map t.element_syntax xs)
+elements_plain [] full c = tt
+elements_plain (x ∷ xs) full c = (element_plain x full.1 c.0, each_row g.NextForElement d.next_for_element t.element_syntax PlainElement xs (λ x full c. element_plain x full.1 c.0) full.2 c.1)
+
+reference_element_plain : (x : ReferenceElement) → Full (d.reference_element_shown x) → Clean (d.reference_element_shown x) → PlainElement (t.reference_element_syntax x)
+reference_element_plain (reference_element.Value e) full c = expr_plain e full.0 full.1 c.0
+reference_element_plain (reference_element.While e i a) full c = (expr_plain e full.0 full.1 c.0, expr_plain a full.2.1.0 full.2.1.1 c.1.0.1.0)
+
+reference_elements_plain : (xs : List ReferenceElement) → Full (d.reference_elements xs) → Clean (d.reference_elements xs) → Each PlainElement (map t.reference_element_syntax xs)
+reference_elements_plain [] full c = tt
+reference_elements_plain (x ∷ xs) full c =
+    (reference_element_plain x full.1 c.0, each_row g.NextReferenceElement d.next_reference_element t.reference_element_syntax PlainElement xs (λ x full c. reference_element_plain x full.1 c.0) full.2 c.1)
+
+called : (e : Expr) (rest : Forest) → Full (acted (raise 1 (shown e)) rest) → Clean (acted (raise 1 (shown e)) rest) → PlainExpression (syntax_of e)
+called e rest full c = let all = acted_full (raise 1 (shown e)) rest full in operand_plain (plain_expr e) all.0 all.1 (clean_acted (raise 1 (shown e)) rest c).0
+
+assigned_plain : (e : Expr) (xs : List Assigned) → has_token g.Statement (d.assigning e xs) ≡ true → Full (d.assigning e xs) → Clean (d.assigning e xs) → PlainExpression (syntax_of e) × Each PlainSide (map t.right_side_syntax xs)
+assigned_plain e [] token full c = absurd (false≢true token)
+assigned_plain e (x ∷ xs) token full c =
+    let rest = row g.Assigned (map assigned_shown (x ∷ xs)) done in
+    let all = acted_full (raise 1 (shown e)) rest full in
+    (called e rest full c, each_row g.Assigned assigned_shown t.right_side_syntax PlainSide (x ∷ xs) (λ x full c. expr_plain x.value full.0 full.1 c.1.0) all.2 (clean_acted (raise 1 (shown e)) rest c).1)
+
+-- ---- types and headings
+
+plain_type : (x : TypeName) → Clean (d.type_shown x) → PlainType x
+plain_type (type_name.Integer i) c = tt
+plain_type (type_name.Boolean i) c = tt
+plain_type (type_name.Character i) c = tt
+plain_type (type_name.Text i) c = tt
+plain_type (type_name.Reference i class) c = absurd (no c.0)
+
+plain_word : (w : Mode) → is_name w ≡ false → PlainWord w
+plain_word mode.Value h = tt
+plain_word mode.Name h = absurd (no h)
+
+plain_modes : (ms : List ModePart) → list_any is_by_name (map t.mode_syntax ms) ≡ false → Each PlainMode (map t.mode_syntax ms)
+plain_modes [] h = tt
+plain_modes (m ∷ ms) h = let both = either (is_name m.mode) (list_any is_by_name (map t.mode_syntax ms)) h in (plain_word m.mode both.0, plain_modes ms both.1)
+
+plain_specifier : (x : Specifier) (rest : Forest) → is_procedure (t.specifier_syntax x) ≡ false → Clean (d.specifier_shown x rest) → PlainSpecified (t.specifier_syntax x)
+plain_specifier (specifier.Simple n) rest h c = plain_type n c.0
+plain_specifier (specifier.Array n i) rest h c = plain_type n c.0
+plain_specifier (specifier.Procedure n i) rest h c = absurd (no h)
+
+plain_specifications : (xs : List Specification) → list_any is_of_procedures (map t.specification_syntax xs) ≡ false → Clean (row g.Specification (map d.specification_shown xs) done) → Each PlainSpecification (map t.specification_syntax xs)
+plain_specifications [] h c = tt
+plain_specifications (x ∷ xs) h c =
+    let both = either (is_procedure (t.specifier_syntax x.specifier)) (list_any is_of_procedures (map t.specification_syntax xs)) h in
+    (plain_specifier x.specifier (node g.Identifiers (d.ids x.names.items) done) both.0 c.0, plain_specifications xs both.1 c.1)
+
+specifications_of : (ps : List Identifier) (ms : List ModePart) (xs : List Specification) → Clean (d.heading_shown ps ms xs) → Clean (row g.Specification (map d.specification_shown xs) done)
+specifications_of [] [] [] c = tt
+specifications_of [] [] (x ∷ xs) c = c.1
+specifications_of [] (m ∷ ms) xs c = clean_behind_row g.Mode (map d.mode_shown (m ∷ ms)) (row g.Specification (map d.specification_shown xs) done) c.1
+specifications_of (p ∷ ps) ms xs c = clean_behind_row g.Mode (map d.mode_shown ms) (row g.Specification (map d.specification_shown xs) done) c.1
+
+plain_heading : (name : Identifier) (ps : List Identifier) (ms : List ModePart) (xs : List Specification) → has_code (t.heading_syntax name ps ms xs) ≡ false → Clean (d.heading_shown ps ms xs) → PlainHeading (t.heading_syntax name ps ms xs)
+plain_heading name ps ms xs h c =
+    let both = either (list_any is_by_name (map t.mode_syntax ms)) (list_any is_of_procedures (map t.specification_syntax xs)) h in
+    (plain_modes ms both.0, plain_specifications xs both.1 (specifications_of ps ms xs c))
+
+-- ---- blocks
+
+more_statements : (fs : List Forest) (es : List Statement) (end : ℕ) → EachStatement fs es → Full (row g.NextStatement (map next_statement fs) (leaf end k.End done)) → Clean (row g.NextStatement (map next_statement fs) (leaf end k.End done))
+    → Free (statements_events forms Inside (statements es)) → PlainStatements (statements es)
+more_statements [] [] end each full c free = tt
+more_statements [] (e ∷ es) end each full c free = absurd each
+more_statements (f ∷ fs) [] end each full c free = absurd each
+more_statements (f ∷ fs) (e ∷ es) end each full c free =
+    let both = free_both (statement_events forms Inside e) (statements_events forms Inside (statements es)) free in
+    (each.0 full.1.0 full.1.1 c.0.0 both.0, more_statements fs es end each.1 full.2 c.1 both.1)
+
+statements_plain : (fs : List Forest) (es : List Statement) (end : ℕ) → EachStatement fs es → Full (d.statements fs end) → Clean (d.statements fs end) → Free (statements_events forms Inside (statements es)) → PlainStatements (statements es)
+statements_plain [] [] end each full c free = tt
+statements_plain [] (e ∷ es) end each full c free = absurd each
+statements_plain (f ∷ fs) [] end each full c free = absurd each
+statements_plain (f ∷ fs) (e ∷ es) end each full c free =
+    let rest = row g.NextStatement (map next_statement fs) (leaf end k.End done) in
+    let parts = begun_full f rest full in
+    let clean = clean_begun f rest c in
+    let both = free_both (statement_events forms Inside e) (statements_events forms Inside (statements es)) free in
+    (each.0 parts.0 parts.1 clean.0 both.0, more_statements fs es end each.1 parts.2 clean.1 both.1)
+
+contents_plain : (ds : List Declared) (xs : List Declaration) (fs : List Forest) (es : List Statement) (end : ℕ) → EachDeclaration ds xs → EachStatement fs es → Full (contents ds fs end) → Clean (contents ds fs end)
+    → Free (declarations_events forms (declarations xs)) → Free (statements_events forms Inside (statements es)) → PlainDeclarations (declarations xs) × PlainStatements (statements es)
+contents_plain [] [] fs es end all each full c fd fe = (tt, statements_plain fs es end each full c fe)
+contents_plain [] (x ∷ xs) fs es end all each full c fd fe = absurd all
+contents_plain (y ∷ ds) [] fs es end all each full c fd fe = absurd all
+contents_plain (d.Plain f ∷ ds) (x ∷ xs) fs es end all each full c fd fe =
+    let both = free_both (declaration_events forms x) (declarations_events forms (declarations xs)) fd in
+    let rest = contents_plain ds xs fs es end all.1 each full.2.2.1 c.1.1.0 both.1 fe in
+    ((all.0 full.1 c.0 both.0, rest.0), rest.1)
+contents_plain (Prefixed name i f ∷ ds) (x ∷ xs) fs es end all each full c fd fe = absurd (no c.1.0.0)
+
+-- ---- each node
+
+abbrev StmtPair : Type 0
+StmtPair = induction.StmtPair Says Declares Blocks Classes Procedures Arms
+
+abbrev DeclPair : Type 0
+DeclPair = induction.DeclPair Says Declares Blocks Classes Procedures Arms
+
+abbrev first_stmt : StmtPair → Stmt
+first_stmt x = x.0
+
+abbrev first_decl : DeclPair → Decl
+first_decl x = x.0
+
+stmt_step : induction.StmtStep Says Declares Blocks Classes Procedures Arms
+stmt_step (Stmt-F.Empty i) token full c free = tt
+stmt_step (Stmt-F.Block b) token full c free = b.1 full.1 c.0 (free_block (block_syntax b.0) free)
+stmt_step (Stmt-F.PrefixedBlock p b) token full c free = absurd (no free)
+stmt_step (Stmt-F.Inner i) token full c free = absurd (no c.0)
+stmt_step (Stmt-F.Call e) token full c free = called e done full c
+stmt_step (Stmt-F.Assignment e v) token full c free = assigned_plain e v.items token full c
+stmt_step (Stmt-F.If i e a None) token full c free =
+    (expr_plain e full.0 full.1 c.1.0, a.value.1 full.2.0 full.2.1 c.1.1.0 (free_both (statement_events forms Inside (statement_syntax a.value.0)) [] free).0, tt)
+stmt_step (Stmt-F.If i e a (Some b)) token full c free =
+    let x = statement_events forms Inside (statement_syntax a.value.0) in
+    let y = statement_events forms Inside (statement_syntax b.value.0) in
+    let both = free_both x (y ++ []) free in
+    (expr_plain e full.0 full.1 c.1.0, a.value.1 full.2.0 full.2.1 c.1.1.0 both.0, (b.value.1 full.2.2.1.0 full.2.2.1.1 c.1.1.1.0.0 (free_both y [] both.1).0, tt))
+stmt_step (Stmt-F.While i e a) token full c free = (expr_plain e full.0 full.1 c.1.0, a.value.1 full.2.0 full.2.1 c.1.1.0 free)
+stmt_step (Stmt-F.For i x n v a) token full c free = (elements_plain v.items full.1 c.1.1.0.1, a.value.1 full.2.0 full.2.1 c.1.1.1.0 free)
+stmt_step (Stmt-F.ForReference i x n v a) token full c free = (reference_elements_plain v.items full.1 c.1.1.0.1, a.value.1 full.2.0 full.2.1 c.1.1.1.0 free)
+stmt_step (Stmt-F.Inspect i e n a m None) token full c free = absurd (no c.0)
+stmt_step (Stmt-F.Inspect i e n a m (Some b)) token full c free = absurd (no c.0)
+stmt_step (Stmt-F.InspectWhen i e v None) token full c free = absurd (no c.0)
+stmt_step (Stmt-F.InspectWhen i e v (Some b)) token full c free = absurd (no c.0)
+stmt_step (Stmt-F.Activation i activation.Activate e o) token full c free = absurd (no c.0)
+stmt_step (Stmt-F.Activation i activation.Reactivate e o) token full c free = absurd (no c.0)
+
+decl_step : induction.DeclStep Says Declares Blocks Classes Procedures Arms
+decl_step (Decl-F.Variables n v) = λ full c free. plain_type n c.0
+decl_step (Decl-F.Arrays n i v) = λ full c free. (plain_type n c.0, segments_plain v.items full.2.1 c.1.0.1)
+decl_step (Decl-F.Procedure None i p) = λ full c free. p.1 full.1 c.1.0 None i.0 tt free
+decl_step (Decl-F.Procedure (Some n) i p) = λ full c free. p.1 full.2.1.1 c.1.0.1.0 (Some n) i.0 (plain_type n c.0) free
+decl_step (Decl-F.Class None i q) = λ full c free. absurd (no c.0)
+decl_step (Decl-F.Class (Some x) i q) = tt
+
+block_step : induction.BlockStep Says Declares Blocks Classes Procedures Arms
+block_step b full c free =
+    contents_plain (map decl_shown (map first_decl b.declarations.items)) (map declaration_syntax (map first_decl b.declarations.items)) (map stmt_shown (map first_stmt b.statements.items))
+    (map statement_syntax (map first_stmt b.statements.items)) b.end.0 (induction.each_declaration Says Declares Blocks Classes Procedures Arms b.declarations.items) (induction.each_statement Says Declares Blocks Classes Procedures Arms b.statements.items)
+    full.1 c.1.0 free.0 free.1
+
+class_step : induction.ClassStep Says Declares Blocks Classes Procedures Arms
+class_step q = tt
+
+procedure_step : induction.ProcedureStep Says Declares Blocks Classes Procedures Arms
+procedure_step p full c result i type free =
+    let body = statement_events forms Inside (statement_syntax p.body.value.0) in
+    let h = has_code (t.heading_syntax p.name p.parameters.items p.modes.items p.specifications.items) in
+    let both = free_first h (body ++ []) free in (
+      type,
+      plain_heading p.name p.parameters.items p.modes.items p.specifications.items both.0 c.1.0,
+      p.body.value.1 full.2.0 full.2.1 c.1.1.0 (free_both body [] both.1).0,
+    )
+
+when_step : induction.WhenStep Says Declares Blocks Classes Procedures Arms
+when_step w = tt
+
+plain_block : (b : Block) → Blocks (block_shown b) (block_syntax b)
+plain_block = induction.each_block Says Declares Blocks Classes Procedures Arms stmt_step decl_step block_step class_step procedure_step when_step
+
+-- ---- the tokens
+
+module _ {most : ℕ} {ws : List Token} (free : (i : ℕ) → needs (kind_at ws i) ≡ false) where
+  reads_clean : {d i j : ℕ} {x : List g.Symbol} {f : Forest} → Reads most ws d x i f j → Clean f
+  reads_clean reads-done = tt
+  reads_clean (reads-kept {i = i} h r) = (free i, reads_clean r)
+  reads_clean (reads-mark h r) = reads_clean r
+  reads_clean (reads-any h r) = reads_clean r
+  reads_clean (reads-none h r) = reads_clean r
+  reads_clean (reads-here r) = reads_clean r
+  reads_clean (reads-part b sh r o) = (reads_clean r, reads_clean o)
+  reads_clean (reads-skip b may r) = reads_clean r
+
+-- ---- a program
+
+no_prefix : (x : Option BlockPrefix) → is_prefixed (option_map t.prefix_syntax x) ≡ false → x ≡ None
+no_prefix None h = refl
+no_prefix (Some x) h = absurd (no h)
+
+pub plain_program : (ws : List Token) (p : ProgramTree) → IsTree ws p → ((i : ℕ) → needs (kind_at ws i) ≡ false) → passes_code (program_syntax p) ≡ false → Plain (program_syntax p)
+unfolding program_syntax passes_code program_events
+plain_program ws p tree free h =
+    let f = node g.Program (program_shown p) done in
+    let full = is_full-Full f (reads_full tree.reads) in
+    let c = reads_clean free tree.reads in
+    let both = free_first (is_prefixed (option_map t.prefix_syntax p.prefix)) (whole_events forms (block_syntax p.block)) h in
+    let none = no_prefix p.prefix both.0 in
+    record {
+      prefix = ap (option_map t.prefix_syntax) none;
+      block = go p.prefix none full.1 c.0 (free_whole (block_syntax p.block) both.1);
+    }
+  where
+    go : (x : Option BlockPrefix) → x ≡ None → Full (d.prefixed x (node g.Compound (block_shown p.block) done)) → Clean (d.prefixed x (node g.Compound (block_shown p.block) done)) → FreeBlock (block_syntax p.block) → PlainBlock (block_syntax p.block)
+    go None is full c free = plain_block p.block full.1 c.0 free
+    go (Some x) is full c free = absurd (other is)
+      where
+        other : Some x ≡ None → ⊥
+        other e = cc

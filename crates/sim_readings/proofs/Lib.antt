@@ -1,0 +1,2 @@
+mod Table
+mod Reading

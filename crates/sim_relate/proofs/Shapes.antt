@@ -1,0 +1,97 @@
+-- The tree of an expression is not where a cell lies: it leaves a value that may lie in a cell, or none.
+use Rattle.std.proofs.Common.{◌≡◌, ℕ, Bool, true, false, List, Option, Some, None, refl}
+use Rattle.sim_base.specs.declared.numbering.DeclNo.{DeclNo}
+use Rattle.sim_scope.specs.declared.scopes.Denotation.{Denotation}
+use Rattle.sim_scope.specs.declared.scopes.Denotation.TheVariants as denotation
+use Rattle.sim_scope.specs.declared.types.Entry.{Entry}
+use Rattle.sim_scope.specs.declared.types.Entry.TheVariants as entry
+use Rattle.sim_scope.specs.declared.types.Formal.{Formal}
+use Rattle.sim_scope.specs.declared.types.FormalKind.{FormalKind}
+use Rattle.sim_scope.specs.declared.types.FormalKind.TheVariants as shape
+use Rattle.sim_scope.specs.declared.types.Mode.{Mode}
+use Rattle.sim_scope.specs.declared.types.Mode.TheVariants as mode
+use Rattle.sim_scope.specs.Scopes.{entry_of}
+use Rattle.sim_scope.specs.Source.{Source, denoted, line_at}
+use Rattle.sim_tree.specs.declared.expr.Identifier.{Identifier}
+use Rattle.sim_tree.specs.Syntax.{Expression, Expressions, NoMore, Then}
+use Rattle.sim_tree.specs.Syntax as syntax
+use Rattle.sim_values.specs.declared.standard.Standard.{Standard}
+use Rattle.sim_values.specs.Plain.{Plain}
+use Rattle.sim_values.specs.Standard.{is_image, on_image}
+use Rattle.sim_meaning.specs.Closing.{array_term, behind_dot, close, close_actuals, close_all, close_place, constant_term, declared_term, dot_term, formal_term, home_of, in_instance, is_variable, name_term, named_term, standard_term, stream_of, sysout, variable_term}
+use Rattle.sim_meaning.specs.Names.{procedure_named}
+use Rattle.sim_meaning.specs.Pending.{Instances, Term, Terms}
+use Rattle.sim_meaning.specs.Texts.{constant_of}
+use Rattle.sim_relate.proofs.Relation.{Kind, given, gives, leaving}
+
+module _ (s : Source) (m : Instances) (i : ℕ) where
+  abbrev pub Leaves : Term → Type 0
+  Leaves t = (ks : List Kind) → leaving s t ks ≡ given (gives s t) ks
+
+  in_leaves : (o : Option ℕ) (f : ℕ → Term) → ((j : ℕ) → Leaves (f j)) → Leaves (in_instance o f)
+  in_leaves None f a = λ ks. refl
+  in_leaves (Some j) f a = a j
+
+  variable_leaves : (d : DeclNo) (es : Expressions) → Leaves (variable_term s m i d es)
+  variable_leaves d NoMore = in_leaves (home_of s m i d) _ (λ j ks. refl)
+  variable_leaves d (Then e es) = λ ks. refl
+
+  constant_leaves : (v : Option Plain) (es : Expressions) → Leaves (constant_term v es)
+  constant_leaves (Some v) NoMore = λ ks. refl
+  constant_leaves (Some v) (Then e es) = λ ks. refl
+  constant_leaves None es = λ ks. refl
+
+  array_leaves : (line : ℕ) (d : DeclNo) (es : Expressions) (terms : Terms) → Leaves (array_term s m i line d es terms)
+  array_leaves line d NoMore terms = in_leaves (home_of s m i d) _ (λ j ks. refl)
+  array_leaves line d (Then e es) terms = in_leaves (home_of s m i d) _ (λ j ks. refl)
+
+  formal_leaves : (line : ℕ) (d : DeclNo) (by : Mode) (kind : FormalKind) (es : Expressions) (terms : Terms) → Leaves (formal_term s m i line d by kind es terms)
+  formal_leaves line d mode.ByName kind es terms = λ ks. refl
+  formal_leaves line d mode.ByValue shape.Simple es terms = variable_leaves d es
+  formal_leaves line d mode.ByValue shape.Array es terms = array_leaves line d es terms
+  formal_leaves line d mode.ByValue shape.Procedure es terms = λ ks. refl
+  formal_leaves line d mode.ByReference shape.Simple es terms = variable_leaves d es
+  formal_leaves line d mode.ByReference shape.Array es terms = array_leaves line d es terms
+  formal_leaves line d mode.ByReference shape.Procedure es terms = λ ks. refl
+
+  declared_leaves : (line : ℕ) (d : DeclNo) (o : Option Entry) (es : Expressions) (terms : Terms) (actuals : List Formal → Terms) → Leaves (declared_term s m i line d o es terms actuals)
+  declared_leaves line d (Some (entry.Variable type)) es terms actuals = variable_leaves d es
+  declared_leaves line d (Some (entry.Constant type)) es terms actuals = constant_leaves (constant_of s d) es
+  declared_leaves line d (Some (entry.Array element dimensions)) es terms actuals = array_leaves line d es terms
+  declared_leaves line d (Some (entry.Formal f)) es terms actuals = formal_leaves line d f.mode f.kind es terms
+  declared_leaves line d (Some (entry.Procedure result block)) es terms actuals = in_leaves (home_of s m i d) _ (λ j ks. refl)
+  declared_leaves line d (Some (entry.Class block)) es terms actuals = λ ks. refl
+  declared_leaves line d (Some (entry.Virtual result own)) es terms actuals = λ ks. refl
+  declared_leaves line d (Some (entry.Unspecified written)) es terms actuals = λ ks. refl
+  declared_leaves line d None es terms actuals = λ ks. refl
+
+  name_leaves : (is : Bool) (on : Option Standard) (name : Standard) (image line : ℕ) (terms : Terms) → Leaves (name_term is on name image line terms)
+  name_leaves true on name image line terms = λ ks. refl
+  name_leaves false (Some x) name image line terms = λ ks. refl
+  name_leaves false None name image line terms = λ ks. refl
+
+  standard_leaves_so : (name : Option Standard) (image line : ℕ) (terms : Terms) → Leaves (standard_term name image line terms)
+  standard_leaves_so None image line terms = λ ks. refl
+  standard_leaves_so (Some name) image line terms = name_leaves (is_image name) (on_image name) name image line terms
+
+  named_leaves : (line : ℕ) (u : Option Denotation) (es : Expressions) (terms : Terms) (actuals : List Formal → Terms) → Leaves (named_term s m i line u es terms actuals)
+  named_leaves line None es terms actuals = λ ks. refl
+  named_leaves line (Some (denotation.Declared d)) es terms actuals = declared_leaves line d (entry_of s.tables d) es terms actuals
+  named_leaves line (Some (denotation.Standard name)) es terms actuals = standard_leaves_so (procedure_named name) sysout line terms
+
+  behind_leaves : (stream : Option ℕ) (name : Option Standard) (is : Bool) (line : ℕ) (x y : Term) (terms : Terms) → Leaves (behind_dot stream name is line x y terms)
+  behind_leaves (Some image) name is line x y terms = standard_leaves_so name image line terms
+  behind_leaves None None is line x y terms = λ ks. refl
+  behind_leaves None (Some name) is line x y terms = λ ks. refl
+
+  dot_leaves : (u : Option Denotation) (stream : Option ℕ) (is : Bool) (line : ℕ) (x y : Term) (terms : Terms) → Leaves (dot_term u stream is line x y terms)
+  dot_leaves (Some (denotation.Standard name)) stream is line x y terms = behind_leaves stream (procedure_named name) is line x y terms
+  dot_leaves (Some (denotation.Declared d)) stream is line x y terms = λ ks. refl
+  dot_leaves None stream is line x y terms = λ ks. refl
+
+  -- calls
+  pub named_call_leaves : (name : Identifier) (es : Expressions) → Leaves (close s m i (syntax.Named name es))
+  named_call_leaves name es = named_leaves (line_at s name.token.0) (denoted s name.token.0) es (close_all s m i es) (λ fs. close_actuals s m i (line_at s name.token.0) es fs)
+
+  pub dot_call_leaves : (token : ℕ) (e : Expression) (name : Identifier) (es : Expressions) → Leaves (close s m i (syntax.Dot token e name es))
+  dot_call_leaves token e name es = dot_leaves (denoted s name.token.0) (stream_of s e) (is_variable s e) (line_at s name.token.0) (close_place s m i e) (close s m i e) (close_all s m i es)

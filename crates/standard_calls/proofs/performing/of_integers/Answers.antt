@@ -1,0 +1,71 @@
+use Rattle.std.proofs.Common.{rules, ◌≡◌, sym, subst, ap, ◌∙◌, to_z, of_z, w64}
+use Rattle.std.specs.Prelude.{[], ◌∷◌, Some}
+use Rattle.sim_values.specs.declared.standard.Standard.TheVariants as name
+use Rattle.sim_values.specs.Plain.{Integer}
+use Rattle.sim_values.specs.Store.{computes}
+use Rattle.sim_code.specs.Machine.{plain}
+use Rattle.standard_calls.specs.Calls.{CameAs, integers_name}
+use Rattle.standard_calls.specs.Performed.{parts, store_of}
+use Rattle.standard_calls.proofs.Effects.{does_min, does_max, does_mod, does_rem}
+use Rattle.sim_values.specs.Arithmetic.{greater_of, smaller_of}
+use Rattle.standard_calls.proofs.performing.of_integers.Goals as goal
+
+pub returns-in-Min-clause-came : goal.returns-in-Min-clause-came
+returns-in-Min-clause-came g c =
+    let ei : to_z w64 (of_z w64 c.args.i) ≡ c.args.i = search rules in
+    let ej : to_z w64 (of_z w64 c.args.j) ≡ c.args.j = search rules in
+    let i2 = to_z w64 (of_z w64 c.args.i) in
+    let j2 = to_z w64 (of_z w64 c.args.j) in
+    λ budget words input source.
+    subst (λ f. CameAs c.given.result budget (integers_name f) (Integer c.args.j ∷ Integer c.args.i ∷ []) (parts c.args.texts.now input source c.args.image.now (g.O.Sink.written c.args.out.now) words) (parts c.args.texts.now input source c.args.image.now (g.O.Sink.written c.args.out.now) words)) (sym c.in-Min.is)
+    (subst (λ i. CameAs c.given.result budget name.Min (Integer c.args.j ∷ Integer i ∷ []) (parts c.args.texts.now input source c.args.image.now (g.O.Sink.written c.args.out.now) words) (parts c.args.texts.now input source c.args.image.now (g.O.Sink.written c.args.out.now) words)) ei
+    (subst (λ j. CameAs c.given.result budget name.Min (Integer j ∷ Integer i2 ∷ []) (parts c.args.texts.now input source c.args.image.now (g.O.Sink.written c.args.out.now) words) (parts c.args.texts.now input source c.args.image.now (g.O.Sink.written c.args.out.now) words)) ej
+    (c.given.ensures.came budget name.Min (Integer j2 ∷ Integer i2 ∷ []) (parts c.args.texts.now input source c.args.image.now (g.O.Sink.written c.args.out.now) words) (Integer (smaller_of i2 j2)) (ap plain c.integer.ensures.value ∙ ap (λ z. Some (Integer z)) ((let whole : to_z w64 (of_z w64 c.smaller.result) ≡ c.smaller.result = search rules in whole) ∙ c.smaller.ensures.smaller)) (λ written. does_min (store_of (parts c.args.texts.now input source c.args.image.now (g.O.Sink.written c.args.out.now) words) written) i2 j2))))
+
+pub returns-in-Max-clause-came : goal.returns-in-Max-clause-came
+returns-in-Max-clause-came g c =
+    let ei : to_z w64 (of_z w64 c.args.i) ≡ c.args.i = search rules in
+    let ej : to_z w64 (of_z w64 c.args.j) ≡ c.args.j = search rules in
+    let i2 = to_z w64 (of_z w64 c.args.i) in
+    let j2 = to_z w64 (of_z w64 c.args.j) in
+    λ budget words input source.
+    subst (λ f. CameAs c.given-in-Max.result budget (integers_name f) (Integer c.args.j ∷ Integer c.args.i ∷ []) (parts c.args.texts.now input source c.args.image.now (g.O.Sink.written c.args.out.now) words) (parts c.args.texts.now input source c.args.image.now (g.O.Sink.written c.args.out.now) words)) (sym c.in-Max.is)
+    (subst (λ i. CameAs c.given-in-Max.result budget name.Max (Integer c.args.j ∷ Integer i ∷ []) (parts c.args.texts.now input source c.args.image.now (g.O.Sink.written c.args.out.now) words) (parts c.args.texts.now input source c.args.image.now (g.O.Sink.written c.args.out.now) words)) ei
+    (subst (λ j. CameAs c.given-in-Max.result budget name.Max (Integer j ∷ Integer i2 ∷ []) (parts c.args.texts.now input source c.args.image.now (g.O.Sink.written c.args.out.now) words) (parts c.args.texts.now input source c.args.image.now (g.O.Sink.written c.args.out.now) words)) ej
+    (c.given-in-Max.ensures.came budget name.Max (Integer j2 ∷ Integer i2 ∷ []) (parts c.args.texts.now input source c.args.image.now (g.O.Sink.written c.args.out.now) words) (Integer (greater_of i2 j2)) (ap plain c.integer-in-Max.ensures.value ∙ ap (λ z. Some (Integer z)) ((let whole : to_z w64 (of_z w64 c.greater.result) ≡ c.greater.result = search rules in whole) ∙ c.greater.ensures.greater)) (λ written. does_max (store_of (parts c.args.texts.now input source c.args.image.now (g.O.Sink.written c.args.out.now) words) written) i2 j2))))
+
+pub returns-in-Mod-clause-came : goal.returns-in-Mod-clause-came
+returns-in-Mod-clause-came g c =
+    let ei : to_z w64 (of_z w64 c.args.i) ≡ c.args.i = search rules in
+    let ej : to_z w64 (of_z w64 c.args.j) ≡ c.args.j = search rules in
+    let i2 = to_z w64 (of_z w64 c.args.i) in
+    let j2 = to_z w64 (of_z w64 c.args.j) in
+    λ budget words input source.
+    subst (λ f. CameAs c.integer_came.result budget (integers_name f) (Integer c.args.j ∷ Integer c.args.i ∷ []) (parts c.args.texts.now input source c.args.image.now (g.O.Sink.written c.args.out.now) words) (parts c.args.texts.now input source c.args.image.now (g.O.Sink.written c.args.out.now) words)) (sym c.in-Mod.is)
+    (subst (λ i. CameAs c.integer_came.result budget name.Mod (Integer c.args.j ∷ Integer i ∷ []) (parts c.args.texts.now input source c.args.image.now (g.O.Sink.written c.args.out.now) words) (parts c.args.texts.now input source c.args.image.now (g.O.Sink.written c.args.out.now) words)) ei
+    (subst (λ j. CameAs c.integer_came.result budget name.Mod (Integer j ∷ Integer i2 ∷ []) (parts c.args.texts.now input source c.args.image.now (g.O.Sink.written c.args.out.now) words) (parts c.args.texts.now input source c.args.image.now (g.O.Sink.written c.args.out.now) words)) ej
+    (c.integer_came.ensures.came budget name.Mod (Integer j2 ∷ Integer i2 ∷ []) (parts c.args.texts.now input source c.args.image.now (g.O.Sink.written c.args.out.now) words) (λ written. does_mod (store_of (parts c.args.texts.now input source c.args.image.now (g.O.Sink.written c.args.out.now) words) written) i2 j2 ∙ ap (λ r. Some (computes Integer r (store_of (parts c.args.texts.now input source c.args.image.now (g.O.Sink.written c.args.out.now) words) written))) (sym c.modulo.ensures.modulus)))))
+
+pub returns-in-Rem-clause-came : goal.returns-in-Rem-clause-came
+returns-in-Rem-clause-came g c =
+    let ei : to_z w64 (of_z w64 c.args.i) ≡ c.args.i = search rules in
+    let ej : to_z w64 (of_z w64 c.args.j) ≡ c.args.j = search rules in
+    let i2 = to_z w64 (of_z w64 c.args.i) in
+    let j2 = to_z w64 (of_z w64 c.args.j) in
+    λ budget words input source.
+    subst (λ f. CameAs c.integer_came-in-Rem.result budget (integers_name f) (Integer c.args.j ∷ Integer c.args.i ∷ []) (parts c.args.texts.now input source c.args.image.now (g.O.Sink.written c.args.out.now) words) (parts c.args.texts.now input source c.args.image.now (g.O.Sink.written c.args.out.now) words)) (sym c.in-Rem.is)
+    (subst (λ i. CameAs c.integer_came-in-Rem.result budget name.Rem (Integer c.args.j ∷ Integer i ∷ []) (parts c.args.texts.now input source c.args.image.now (g.O.Sink.written c.args.out.now) words) (parts c.args.texts.now input source c.args.image.now (g.O.Sink.written c.args.out.now) words)) ei
+    (subst (λ j. CameAs c.integer_came-in-Rem.result budget name.Rem (Integer j ∷ Integer i2 ∷ []) (parts c.args.texts.now input source c.args.image.now (g.O.Sink.written c.args.out.now) words) (parts c.args.texts.now input source c.args.image.now (g.O.Sink.written c.args.out.now) words)) ej
+    (c.integer_came-in-Rem.ensures.came budget name.Rem (Integer j2 ∷ Integer i2 ∷ []) (parts c.args.texts.now input source c.args.image.now (g.O.Sink.written c.args.out.now) words) (λ written. does_rem (store_of (parts c.args.texts.now input source c.args.image.now (g.O.Sink.written c.args.out.now) words) written) i2 j2 ∙ ap (λ r. Some (computes Integer r (store_of (parts c.args.texts.now input source c.args.image.now (g.O.Sink.written c.args.out.now) words) written))) (sym c.remainder.ensures.remainder)))))
+
+pub returns-in-Outint-clause-came : goal.returns-in-Outint-clause-came
+returns-in-Outint-clause-came g c =
+    let ei : to_z w64 (of_z w64 c.args.i) ≡ c.args.i = search rules in
+    let ej : to_z w64 (of_z w64 c.args.j) ≡ c.args.j = search rules in
+    let i2 = to_z w64 (of_z w64 c.args.i) in
+    let j2 = to_z w64 (of_z w64 c.args.j) in
+    λ budget words input source.
+    subst (λ f. CameAs c.outint.result budget (integers_name f) (Integer c.args.j ∷ Integer c.args.i ∷ []) (parts c.args.texts.now input source c.args.image.now (g.O.Sink.written c.args.out.now) words) (parts c.outint.new.texts input source c.outint.new.image (g.O.Sink.written c.outint.new.out) words)) (sym c.in-Outint.is)
+    (subst (λ i. CameAs c.outint.result budget name.Outint (Integer c.args.j ∷ Integer i ∷ []) (parts c.args.texts.now input source c.args.image.now (g.O.Sink.written c.args.out.now) words) (parts c.outint.new.texts input source c.outint.new.image (g.O.Sink.written c.outint.new.out) words)) ei
+    (subst (λ j. CameAs c.outint.result budget name.Outint (Integer j ∷ Integer i2 ∷ []) (parts c.args.texts.now input source c.args.image.now (g.O.Sink.written c.args.out.now) words) (parts c.outint.new.texts input source c.outint.new.image (g.O.Sink.written c.outint.new.out) words)) ej
+    (c.outint.ensures.came budget words input source)))
