@@ -6,6 +6,7 @@ use Rattle.sim_scope.specs.declared.bound.Bound.{Bound}
 use Rattle.sim_scope.specs.declared.scopes.Denotation.{Denotation}
 use Rattle.sim_scope.specs.declared.scopes.Denotation.TheVariants as denotation
 use Rattle.sim_scope.specs.declared.standard.Standard.{Standard}
+use Rattle.sim_scope.specs.declared.standard.Attribute.{Attribute}
 use Rattle.sim_scope.specs.declared.types.Entry.{Entry}
 use Rattle.sim_scope.specs.declared.types.Entry.TheVariants as entry
 use Rattle.sim_scope.specs.declared.types.Formal.{Formal}
@@ -64,6 +65,7 @@ no_result_before s n d (Some (entry.Procedure result block)) hs f = f n
 no_result_before s n d (Some (entry.Class block)) hs f = f n
 no_result_before s n d (Some (entry.Virtual result own)) hs f = f n
 no_result_before s n d (Some (entry.Unspecified written)) hs f = f n
+no_result_before s n d (Some (entry.Attribute name parameter result)) hs f = f n
 
 no_result : (s : Source) (ds : List DeclNo) (n : ℕ) → place_from n Result (cells_from s ds) ≡ None
 no_result s [] n = refl
@@ -258,6 +260,9 @@ module _ (b : Bound) (w : Spot) where
   pub declared_unspecified : (token : TokenNo) (d : DeclNo) (o : Option Entry) (m : Option WrittenMode) (es : List Expr) → o ≡ entry_of b.scopes d → o ≡ Some (entry.Unspecified m) → FindsDeclared b w token d es left.NotBuilt
   declared_unspecified token d o m es eo is = as_declared token d o _ es left.NotBuilt eo is (λ h. h)
 
+  pub declared_attribute : (token : TokenNo) (d : DeclNo) (o : Option Entry) (n : Attribute) (x y : Option SimType) (es : List Expr) → o ≡ entry_of b.scopes d → o ≡ Some (entry.Attribute n x y) → FindsDeclared b w token d es left.NotBuilt
+  declared_attribute token d o n x y es eo is = as_declared token d o _ es left.NotBuilt eo is (λ h. h)
+
   pub declared_nowhere : (token : TokenNo) (d : DeclNo) (o : Option Entry) (es : List Expr) → o ≡ entry_of b.scopes d → o ≡ None → FindsDeclared b w token d es left.NotBuilt
   declared_nowhere token d o es eo is = as_declared token d o _ es left.NotBuilt eo is (λ h. h)
 
@@ -277,4 +282,4 @@ module _ (b : Bound) (w : Spot) where
   pub left_nothing : (token : TokenNo) (o : Option Denotation) (es : List Expr) → o ≡ denoted (source_of b) token.0 → o ≡ None → FindsLeft b w token es left.NotBuilt
   left_nothing token o es eo none = as_named token o _ es left.NotBuilt eo none (λ h. h)
 
-pub ruleset lefts = (variable_subscripts, variable_no_slot, variable_outside, variable_cell, element_none, element_found, result_subscripts, result_missing, result_outside, result_found, formal_by_name, value_simple, value_array, value_procedure, reference_simple, reference_array, reference_procedure, declared_variable, declared_array, declared_formal, declared_result, declared_constant, declared_class, declared_virtual, declared_unspecified, declared_nowhere, left_declared, left_standard, left_nothing)
+pub ruleset lefts = (variable_subscripts, variable_no_slot, variable_outside, variable_cell, element_none, element_found, result_subscripts, result_missing, result_outside, result_found, formal_by_name, value_simple, value_array, value_procedure, reference_simple, reference_array, reference_procedure, declared_variable, declared_array, declared_formal, declared_result, declared_constant, declared_class, declared_virtual, declared_unspecified, declared_attribute, declared_nowhere, left_declared, left_standard, left_nothing)

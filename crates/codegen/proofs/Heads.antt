@@ -3,6 +3,7 @@ use Rattle.std.proofs.Common.{◌≡◌, ℕ, List, [], ◌∷◌, ◌++◌, map
 use Rattle.std.specs.Prelude.{slice_get, take}
 use Rattle.sim_base.specs.declared.numbering.DeclNo.{DeclNo}
 use Rattle.sim_scope.specs.declared.bound.Bound.{Bound}
+use Rattle.sim_scope.specs.declared.standard.Attribute.{Attribute}
 use Rattle.sim_scope.specs.declared.types.Entry.{Entry}
 use Rattle.sim_scope.specs.declared.types.Entry.TheVariants as entry
 use Rattle.sim_scope.specs.declared.types.Formal.{Formal}
@@ -72,6 +73,10 @@ pub push_unspecified : (old : List CodeType) (o : Option Entry) (x : Option Writ
 unfolding PushesCell
 push_unspecified old o x is d = sym (append-nil old) ∙ ap (λ z. old ++ map type_of_cell (with_cell d z [])) (sym is)
 
+pub push_attribute : (old : List CodeType) (o : Option Entry) (n : Attribute) (x y : Option SimType) → o ≡ Some (entry.Attribute n x y) → PushesCell old old o
+unfolding PushesCell
+push_attribute old o n x y is d = sym (append-nil old) ∙ ap (λ z. old ++ map type_of_cell (with_cell d z [])) (sym is)
+
 pub push_nothing : (old : List CodeType) (o : Option Entry) → o ≡ None → PushesCell old old o
 unfolding PushesCell
 push_nothing old o is d = sym (append-nil old) ∙ ap (λ z. old ++ map type_of_cell (with_cell d z [])) (sym is)
@@ -100,6 +105,7 @@ cell_first d (Some (entry.Procedure x n)) hs = refl
 cell_first d (Some (entry.Class n)) hs = refl
 cell_first d (Some (entry.Virtual x n)) hs = refl
 cell_first d (Some (entry.Unspecified x)) hs = refl
+cell_first d (Some (entry.Attribute name parameter result)) hs = refl
 
 pub cells_all : (b : Bound) (types : List CodeType) (ds : List DeclNo) → OwesCells b types ds types ds
 unfolding OwesCells
@@ -136,6 +142,7 @@ same_before (Some (entry.Procedure x n)) fs = refl
 same_before (Some (entry.Class n)) fs = refl
 same_before (Some (entry.Virtual x n)) fs = refl
 same_before (Some (entry.Unspecified x)) fs = refl
+same_before (Some (entry.Attribute name parameter result)) fs = refl
 
 pub same_formals : (s : Source) (ds : List DeclNo) → formals_closed s ds ≡ formals_from s ds
 same_formals s [] = refl
@@ -148,4 +155,4 @@ formals_same s k = cases (slice_get s.tables.blocks k) refl
     cases None e = rw e refl
     cases (Some x) e = rw e (same_formals s (take x.formals x.numbers))
 
-pub ruleset heads = (push_variable, push_constant, push_array, push_formal, push_procedure, push_class, push_virtual, push_unspecified, push_nothing, push_no_result, push_some_result, cells_found)
+pub ruleset heads = (push_variable, push_constant, push_array, push_formal, push_procedure, push_class, push_virtual, push_unspecified, push_attribute, push_nothing, push_no_result, push_some_result, cells_found)

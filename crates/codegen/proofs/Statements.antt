@@ -10,7 +10,7 @@ use Rattle.sim_base.specs.declared.numbering.TokenNo.{TokenNo}
 use Rattle.sim_scope.specs.declared.bound.Bound.{Bound}
 use Rattle.sim_scope.specs.declared.scopes.Denotation.{Denotation}
 use Rattle.sim_scope.specs.Assignments.{last_value, left_sides}
-use Rattle.sim_scope.specs.Scopes.{block_at, encloser}
+use Rattle.sim_scope.specs.Access.{block_at, encloser}
 use Rattle.sim_scope.specs.Source.{Source, block_around, denoted, level_of, line_at, source_of, type_at}
 use Rattle.sim_tree.specs.declared.expr.Expr.{Expr}
 use Rattle.sim_tree.specs.declared.expr.Identifier.{Identifier}

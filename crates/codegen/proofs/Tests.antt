@@ -4,13 +4,15 @@ use Rattle.std.specs.Prelude.{slice_get}
 use Rattle.std.specs.Option.{option_copied}
 use Rattle.sim_base.specs.declared.numbering.DeclNo.{DeclNo}
 use Rattle.sim_scope.specs.declared.bound.Bound.{Bound}
+use Rattle.sim_scope.specs.declared.standard.Attribute.{Attribute}
 use Rattle.sim_scope.specs.declared.types.Entry.{Entry}
 use Rattle.sim_scope.specs.declared.types.Entry.TheVariants as entry
 use Rattle.sim_scope.specs.declared.types.Formal.{Formal}
 use Rattle.sim_scope.specs.declared.types.SimType.{SimType}
 use Rattle.sim_scope.specs.declared.types.WrittenMode.{WrittenMode}
 use Rattle.sim_scope.specs.declared.scopes.Declaration.{Declaration}
-use Rattle.sim_scope.specs.Scopes.{around, encloser, entry_in, entry_of}
+use Rattle.sim_scope.specs.Access.{around, encloser}
+use Rattle.sim_scope.specs.Scopes.{entry_in, entry_of}
 use Rattle.sim_scope.specs.Source.{Source, block_of, level_of, source_of}
 use Rattle.sim_scope.specs.Tables.{BlockOf as TableBlock}
 use Rattle.std.proofs.lemmas.Bool.{cases_eq}
@@ -108,6 +110,9 @@ fits_formal b blocks d o x eo is = no_procedure b blocks d o eo (λ result k e. 
 pub fits_unspecified : (b : Bound) (blocks : List BlockOf) (d : DeclNo) (o : Option Entry) (x : Option WrittenMode) → o ≡ entry_of b.scopes d → o ≡ Some (entry.Unspecified x) → Tells true (FitsAt b blocks d)
 fits_unspecified b blocks d o x eo is = no_procedure b blocks d o eo (λ result k e. let f : Some (entry.Unspecified x) ≡ Some (entry.Procedure result k) = sym is ∙ e in cc)
 
+pub fits_attribute : (b : Bound) (blocks : List BlockOf) (d : DeclNo) (o : Option Entry) (n : Attribute) (x y : Option SimType) → o ≡ entry_of b.scopes d → o ≡ Some (entry.Attribute n x y) → Tells true (FitsAt b blocks d)
+fits_attribute b blocks d o n x y eo is = no_procedure b blocks d o eo (λ result k e. let f : Some (entry.Attribute n x y) ≡ Some (entry.Procedure result k) = sym is ∙ e in cc)
+
 pub fits_nothing : (b : Bound) (blocks : List BlockOf) (d : DeclNo) (o : Option Entry) → o ≡ entry_of b.scopes d → o ≡ None → Tells true (FitsAt b blocks d)
 fits_nothing b blocks d o eo is = no_procedure b blocks d o eo (λ result k e. let f : None ≡ Some (entry.Procedure result k) = sym is ∙ e in cc)
 
@@ -168,4 +173,4 @@ fits_more s blocks d result k r y c t u er some ec et t1 eu u1 = wrong s blocks 
 pub fits_less : (s : Source) (blocks : List BlockOf) (d : DeclNo) (result : Option SimType) (k : ℕ) (r : Option (Bor BlockOf)) (y : Bor BlockOf) (c : CodeType) (t u : Bool) → option_copied r ≡ slice_get blocks k → r ≡ Some y → c ≡ y.now.result_type → t ≡ gives_value c → t ≡ false → u ≡ has_type result → u ≡ true → Tells false (ProcedureFits s blocks d result k)
 fits_less s blocks d result k r y c t u er some ec et t1 eu u1 = wrong s blocks d result k r y c t u er some ec et eu (λ e. let f : false ≡ true = sym t1 ∙ e ∙ u1 in cc)
 
-pub ruleset tests = (fits_missing, fits_sub_block, fits_object, fits_prefixed, fits_elsewhere, fits_both, fits_neither, fits_more, fits_less, level_none, level_right, level_wrong, fits_variable, fits_constant, fits_array, fits_class, fits_virtual, fits_formal, fits_unspecified, fits_nothing, fits_procedure)
+pub ruleset tests = (fits_missing, fits_sub_block, fits_object, fits_prefixed, fits_elsewhere, fits_both, fits_neither, fits_more, fits_less, level_none, level_right, level_wrong, fits_variable, fits_constant, fits_array, fits_class, fits_virtual, fits_formal, fits_unspecified, fits_attribute, fits_nothing, fits_procedure)

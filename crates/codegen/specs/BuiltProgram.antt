@@ -4,7 +4,7 @@ use Rattle.std.specs.Prelude.{◌≡◌, ⊤, ℕ, zero, suc, Bool, true, false,
 use Rattle.std.specs.List.{list_any}
 use Rattle.sim_base.specs.declared.numbering.DeclNo.{DeclNo}
 use Rattle.sim_scope.specs.Assignments.{last_value, left_sides}
-use Rattle.sim_scope.specs.Scopes.{encloser}
+use Rattle.sim_scope.specs.Access.{encloser}
 use Rattle.sim_scope.specs.Source.{Source, block_around, block_of, denoted, line_at}
 use Rattle.sim_scope.specs.Tables.{BlockOf}
 use Rattle.sim_tree.specs.declared.expr.Identifier.{Identifier}

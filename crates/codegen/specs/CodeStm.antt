@@ -1,7 +1,7 @@
 -- Which code stands for a statement. There are n values on the operand stack before it and behind it.
 use Rattle.std.specs.Prelude.{◌≡◌, ℕ, zero, suc, Bool, true, false, pos, Option, Some, None}
 use Rattle.sim_scope.specs.Assignments.{last_value, left_sides}
-use Rattle.sim_scope.specs.Scopes.{encloser}
+use Rattle.sim_scope.specs.Access.{encloser}
 use Rattle.sim_scope.specs.Source.{Source, block_around, denoted, line_at}
 use Rattle.sim_tree.specs.Syntax.{Also, Begin, Block, Expression, NoDeclaration, NoMore, NoStatement, Statement, Statements, With}
 use Rattle.sim_tree.specs.Syntax as syntax

@@ -4,7 +4,8 @@ use Rattle.sim_base.specs.declared.numbering.DeclNo.{DeclNo}
 use Rattle.sim_scope.specs.declared.bound.Bound.{Bound}
 use Rattle.sim_scope.specs.declared.types.Entry.TheVariants as entry
 use Rattle.sim_scope.specs.declared.types.SimType.{SimType}
-use Rattle.sim_scope.specs.Scopes.{encloser, entry_of}
+use Rattle.sim_scope.specs.Access.{encloser}
+use Rattle.sim_scope.specs.Scopes.{entry_of}
 use Rattle.sim_scope.specs.Source.{Source, block_of, level_of, source_of}
 use Rattle.sim_code.specs.declared.code.BlockKind.TheVariants as kind
 use Rattle.sim_code.specs.declared.code.CodeType.{CodeType}

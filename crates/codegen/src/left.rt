@@ -178,6 +178,7 @@ fn find_declared<'a>(
         Some(Entry::Constant(_)) => Left::NotBuilt,
         Some(Entry::Class { .. }) => Left::NotBuilt,
         Some(Entry::Virtual { .. }) => Left::NotBuilt,
+        Some(Entry::Attribute { .. }) => Left::NotBuilt,
         Some(Entry::Unspecified { .. }) => Left::NotBuilt,
         None => Left::NotBuilt,
     }

@@ -2,7 +2,7 @@
 ghost use Rattle.std.specs.Prelude.{◌≡◌, IfOk, false, length, slice_get, true};
 ghost use Rattle.std.specs.List.{list_any};
 ghost use Rattle.std.specs.Option.{option_copied};
-ghost use Rattle.sim_scope.specs.Scopes.{encloser as encloser_of};
+ghost use Rattle.sim_scope.specs.Access.{encloser as encloser_of};
 ghost use Rattle.sim_scope.specs.Source.{source_of};
 ghost use Rattle.sim_meaning.specs.Closing.{has_type as has_type_of};
 ghost use Rattle.codegen.specs.BuiltProgram.{is_special as is_special_of};
@@ -33,6 +33,7 @@ fn is_special(block: &Block) -> bool
         sim_scope::BlockKind::Class => true,
         sim_scope::BlockKind::Prefixed => true,
         sim_scope::BlockKind::Connection => true,
+        sim_scope::BlockKind::StandardClass(_) => true,
         sim_scope::BlockKind::Program => false,
         sim_scope::BlockKind::SubBlock => false,
         sim_scope::BlockKind::Procedure => false,
@@ -183,6 +184,7 @@ fn declaration_fits(bound: &Bound, blocks: &[BlockRecord], declaration: DeclNo) 
         Some(Entry::Class { .. }) => true,
         Some(Entry::Virtual { .. }) => true,
         Some(Entry::Formal(_)) => true,
+        Some(Entry::Attribute { .. }) => true,
         Some(Entry::Unspecified { .. }) => true,
         None => true,
     }

@@ -68,6 +68,7 @@ fn push_cell(types: &mut Vec<CodeType>, entry: Option<Entry>) -> Result<(), Allo
         Some(Entry::Procedure { .. }) => Ok(()),
         Some(Entry::Class { .. }) => Ok(()),
         Some(Entry::Virtual { .. }) => Ok(()),
+        Some(Entry::Attribute { .. }) => Ok(()),
         Some(Entry::Unspecified { .. }) => Ok(()),
         None => Ok(()),
     }

@@ -256,6 +256,7 @@ module _ (b : Bound) (w : Spot) (n : ℕ) where
   lies_emits a c line d (Some (entry.Class text)) es O A f = f
   lies_emits a c line d (Some (entry.Virtual result own)) es O A f = f
   lies_emits a c line d (Some (entry.Unspecified written)) es O A f = f
+  lies_emits a c line d (Some (entry.Attribute name parameter result)) es O A f = f
   lies_emits a c line d (Some (entry.Formal x)) es O A f = formal x.mode x.kind f
     where
       formal : (m : Mode) (k : FormalKind)

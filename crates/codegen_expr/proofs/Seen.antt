@@ -267,6 +267,7 @@ module _ (b : Bound) (w : Spot) (n : ℕ) where
   seen_emits a c line d (Some (entry.Class text)) es O P A B ek f = f
   seen_emits a c line d (Some (entry.Virtual result own)) es O P A B ek f = f
   seen_emits a c line d (Some (entry.Unspecified written)) es O P A B ek f = f
+  seen_emits a c line d (Some (entry.Attribute name parameter result)) es O P A B ek f = f
   seen_emits a c line d (Some (entry.Formal x)) es O P A B ek f = formal x.mode x.kind f
     where
       formal : (m : Mode) (k : FormalKind)

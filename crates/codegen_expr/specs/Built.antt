@@ -10,7 +10,8 @@ use Rattle.sim_scope.specs.declared.types.FormalKind.{FormalKind}
 use Rattle.sim_scope.specs.declared.types.FormalKind.TheVariants as shape
 use Rattle.sim_scope.specs.declared.types.Mode.{Mode}
 use Rattle.sim_scope.specs.declared.types.Mode.TheVariants as mode
-use Rattle.sim_scope.specs.Scopes.{encloser, entry_of}
+use Rattle.sim_scope.specs.Access.{encloser}
+use Rattle.sim_scope.specs.Scopes.{entry_of}
 use Rattle.sim_scope.specs.Source.{Source, block_of, denoted}
 use Rattle.sim_scope.specs.Tables.{Tables}
 use Rattle.sim_tree.specs.Syntax.{Expression, Expressions, Literal, NoMore, Then}

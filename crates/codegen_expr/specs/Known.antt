@@ -5,7 +5,8 @@ use Rattle.std.specs.declared.vec.Vec.{Vec}
 use Rattle.sim_base.specs.declared.numbering.DeclNo.{DeclNo}
 use Rattle.sim_scope.specs.declared.bound.Bound.{Bound}
 use Rattle.sim_scope.specs.declared.types.Formal.{Formal}
-use Rattle.sim_scope.specs.Scopes.{formals_in, joined}
+use Rattle.sim_scope.specs.Access.{joined}
+use Rattle.sim_scope.specs.Scopes.{formals_in}
 use Rattle.sim_scope.specs.Source.{Source, block_of, source_of}
 use Rattle.sim_values.specs.Plain.{Plain, Integer, Truth, Character, Text as TextOf}
 use Rattle.sim_meaning.specs.Closing.{formals_from}

@@ -1,6 +1,6 @@
 -- Instructions and jumps at places of code. The code is given as a whole, and a part of it stands from one place on up to another.
 use Rattle.std.specs.Prelude.{◌≡◌, ◌<◌, ◌≤◌, ℕ, suc, if◌then◌else◌, pos, List, [], ◌∷◌, length, slice_get, Option, Some, None}
-use Rattle.sim_scope.specs.Scopes.{encloser}
+use Rattle.sim_scope.specs.Access.{encloser}
 use Rattle.sim_scope.specs.Source.{Source}
 use Rattle.sim_scope.specs.Tables.{Tables}
 use Rattle.sim_code.specs.declared.instr.Instr.{Instr}

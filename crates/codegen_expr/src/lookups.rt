@@ -1,7 +1,7 @@
 //! What the emitter looks up by token, declaration and block.
 ghost use Rattle.std.specs.Prelude.{◌≡◌, length};
 ghost use Rattle.sim_scope.specs.Source.{block_of, denoted as denoted_of, level_of as level_of_block, line_at as line_at_of, source_of, type_at};
-ghost use Rattle.sim_scope.specs.Scopes.{encloser as encloser_of};
+ghost use Rattle.sim_scope.specs.Access.{encloser as encloser_of};
 ghost use Rattle.sim_meaning.specs.Closing.{is_text as is_text_of, is_text_type};
 ghost use Rattle.sim_meaning.specs.Constants.{text_constant};
 ghost use Rattle.sim_meaning.specs.Pending.{Declared};

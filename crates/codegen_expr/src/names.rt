@@ -76,6 +76,11 @@ pub(crate) fn standard_code(name: Standard) -> Option<StandardCode>
         Standard::Length => None,
         Standard::Sysin => None,
         Standard::Sysout => None,
+        Standard::Detach => None,
+        Standard::Call => None,
+        Standard::Resume => None,
+        Standard::Simset => None,
+        Standard::Simulation => None,
     }
 }
 
@@ -143,6 +148,11 @@ pub(crate) fn on_image(name: Standard) -> OnImage
         Standard::Length => OnImage::OfText(Standard::TextLength),
         Standard::Sysin => OnImage::Nothing,
         Standard::Sysout => OnImage::Nothing,
+        Standard::Detach => OnImage::Nothing,
+        Standard::Call => OnImage::Nothing,
+        Standard::Resume => OnImage::Nothing,
+        Standard::Simset => OnImage::Nothing,
+        Standard::Simulation => OnImage::Nothing,
     }
 }
 
@@ -199,6 +209,11 @@ pub(crate) fn moves_position(name: Standard) -> bool
         Standard::Length => false,
         Standard::Sysin => false,
         Standard::Sysout => false,
+        Standard::Detach => false,
+        Standard::Call => false,
+        Standard::Resume => false,
+        Standard::Simset => false,
+        Standard::Simulation => false,
     }
 }
 
@@ -256,5 +271,10 @@ pub fn standard_leaves(name: Standard) -> bool
         Standard::Length => true,
         Standard::Sysin => false,
         Standard::Sysout => false,
+        Standard::Detach => false,
+        Standard::Call => false,
+        Standard::Resume => false,
+        Standard::Simset => false,
+        Standard::Simulation => false,
     }
 }

@@ -39,7 +39,7 @@ const COLLECTIONS: [&str; 5] = [
 ];
 
 // The collections of data/ whose sources are checked, not run. They come last.
-const CHECKED: [&str; 1] = ["static_rules.cases"];
+const CHECKED: [&str; 2] = ["static_rules.cases", "class_rules.cases"];
 
 fn main(rt: HostRuntime) -> io::Result<()> {
     for (name, input) in MODELS {

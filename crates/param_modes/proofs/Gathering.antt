@@ -1,15 +1,16 @@
 -- The headings of the tables.
-use Rattle.std.proofs.Common.{◌≡◌, ◌+◌, ◌≤◌, ℕ, zero, suc, List, [], ◌∷◌, ◌++◌, length, drop, Option, Some, None, refl, sym, ap, ◌∙◌, subst, append_assoc, append-nil}
+use Rattle.std.proofs.Common.{◌≡◌, ◌+◌, ◌<◌, ◌≤◌, ℕ, zero, suc, List, [], ◌∷◌, ◌++◌, length, drop, Option, Some, None, refl, sym, ap, ◌∙◌, subst, append_assoc, append-nil}
 use Rattle.std.proofs.lemmas.List.{drop_all}
-use Rattle.std.specs.Prelude.{slice_get}
+use Rattle.std.proofs.lemmas.Option.{slice_get-get_or}
+use Rattle.std.specs.Prelude.{slice_get, slice_index_or}
 use Rattle.sim_base.specs.declared.numbering.DeclNo.{DeclNo}
 use Rattle.sim_scope.specs.declared.types.Entry.{Entry}
 use Rattle.sim_scope.specs.declared.types.Entry.TheVariants as entry
 use Rattle.sim_scope.specs.declared.types.Formal.{Formal}
 use Rattle.sim_scope.specs.declared.types.SimType.{SimType}
-use Rattle.sim_scope.specs.Scopes.{entry_of, formal_declared, formal_in, formal_of, formals_of}
+use Rattle.sim_scope.specs.Scopes.{class_formal, class_formals, entry_of, formal_declared, formal_in, formal_of, formals_of}
 use Rattle.sim_scope.specs.Tables.{Tables}
-use Rattle.param_modes.specs.Headings.{Gathers, HasHeading, HeadingOf, ahead, formals_among, heading_in, heading_of, with_formal, with_result}
+use Rattle.param_modes.specs.Headings.{Gathers, HasHeading, HeadingOf, IsHeading, OfClass, OfProcedure, ahead, formals_among, heading_in, heading_of, with_formal, with_result}
 
 -- The loop.
 in_front : (x : Option (List Formal)) → ahead [] x ≡ x
@@ -98,17 +99,30 @@ procedure_has s d h result block (Some fs) at among is =
     let l = listed s (formals_of s d) fs among in
     subst (λ z. HasHeading s d z.result z.formals) (ap (or_heading h) is) (record { block = block; procedure = at; as_many = l.as_many; each = l.each })
 
-entry_has : (s : Tables) (d : DeclNo) (h : HeadingOf) (e : Option Entry) → entry_of s d ≡ e → heading_in s d e ≡ Some h → HasHeading s d h.result h.formals
+class_has : (s : Tables) (d : DeclNo) (h : HeadingOf) (block : ℕ) (r : Option (List Formal)) → entry_of s d ≡ Some (entry.Class block) → formals_among s (class_formals s block) ≡ r → with_result None r ≡ Some h → IsHeading s d h
+unfolding class_formal or_heading
+class_has s d h block None at among is = absurd (cc)
+class_has s d h block (Some fs) at among is =
+    let l = listed s (class_formals s block) fs among in
+    subst (λ z. IsHeading s d z) (ap (or_heading h) is) (OfClass refl (record { block = block; class = at; as_many = l.as_many; each = l.each }))
+
+entry_has : (s : Tables) (d : DeclNo) (h : HeadingOf) (e : Option Entry) → entry_of s d ≡ e → heading_in s d e ≡ Some h → IsHeading s d h
 entry_has s d h None at is = absurd (cc)
 entry_has s d h (Some (entry.Variable ty)) at is = absurd (cc)
 entry_has s d h (Some (entry.Constant ty)) at is = absurd (cc)
 entry_has s d h (Some (entry.Array element dimensions)) at is = absurd (cc)
-entry_has s d h (Some (entry.Procedure result block)) at is = procedure_has s d h result block (formals_among s (formals_of s d)) at refl is
-entry_has s d h (Some (entry.Class block)) at is = absurd (cc)
+entry_has s d h (Some (entry.Procedure result block)) at is = OfProcedure (procedure_has s d h result block (formals_among s (formals_of s d)) at refl is)
+entry_has s d h (Some (entry.Class block)) at is = class_has s d h block (formals_among s (class_formals s block)) at refl is
 entry_has s d h (Some (entry.Virtual result own)) at is = absurd (cc)
 entry_has s d h (Some (entry.Formal f)) at is = absurd (cc)
+entry_has s d h (Some (entry.Attribute name parameter result)) at is = absurd (cc)
 entry_has s d h (Some (entry.Unspecified written)) at is = absurd (cc)
 
-pub has_heading : (s : Tables) (d : DeclNo) (h : HeadingOf) → heading_of s d ≡ Some h → HasHeading s d h.result h.formals
+pub is_heading : (s : Tables) (d : DeclNo) (h : HeadingOf) → heading_of s d ≡ Some h → IsHeading s d h
 unfolding heading_of
-has_heading s d h is = entry_has s d h (entry_of s d) refl is
+is_heading s d h is = entry_has s d h (entry_of s d) refl is
+
+-- The parameter of a class at a place.
+pub class_formal_here : (s : Tables) (block place : ℕ) (d : DeclNo) (o : Option Formal) → place < length (class_formals s block) → o ≡ class_formal s block place → o ≡ formal_in (entry_of s (slice_index_or (class_formals s block) place d))
+unfolding class_formal
+class_formal_here s block place d o le is = is ∙ ap (formal_declared s) (slice_get-get_or (class_formals s block) place d le)

@@ -17,7 +17,7 @@ use Rattle.sim_scope.specs.Found.{Event, Broken, Findings, after, fault, unknown
 use Rattle.sim_scope.specs.Judged.{Judged, Judges, gives, next}
 use Rattle.sim_scope.specs.Tables.{Tables}
 
--- One more actual, against the formal parameter at its place (S12, S13, S23; an actual past the last formal is held against nothing).
+-- One more actual, against the formal parameter at its place (S12, S13, S16, S23; an actual past the last formal is held against nothing).
 unfoldable pub held_one : Tables → List Formal → Actuals → (first : ℕ) → Outcome → Judged Actuals
 held_one s fs a first o = next (actual s first (formal_or_none (slice_get fs a.count)) o) (λ x. gives (with_actual a x))
 

@@ -1,11 +1,11 @@
--- The headings of the procedures of the tables.
+-- The headings of the procedures and the classes of the tables.
 use Rattle.std.specs.Prelude.{◌≡◌, ℕ, List, [], ◌∷◌, ◌++◌, length, drop, Option, Some, None, slice_get}
 use Rattle.sim_base.specs.declared.numbering.DeclNo.{DeclNo}
 use Rattle.sim_scope.specs.declared.types.Entry.{Entry}
 use Rattle.sim_scope.specs.declared.types.Entry.TheVariants as entry
 use Rattle.sim_scope.specs.declared.types.Formal.{Formal}
 use Rattle.sim_scope.specs.declared.types.SimType.{SimType}
-use Rattle.sim_scope.specs.Scopes.{entry_of, formal_in, formal_of, formals_of}
+use Rattle.sim_scope.specs.Scopes.{class_formal, class_formals, entry_of, formal_in, formal_of, formals_of}
 use Rattle.sim_scope.specs.Tables.{Tables}
 use Rattle.param_modes.specs.declared.heading.Heading.{Heading}
 
@@ -32,9 +32,10 @@ with_result result (Some fs) = Some (record { result = result; formals = fs })
 
 abbrev pub heading_in : Tables → DeclNo → Option Entry → Option HeadingOf
 heading_in s d (Some (entry.Procedure result block)) = with_result result (formals_among s (formals_of s d))
+heading_in s d (Some (entry.Class block)) = with_result None (formals_among s (class_formals s block))
 heading_in s d _ = None
 
--- the heading of a procedure, where each of its formal parameters is specified
+-- the heading of a procedure or of a class, where each of its formal parameters is specified; a class has the parameters of all its levels
 unfoldable pub heading_of : Tables → DeclNo → Option HeadingOf
 heading_of s d = heading_in s d (entry_of s d)
 
@@ -44,6 +45,18 @@ pub record HasHeading (s : Tables) (d : DeclNo) (result : Option SimType) (fs : 
   pub procedure : entry_of s d ≡ Some (entry.Procedure result block)
   pub as_many : length (formals_of s d) ≡ length fs
   pub each : (place : ℕ) → formal_of s d place ≡ slice_get fs place
+
+-- In other words: a class whose levels have these formal parameters.
+pub record HasClassHeading (s : Tables) (d : DeclNo) (fs : List Formal) : Type 0 where
+  pub block : ℕ
+  pub class : entry_of s d ≡ Some (entry.Class block)
+  pub as_many : length (class_formals s block) ≡ length fs
+  pub each : (place : ℕ) → class_formal s block place ≡ slice_get fs place
+
+-- a heading is that of a procedure, or that of a class
+pub data IsHeading (s : Tables) (d : DeclNo) (h : HeadingOf) : Type 0 where
+  OfProcedure : HasHeading s d h.result h.formals → IsHeading s d h
+  OfClass : h.result ≡ None → HasClassHeading s d h.formals → IsHeading s d h
 
 -- in a loop: those found so far stand in front of the rest
 abbrev pub ahead : List Formal → Option (List Formal) → Option (List Formal)

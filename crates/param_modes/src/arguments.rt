@@ -4,7 +4,6 @@ ghost use Rattle.sim_scope.specs.Judged.{Judges};
 ghost use Rattle.param_modes.specs.Fits.{Fits, Holds, Settles, held_one, misfit_events, settled};
 
 use crate::heading::Heading;
-use prefix_bind::Classes;
 use sim_base::{Rule, TokenNo};
 use sim_scope::{Actuals, Extent, Fault, Formal, Found, Outcome, Scopes, StaticRefusal};
 use sim_tree::{Expr, first_token};
@@ -84,7 +83,7 @@ fn settle(found: &mut Found, formals: usize, called: TokenNo, actuals: Actuals)
 
 /// Whether the actual parameters of a call, whose identifier stands at a token, fit a heading: whether there are as many as it has formal
 /// parameters, and whether each is of the kind and type of its formal parameter. An error has the least rule that is broken there or inside
-/// an actual, or tells that memory was wanting. Nothing of what is judged yet asks the table of classes.
+/// an actual, or tells that memory was wanting.
 #[tactic(auto, using(crate::proofs::Holding::fits_in_steps))]
 pub fn fits(
     alloc: Global,
@@ -92,7 +91,6 @@ pub fn fits(
     called: TokenNo,
     actuals: &[Expr],
     scopes: &Scopes,
-    _classes: &Classes,
 ) -> Result<(), StaticRefusal>
     ensures { Fits scopes.now heading.now.formals.items called.0 actuals.now result }
 {

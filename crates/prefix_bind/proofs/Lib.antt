@@ -1,1 +1,6 @@
-pub mod Overfull
+pub mod Searches
+pub mod Numbers
+pub mod CellSums
+pub mod ChainLevels
+pub mod Ending
+pub mod Later

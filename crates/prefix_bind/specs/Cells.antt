@@ -1,15 +1,9 @@
 -- The cells of an instance, and the rule on their number.
-use Rattle.std.specs.Prelude.{◌≡◌, ⊤, ℕ, ◌+◌, Bool, true, false, nat_lt, if◌then◌else◌, List, [], ◌∷◌, Option, Some, None, Result, Ok, Err}
+use Rattle.std.specs.Prelude.{ℕ, ◌+◌, Bool, true, false, if◌then◌else◌, Option, Some, None}
 use Rattle.std.specs.List.{count_by}
 use Rattle.sim_base.specs.declared.numbering.DeclNo.{DeclNo}
-use Rattle.sim_base.specs.declared.rule.Rule.TheVariants as r
-use Rattle.sim_scope.specs.declared.found.Fault.{Fault}
-use Rattle.sim_scope.specs.declared.refusal.StaticRefusal.{StaticRefusal}
-use Rattle.sim_scope.specs.declared.refusal.StaticRefusal.TheVariants as refusal
 use Rattle.sim_scope.specs.declared.types.Entry.{Entry}
 use Rattle.sim_scope.specs.declared.types.Entry.TheVariants as entry
-use Rattle.sim_scope.specs.Found.{fault, lesser}
-use Rattle.sim_scope.specs.Runs.{each, run}
 use Rattle.sim_scope.specs.Scopes.{entry_of}
 use Rattle.sim_scope.specs.Tables.{BlockOf, Tables}
 
@@ -23,6 +17,7 @@ is_cell (entry.Unspecified written) = true
 is_cell (entry.Procedure result block) = false
 is_cell (entry.Class block) = false
 is_cell (entry.Virtual result own) = false
+is_cell (entry.Attribute name parameter result) = false
 
 abbrev pub has_cell : Option Entry → Bool
 has_cell None = false
@@ -39,6 +34,7 @@ is_typed (entry.Formal f) = false
 is_typed (entry.Unspecified written) = false
 is_typed (entry.Class block) = false
 is_typed (entry.Virtual result own) = false
+is_typed (entry.Attribute name parameter result) = false
 
 abbrev pub is_typed_in : Option Entry → Bool
 is_typed_in None = false
@@ -55,20 +51,3 @@ cells_of s row = count_by (λ d. has_cell (entry_of s d)) row.numbers + (if has_
 -- the most cells that an instance may have
 abbrev pub most_cells : ℕ
 most_cells = 4095
-
--- what the rule on the number of cells refuses: the identifier of a procedure or class, or `begin`
-unfoldable pub overfull : Tables → BlockOf → List Fault
-overfull s row = if nat_lt most_cells (cells_of s row) then fault row.first r.TooManyCells ∷ [] else []
-
--- the least fault of a list
-unfoldable pub noted : Option Fault → Fault → Option Fault
-noted least x = lesser least x
-
-unfoldable pub least_overfull : Tables → Option Fault
-least_overfull s = run noted None (each (overfull s) s.blocks)
-
--- Without classes: a fault where an instance has too many cells, else no classes.
-abbrev pub Concatenates : Tables → Result (List (List DeclNo)) StaticRefusal → Type 0
-Concatenates s (Ok classes) = (least_overfull s ≡ None) × (classes ≡ [])
-Concatenates s (Err (refusal.Broken rule token)) = least_overfull s ≡ Some (record { token = token; rule = rule })
-Concatenates s (Err refusal.Memory) = ⊤

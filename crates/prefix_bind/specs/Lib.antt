@@ -1,2 +1,4 @@
 pub mod Cells
 pub mod Classes
+pub mod Prefixes
+pub mod Sums

@@ -1,17 +1,16 @@
-//! The cells of each instance, and the table of classes.
-ghost use Rattle.std.specs.Prelude.{◌≡◌, ◌+◌, ◌≤◌, Some, None, length};
+//! The cells of a block.
+ghost use Rattle.std.specs.Prelude.{◌≡◌, ◌+◌, ◌≤◌, Some, None, length, slice_get};
 ghost use Rattle.std.specs.List.{count_by};
-ghost use Rattle.sim_scope.specs.Runs.{Runs, each};
 ghost use Rattle.sim_scope.specs.Scopes.{entry_of};
-ghost use Rattle.prefix_bind.specs.Cells.{Concatenates, cells_of, has_cell, has_result, is_cell, is_typed, least_overfull, noted, overfull};
+ghost use Rattle.sim_scope.specs.Levels.{base};
+ghost use Rattle.prefix_bind.specs.Prefixes.{cells_at};
+ghost use Rattle.prefix_bind.specs.Cells.{cells_of, has_cell, has_result, is_cell, is_typed};
 
-use crate::classes::Classes;
-use sim_base::{DeclNo, Rule};
-use sim_scope::{Block, Entry, Fault, Scopes, StaticRefusal, entry_of, lesser};
-use std::alloc::Global;
+use sim_base::DeclNo;
+use sim_scope::{Block, Entry, Scopes, entry_of};
 
 /// The most cells that an instance may have.
-const MOST_CELLS: usize = 4_095;
+pub(crate) const MOST_CELLS: usize = 4_095;
 
 /// Whether what is declared has a cell.
 fn is_cell(entry: Entry) -> bool
@@ -26,6 +25,7 @@ fn is_cell(entry: Entry) -> bool
         Entry::Procedure { .. } => false,
         Entry::Class { .. } => false,
         Entry::Virtual { .. } => false,
+        Entry::Attribute { .. } => false,
     }
 }
 
@@ -55,6 +55,7 @@ fn is_typed(entry: Entry) -> bool
         Entry::Unspecified { .. } => false,
         Entry::Class { .. } => false,
         Entry::Virtual { .. } => false,
+        Entry::Attribute { .. } => false,
     }
 }
 
@@ -83,7 +84,7 @@ fn cells_in(scopes: &Scopes, numbers: &[DeclNo]) -> usize
 
 /// How many cells an instance of a block has.
 #[tactic(auto, unfolding(crate::specs::Cells::cells_of))]
-fn cells_of(scopes: &Scopes, block: &Block) -> usize
+pub(crate) fn cells_of(scopes: &Scopes, block: &Block) -> usize
     ensures { result ≡ cells_of scopes.now block.now }
 {
     let numbers = block.numbers();
@@ -95,45 +96,20 @@ fn cells_of(scopes: &Scopes, block: &Block) -> usize
     }
 }
 
-/// The least instance that has too many cells.
-#[tactic(auto, using(crate::proofs::Overfull::overfulls))]
-fn least_overfull(scopes: &Scopes) -> Option<Fault>
-    ensures { result ≡ least_overfull scopes.now }
+/// The cells of a block alone.
+pub(crate) fn cells_at(scopes: &Scopes, block: usize) -> usize
+    ensures { result ≡ cells_at scopes.now (slice_get scopes.now.blocks block) }
 {
-    let mut least = None;
-    for block in scopes.blocks() {
-        least = with_block(scopes, least, block);
-    }
-    least
-}
-
-/// The lesser of the faults so far and that of a block, if it has one.
-#[tactic(auto, unfolding(crate::specs::Cells::overfull, crate::specs::Cells::noted, sim_scope::specs::Runs::Runs, sim_scope::specs::Runs::run))]
-fn with_block(scopes: &Scopes, least: Option<Fault>, block: &Block) -> Option<Fault>
-    ensures { Runs noted least result (overfull scopes.now block.now) }
-{
-    if cells_of(scopes, block) > MOST_CELLS {
-        lesser(
-            least,
-            Fault {
-                token: block.first(),
-                rule: Rule::TooManyCells,
-            },
-        )
-    } else {
-        least
+    match scopes.blocks().get(block) {
+        Some(row) => cells_of(scopes, row),
+        None => 0,
     }
 }
 
-/// The classes of a program without classes, where no instance has more than 4,095 cells (`L2`).
-pub fn concat(alloc: Global, scopes: &Scopes) -> Result<Classes, StaticRefusal>
-    ensures { Concatenates scopes.now result }
+/// The next level of a block.
+#[tactic(auto, unfolding(sim_scope::specs::Levels::base))]
+pub(crate) fn base_of(scopes: &Scopes, block: usize) -> Option<u32>
+    ensures { result ≡ base scopes.now block }
 {
-    match least_overfull(scopes) {
-        Some(fault) => Err(StaticRefusal::Broken {
-            rule: fault.rule,
-            token: fault.token,
-        }),
-        None => Ok(Classes::none(alloc)),
-    }
+    scopes.blocks().get(block)?.base()
 }

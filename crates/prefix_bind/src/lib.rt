@@ -1,10 +1,13 @@
-//! Concatenation of classes with their prefixes: the levels of each class, and the cells of each instance.
-//!
-//! Prefixes are not read yet: the table of classes is empty, and the cells of an instance are those of its own block.
+//! Concatenation of classes with their prefixes: which class each prefix is, the levels of each class, and the cells of each instance.
 #![tactic(auto)]
 
 mod cells;
+mod chains;
 mod classes;
+pub mod laws;
+mod prefixes;
+mod sums;
 
-pub use cells::concat;
-pub use classes::{Classes, levels, levels_in};
+pub use chains::{concat, noted_if};
+pub use classes::levels;
+pub use prefixes::PrefixFound;

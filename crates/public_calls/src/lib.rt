@@ -7,6 +7,8 @@ mod adapters;
 #[cfg(test)]
 mod broken_files;
 #[cfg(test)]
+mod class_calls;
+#[cfg(test)]
 mod expression_calls;
 #[cfg(test)]
 mod forms_in_memory;

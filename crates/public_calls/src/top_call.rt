@@ -275,8 +275,8 @@ fn inputs_that_fail(rt: HostRuntime) -> Result<(), Fail> {
     Ok(())
 }
 
-// A form that does not run is named before the static rules are asked: for both commands what needs classes, for a run also parameters by
-// name and procedures as parameters.
+// A form that does not run is named before the static rules are asked where a run is wanted: what needs classes, parameters by name, and
+// procedures as parameters. A check knows them all.
 #[test]
 fn forms_that_do_not_run(rt: HostRuntime) -> Result<(), Fail> {
     let by_name = b"begin procedure p(x); name x; integer x;; end".as_slice();
@@ -285,6 +285,7 @@ fn forms_that_do_not_run(rt: HostRuntime) -> Result<(), Fail> {
     let with_class = b"begin class a;;\ni := 1 end".as_slice();
     let not_built = b"line 1: Z1 form not built\n".as_slice();
     let undeclared = b"line 2: S10 identifier not declared\n".as_slice();
+    let sound_class = b"begin class a;; ref(a) x; x :- new a end".as_slice();
     let rows = [
         ("run", by_name, 1, not_built),
         ("check", by_name, 0, b"".as_slice()),
@@ -293,7 +294,9 @@ fn forms_that_do_not_run(rt: HostRuntime) -> Result<(), Fail> {
         ("run", with_text, 1, undeclared),
         ("check", with_text, 1, undeclared),
         ("run", with_class, 1, not_built),
-        ("check", with_class, 1, not_built),
+        ("check", with_class, 1, undeclared),
+        ("run", sound_class, 1, not_built),
+        ("check", sound_class, 0, b""),
     ];
     for (row, (command, source, status, diag)) in rows.into_iter().enumerate() {
         let wanted = Wanted {

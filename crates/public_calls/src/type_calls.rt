@@ -5,7 +5,7 @@ ghost use Rattle.std.specs.Prelude.{◌≡◌, true};
 ghost use Rattle.sim_expr_parser.specs.Parsing.{IsSource};
 
 use param_modes::{Heading, fits, heading_of};
-use prefix_bind::{Classes, concat, levels_in};
+use prefix_bind::levels;
 use sim_base::{DeclNo, Rule, Token, TokenNo};
 use sim_driver::{Command, bind};
 use sim_expr_parser::{parse_expr, terminal_at_token};
@@ -26,6 +26,11 @@ procedure list(x); integer array x;;
 procedure valued(x); integer procedure x;;
 procedure plain(x); procedure x;;
 procedure none_at_all;
+end";
+
+// A program with classes: the declarations 0 to 3 are a, b, c and d.
+const CLASSES: &[u8] = b"begin
+class a;; a class b;; a class c;; class d;;
 end";
 
 // Whether tokens are those of an expression alone.
@@ -64,11 +69,10 @@ fn refused(refusal: StaticRefusal) -> Option<(Rule, u32)> {
 fn type_found(
     alloc: Global,
     scopes: &Scopes,
-    classes: &Classes,
     source: &[u8],
 ) -> Option<Result<SimType, (Rule, u32)>> {
     let expr = expression(alloc, source)?;
-    match type_of(alloc, scopes, classes, &expr) {
+    match type_of(alloc, scopes, &expr) {
         Ok(ty) => Some(Ok(ty)),
         Err(refusal) => Some(Err(refused(refusal)?)),
     }
@@ -91,18 +95,15 @@ fn types_of_expressions(rt: HostRuntime) -> Result<(), Fail> {
         (b"z", Err((Rule::NotDeclared, 0))),
         (b"f(b)", Err((Rule::WrongType, 2))),
         (b"f", Err((Rule::WrongNumber, 0))),
-        (b"new c", Err((Rule::FormNotBuilt, 0))),
+        (b"new c", Err((Rule::NotDeclared, 1))),
+        (b"new a", Err((Rule::WrongKind, 1))),
     ];
     let Ok(bound) = bind(alloc, Command::Check, PROGRAM) else {
         assert!(&rt; false, "the program breaks no rule");
         return Ok(());
     };
-    let Ok(classes) = concat(alloc, &bound.scopes) else {
-        assert!(&rt; false, "no instance is too large");
-        return Ok(());
-    };
     for (number, (source, wanted)) in rows.into_iter().enumerate() {
-        let found = type_found(alloc, &bound.scopes, &classes, source);
+        let found = type_found(alloc, &bound.scopes, source);
         assert!(&rt; found == Some(wanted), "row {number}");
     }
     Ok(())
@@ -111,28 +112,50 @@ fn types_of_expressions(rt: HostRuntime) -> Result<(), Fail> {
 #[test]
 fn types_in_common(rt: HostRuntime) -> Result<(), Fail> {
     let alloc = rt.alloc();
-    let first = SimType::Ref(DeclNo(1));
-    let second = SimType::Ref(DeclNo(2));
+    let [a, b, c, d] = [
+        SimType::Ref(DeclNo(0)),
+        SimType::Ref(DeclNo(1)),
+        SimType::Ref(DeclNo(2)),
+        SimType::Ref(DeclNo(3)),
+    ];
     let rows = [
         (SimType::Integer, SimType::Integer, Some(SimType::Integer)),
         (SimType::Integer, SimType::Boolean, None),
-        (first, SimType::NoneType, Some(first)),
-        (first, second, None),
+        (b, SimType::NoneType, Some(b)),
+        (b, c, Some(a)),
+        (a, c, Some(a)),
+        (b, d, None),
     ];
-    let Ok(bound) = bind(alloc, Command::Check, PROGRAM) else {
+    let Ok(bound) = bind(alloc, Command::Check, CLASSES) else {
         assert!(&rt; false, "the program breaks no rule");
         return Ok(());
     };
-    let Ok(classes) = concat(alloc, &bound.scopes) else {
-        assert!(&rt; false, "no instance is too large");
+    for (number, (one, other, wanted)) in rows.into_iter().enumerate() {
+        assert!(&rt;
+            common(&bound.scopes, &one, &other) == wanted,
+            "row {number}"
+        );
+    }
+    Ok(())
+}
+
+#[test]
+fn classes_on_one_chain(rt: HostRuntime) -> Result<(), Fail> {
+    let alloc = rt.alloc();
+    let Ok(bound) = bind(alloc, Command::Check, CLASSES) else {
+        assert!(&rt; false, "the program breaks no rule");
         return Ok(());
     };
-    for (number, (one, other, wanted)) in rows.into_iter().enumerate() {
-        assert!(&rt; common(&classes, &one, &other) == wanted, "row {number}");
-    }
-    assert!(&rt; subordinate(&classes, DeclNo(1), DeclNo(1)));
-    assert!(&rt; !subordinate(&classes, DeclNo(1), DeclNo(2)));
-    assert!(&rt; levels_in(&classes, DeclNo(1)).is_empty());
+    let scopes = &bound.scopes;
+    assert!(&rt; subordinate(scopes, DeclNo(1), DeclNo(1)));
+    assert!(&rt; subordinate(scopes, DeclNo(1), DeclNo(0)));
+    assert!(&rt; !subordinate(scopes, DeclNo(0), DeclNo(1)));
+    assert!(&rt; !subordinate(scopes, DeclNo(1), DeclNo(2)));
+    let Ok(chain) = levels(alloc, scopes, DeclNo(2)) else {
+        assert!(&rt; false, "memory is ample");
+        return Ok(());
+    };
+    assert!(&rt; chain.as_slice() == [DeclNo(0), DeclNo(2)].as_slice());
     Ok(())
 }
 
@@ -148,7 +171,6 @@ fn heading(alloc: Global, scopes: &Scopes, name: &[u8]) -> Option<Heading> {
 fn fit_found(
     alloc: Global,
     scopes: &Scopes,
-    classes: &Classes,
     procedure: &[u8],
     source: &[u8],
 ) -> Option<Result<(), (Rule, u32)>> {
@@ -156,7 +178,7 @@ fn fit_found(
     let Expr::Named { arguments, .. } = expression(alloc, source)? else {
         return None;
     };
-    match fits(alloc, &heading, TokenNo(0), &arguments, scopes, classes) {
+    match fits(alloc, &heading, TokenNo(0), &arguments, scopes) {
         Ok(()) => Some(Ok(())),
         Err(refusal) => Some(Err(refused(refusal)?)),
     }
@@ -188,12 +210,8 @@ fn actuals_and_headings(rt: HostRuntime) -> Result<(), Fail> {
         assert!(&rt; false, "the program breaks no rule");
         return Ok(());
     };
-    let Ok(classes) = concat(alloc, &bound.scopes) else {
-        assert!(&rt; false, "no instance is too large");
-        return Ok(());
-    };
     for (number, (procedure, source, wanted)) in rows.into_iter().enumerate() {
-        let found = fit_found(alloc, &bound.scopes, &classes, procedure, source);
+        let found = fit_found(alloc, &bound.scopes, procedure, source);
         assert!(&rt; found == Some(wanted), "row {number}");
     }
     Ok(())

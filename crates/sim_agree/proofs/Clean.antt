@@ -1,5 +1,5 @@
 -- Where no rule on declarations is broken, all that a plain program declares is in its tables, and each parameter is specified.
-use Rattle.std.proofs.Common.{◌≡◌, ◌<◌, ◌⊎◌, inl, inr, ℕ, zero, suc, Bool, true, false, List, [], ◌∷◌, ◌++◌, length, Option, Some, None, refl, sym, ap, ◌∙◌, subst, arith, if◌then◌else◌, append-nil, append_assoc}
+use Rattle.std.proofs.Common.{◌≡◌, ◌<◌, ◌+◌, ◌⊎◌, inl, inr, ℕ, zero, suc, Bool, true, false, List, [], ◌∷◌, ◌++◌, length, Option, Some, None, refl, sym, ap, ◌∙◌, subst, arith, if◌then◌else◌, append-nil, append_assoc}
 use Rattle.std.specs.Prelude.{◌&&◌, nat_eq, nat_lt, not, slice_get, slice_set}
 use Rattle.std.specs.List.{list_any}
 use Rattle.std.specs.Str.{bytes_eq}
@@ -22,18 +22,19 @@ use Rattle.sim_scope.specs.declared.types.FormalKind.{FormalKind}
 use Rattle.sim_scope.specs.declared.types.Mode.TheVariants as mode
 use Rattle.sim_scope.specs.declared.types.SimType.{SimType}
 use Rattle.sim_scope.specs.declared.types.WrittenMode.{WrittenMode}
-use Rattle.sim_scope.specs.Building.{BuildingOf, Declares, Headed, Mark, block_around, broken, broken_if, closed, closed_at, counted, counted_in, declared, declared_at, declared_inside, declared_new, entered, found_in, headed as headed_of, in_class, is_procedure, level_in, marked, mode_allowed, most_levels, moded as moded_of, moded_as, opened, parameter as parameter_of, placed, specified as specified_of, specified_as, token_in, unspecified_at, unspecified_in, with_entry, with_mode, with_name}
+use Rattle.sim_scope.specs.Building.{BuildingOf, Declares, Headed, Mark, block_around, broken, broken_if, closed, closed_at, counted, counted_in, declared, declared_again, declared_at, declared_inside, declared_new, declared_twice, entered, found_in, headed as headed_of, in_class, is_procedure, level_in, marked, matched, mode_allowed, moded as moded_of, moded_as, most_levels, opened, parameter as parameter_of, placed, row_of as new_row, specified as specified_of, specified_as, token_in, unspecified_at, unspecified_in, with_entry, with_mode, with_name}
 use Rattle.sim_scope.specs.Declare.{result_named}
 use Rattle.sim_scope.specs.Found.{fault, lesser, precedes}
 use Rattle.sim_scope.specs.Runs.{run}
-use Rattle.sim_scope.specs.Scopes.{around, declared_in, entry_in, entry_of, lookup}
+use Rattle.sim_scope.specs.Access.{around}
+use Rattle.sim_scope.specs.Scopes.{declared_in, entry_in, entry_of, lookup}
 use Rattle.sim_scope.specs.Tables.{BlockOf, Tables}
 use Rattle.sim_scope.proofs.Kept.{kept_set, more_here, more_other, set_here}
 use Rattle.sim_meaning.specs.Entries.{numbers_in}
 use Rattle.sim_sound.specs.Typed.{Among}
 use Rattle.sim_meaning.specs.Texts.{BlockText, ProcedureText, Text}
 use Rattle.sim_agree.proofs.Groups.{Grouped, Has, Open, OwnEntry, block, closes, declares, headed, here, item, moded, nothing, own_marks, parameter, procedure, specified, there}
-use Rattle.sim_agree.proofs.Steps.{AllEven, Changed, Declared, Nothing, Parametric, Step, WrittenPlain, declared_step, headed_step, moded_step, parameter_step, specified_step}
+use Rattle.sim_agree.proofs.Steps.{AllEven, Changed, Declared, Nothing, Parametric, Step, Unmatched, WrittenPlain, declared_step, headed_step, met, moded_step, own_unmatched, parameter_step, procedure_unmatched, specified_met, unspecified_unmatched}
 use Rattle.sim_agree.proofs.Fine.{Agree, Fine, KindIs, Owes, Stack, With, begun_keeps, block_agrees, closed_agrees, declares_agrees, fresh, headed_agrees, moded_agrees, parameter_agrees, procedure_agrees, same_around, specified_agrees, step_fine}
 
 -- ---- no rule is broken
@@ -55,34 +56,39 @@ some_same a b e = cc
 
 -- the new row is there
 abbrev Made : BuildingOf → Identifier → Entry → (block : ℕ) → BuildingOf → Type 0
-Made b x e n c = slice_get c.tables.declarations (length b.tables.declarations) ≡ Some (record { name = x.name; token = x.token; block = n; entry = e })
+Made b x e n c = slice_get c.tables.declarations (length b.tables.declarations) ≡ Some (new_row x e n true)
 
-declared_row : (b : BuildingOf) (x : Identifier) (e : Entry) (n : ℕ) (o : Option BlockOf) (row : BlockOf) → o ≡ Some row → (declared_at b x e n o).least ≡ None → (b.least ≡ None) × Made b x e n (declared_at b x e n o)
-declared_row b x e n None row is clean = absurd (cc)
-declared_row b x e n (Some found) row is clean = go (list_any (bytes_eq x.name) found.names) clean
+declared_row : (b : BuildingOf) (x : Identifier) (e : Entry) (n : ℕ) (o : Option BlockOf) (row : BlockOf) → Unmatched b.tables e → o ≡ Some row → (declared_at b x e n o).least ≡ None → (b.least ≡ None) × Made b x e n (declared_at b x e n o)
+declared_row b x e n None row alone is clean = absurd (cc)
+declared_row b x e n (Some found) row alone is clean = go (list_any (bytes_eq x.name) found.names) clean
   where
-    go : (c : Bool) → (if c then broken (record b { latest = declared_in (Some found) x.name }) x.token.0 r.DeclaredTwice else declared_new b x e n found).least ≡ None
-        → (b.least ≡ None) × Made b x e n (if c then broken (record b { latest = declared_in (Some found) x.name }) x.token.0 r.DeclaredTwice else declared_new b x e n found)
-    go true clean = absurd (never_none b.least (fault x.token.0 r.DeclaredTwice) clean)
-    go false clean = new (nat_eq (length b.tables.declarations) 65535) clean
+    again : (o : Option DeclNo) → (declared_again b x e n o).least ≡ None → ⊥
+    again None q = never_none b.least (fault x.token.0 r.DeclaredTwice) q
+    again (Some d) q = subst (λ c. (if c then matched b x e n d else declared_twice b x (Some d)).least ≡ None → ⊥) (sym (alone.1 d)) (λ p. never_none b.least (fault x.token.0 r.DeclaredTwice) p) q
+
+    go : (c : Bool) → (if c then declared_again b x e n (declared_in (Some found) x.name) else declared_new b x e n found).least ≡ None
+        → (b.least ≡ None) × Made b x e n (if c then declared_again b x e n (declared_in (Some found) x.name) else declared_new b x e n found)
+    go true clean = absurd (again (declared_in (Some found) x.name) clean)
+    go false clean = new (nat_eq b.own 65535) clean
       where
         after : BuildingOf
         after = record b {
           tables = record b.tables {
             blocks = slice_set b.tables.blocks n (with_name found x.name (record { 0 = length b.tables.declarations }));
-            declarations = b.tables.declarations ++ record { name = x.name; token = x.token; block = n; entry = e } ∷ [];
+            declarations = b.tables.declarations ++ new_row x e n true ∷ [];
           };
+          own = b.own + 1;
           latest = Some (record { 0 = length b.tables.declarations });
         }
 
         new : (c : Bool) → (broken_if c after x.token.0 r.TooManyDeclarations).least ≡ None → (b.least ≡ None) × Made b x e n (broken_if c after x.token.0 r.TooManyDeclarations)
         new true clean = absurd (never_none b.least (fault x.token.0 r.TooManyDeclarations) clean)
-        new false clean = (clean, more_here b.tables.declarations (record { name = x.name; token = x.token; block = n; entry = e }))
+        new false clean = (clean, more_here b.tables.declarations (new_row x e n true))
 
-pub declared_clean : (b : BuildingOf) (x : Identifier) (e : Entry) (n : ℕ) (row : BlockOf) → b.current ≡ Some n → slice_get b.tables.blocks n ≡ Some row → (declared b x e).least ≡ None → (b.least ≡ None) × Made b x e n (declared b x e)
-declared_clean b x e n row cur at clean =
+pub declared_clean : (b : BuildingOf) (x : Identifier) (e : Entry) (n : ℕ) (row : BlockOf) → Unmatched b.tables e → b.current ≡ Some n → slice_get b.tables.blocks n ≡ Some row → (declared b x e).least ≡ None → (b.least ≡ None) × Made b x e n (declared b x e)
+declared_clean b x e n row alone cur at clean =
     subst (λ o. (b.least ≡ None) × Made b x e n (declared_inside b x e o)) (sym cur)
-    (declared_row b x e n (slice_get b.tables.blocks n) row at (subst (λ o. (declared_inside b x e o).least ≡ None) cur clean))
+    (declared_row b x e n (slice_get b.tables.blocks n) row alone at (subst (λ o. (declared_inside b x e o).least ≡ None) cur clean))
 
 -- ---- what does not change blocks
 
@@ -252,13 +258,13 @@ declares_clean : (b : BuildingOf) (i : ℕ) (ds : Declarations) (ss : Statements
     → slice_get b.tables.blocks n ≡ Some row → Stack b.tables.blocks ts b.current (item (BlockText i ds ss) (Declares x e ∷ owed) ∷ os) → (declared b x e).least ≡ None
     → (b.least ≡ None) × (Clean b ts (item (BlockText i ds ss) (Declares x e ∷ owed) ∷ os) → Clean (declared b x e) ts (item (BlockText i ds ss) owed ∷ os))
 declares_clean b i ds ss owed x e ts os row own n cur top at k clean =
-    let q = declared_clean b x e n row cur at clean in (q.0, λ f. after f q.1)
+    let q = declared_clean b x e n row (own_unmatched b.tables e own) cur at clean in (q.0, λ f. after f q.1)
   where
     c : BuildingOf
     c = declared b x e
 
     s : Step b (declared b x e) (Declared (length b.tables.declarations) x e n)
-    s = declared_step b x e n cur
+    s = declared_step b x e n (own_unmatched b.tables e own) cur
 
     before : List Open
     before = item (BlockText i ds ss) (Declares x e ∷ owed) ∷ os
@@ -290,7 +296,7 @@ declares_clean b i ds ss owed x e ts os row own n cur top at k clean =
                 let both = is_mark y g h in
                 inl (record {
                   number = length b.tables.declarations;
-                  row = record { name = x.name; token = x.token; block = n; entry = e };
+                  row = new_row x e n true;
                   at = made;
                   name = ap (λ (z : Identifier). z.name) (sym both.0);
                   token = ap (λ (z : Identifier). z.token) (sym both.0);
@@ -330,7 +336,7 @@ parameter_clean : (b : BuildingOf) (result : Option TypeName) (h : Heading) (a :
     → Has (Headed x) owed → Stack b.tables.blocks ts b.current (item (ProcedureText result h a) owed ∷ os) → (parameter_of b x).least ≡ None
     → (b.least ≡ None) × (Clean b ts (item (ProcedureText result h a) owed ∷ os) → Clean (parameter_of b x) ts (item (ProcedureText result h a) owed ∷ os))
 parameter_clean b result h a owed x ts os row n cur at has k clean =
-    let q = declared_clean b x (entry.Unspecified None) n row cur at (sym (counted_same d d.current).0 ∙ clean) in (q.0, after)
+    let q = declared_clean b x (entry.Unspecified None) n row (unspecified_unmatched b.tables None) cur at (sym (counted_same d d.current).0 ∙ clean) in (q.0, after)
   where
     d : BuildingOf
     d = declared b x (entry.Unspecified None)
@@ -345,7 +351,7 @@ parameter_clean b result h a owed x ts os row n cur at has k clean =
     s = parameter_step b x n cur
 
     now : d.current ≡ Some n
-    now = (declared_step b x (entry.Unspecified None) n cur).current ∙ cur
+    now = (declared_step b x (entry.Unspecified None) n (unspecified_unmatched b.tables None) cur).current ∙ cur
 
     after : Clean b ts (item (ProcedureText result h a) owed ∷ os) → Clean (parameter_of b x) ts (item (ProcedureText result h a) owed ∷ os)
     after f = record {
@@ -581,7 +587,7 @@ procedure_clean : (b : BuildingOf) (text first i : ℕ) (ds : Declarations) (ss 
     → (b.least ≡ None) × (Clean b ts (item (BlockText i ds ss) owed ∷ os) → Clean (opened (declared b h.name (entry.Procedure (result_named result) (length b.tables.blocks))) kind.Procedure text first) (ts ++ ProcedureText result h a ∷ []) (item (ProcedureText result h a) inner ∷ item (BlockText i ds ss) owed ∷ os))
 procedure_clean b text first i ds ss owed inner result h a ts os row g at clean =
     let p = opened_clean c kind.Procedure text first ts (ProcedureText result h a) inner stack tt fine clean in
-    let q = declared_clean b h.name e n row g.stack.1 at p.0 in (q.0, λ f. p.1 (between f))
+    let q = declared_clean b h.name e n row (procedure_unmatched b.tables (result_named result) (length b.tables.blocks) g.bare.virtuals) g.stack.1 at p.0 in (q.0, λ f. p.1 (between f))
   where
     n : ℕ
     n = g.stack.0
@@ -596,7 +602,7 @@ procedure_clean b text first i ds ss owed inner result h a ts os row g at clean 
     stack = item (BlockText i ds ss) owed ∷ os
 
     s : Step b (declared b h.name e) (Declared (length b.tables.declarations) h.name e n)
-    s = declared_step b h.name e n g.stack.1
+    s = declared_step b h.name e n (procedure_unmatched b.tables (result_named result) (length b.tables.blocks) g.bare.virtuals) g.stack.1
 
     fine : Fine (declared b h.name e) ts (item (BlockText i ds ss) owed ∷ os)
     fine = step_fine b (declared b h.name e) (Declared (length b.tables.declarations) h.name e n) s ts stack g
@@ -653,9 +659,9 @@ run_clean b ts (moded {os = os} result h body owed x g) w a clean =
     let later = run_clean _ ts g w (moded_agrees b result h body owed x ts os a) clean in
     let q = moded_quiet b x.token (found_in b.tables b.current x.name) in (q.1 later.0, λ f. later.1 (quiet_clean b _ ts _ s q.0 a.fine.stack f))
 run_clean b ts (specified {os = os} result h body owed x k ty p g) w a clean =
-    let s = specified_step b x.token k ty (found_in b.tables b.current x.name) p in
+    let s = specified_met b x.token k ty (found_in b.tables b.current x.name) p in
     let later = run_clean _ ts g w (specified_agrees b result h body owed x k ty p ts os a) clean in
-    let q = specified_quiet b x.token k ty (found_in b.tables b.current x.name) in (q.1 later.0, λ f. later.1 (quiet_clean b _ ts _ s q.0 a.fine.stack f))
+    let q = specified_quiet (met b (found_in b.tables b.current x.name)) x.token k ty (found_in b.tables b.current x.name) in (q.1 later.0, λ f. later.1 (quiet_clean b _ ts _ s q.0 a.fine.stack f))
 run_clean b ts (headed {os = os} result h body owed x g) w a clean =
     let later = run_clean _ ts g (tt, w.1) (headed_agrees b result h body owed x ts os a) clean in
     let q = headed_step_clean b result h body owed x ts os a later.0 in (q.0, λ f. later.1 (q.1 f))

@@ -14,7 +14,7 @@ use Rattle.sim_scope.specs.declared.scopes.Declaration.{Declaration}
 use Rattle.sim_scope.specs.declared.types.Entry.TheVariants as entry
 use Rattle.sim_scope.specs.declared.types.SimType.{SimType}
 use Rattle.sim_scope.specs.Building.{Declares, Mark}
-use Rattle.sim_scope.specs.Declare.{array_marks, declared_by, result_named, segment_marks, type_named, variable_marks}
+use Rattle.sim_scope.specs.Declare.{declared_by, result_named, type_named}
 use Rattle.sim_scope.specs.Runs.{each}
 use Rattle.sim_scope.specs.Scopes.{entry_of}
 use Rattle.sim_scope.specs.Source.{Source}
@@ -22,7 +22,7 @@ use Rattle.sim_values.specs.Plain.{Plain as Value}
 use Rattle.sim_meaning.specs.Texts.{BlockText, ClassText, ConnectionText, PrefixedText, ProcedureText, Text, among_declarations, among_variables, constant_in, constant_of, constant_value, row_constant, text, value_in}
 use Rattle.sim_agree.specs.ConstantAt.{ConstantAt, Lists, OneOf, at_first, further, head, tail}
 use Rattle.sim_agree.specs.Plain.{Plain}
-use Rattle.sim_agree.proofs.Groups.{Has, here, own_marks, there}
+use Rattle.sim_agree.proofs.Groups.{Has, here, own_array, own_marks, own_segment, own_variable, there}
 use Rattle.sim_agree.proofs.Steps.{Parametric}
 use Rattle.sim_agree.proofs.Fine.{Own, RowOf}
 use Rattle.sim_agree.proofs.Tables.{Bs, Ts, entry_row, row_at}
@@ -35,8 +35,8 @@ cases (there q) = inr q
 
 module _ (s : Source) (x : Identifier) (ty : SimType) where
   -- the mark of a variable that is this constant
-  variable_is : (type : TypeName) (v : Variable) → Has (Declares x (entry.Constant ty)) (variable_marks type v) → (c : Constant) × (v.value ≡ Some c) × (x ≡ v.name) × (type_named type ≡ ty)
-  unfolding variable_marks
+  variable_is : (type : TypeName) (v : Variable) → Has (Declares x (entry.Constant ty)) (own_variable type v) → (c : Constant) × (v.value ≡ Some c) × (x ≡ v.name) × (type_named type ≡ ty)
+  unfolding own_variable
   variable_is type v h = go v.value refl h
     where
       none : Declares x (entry.Constant ty) ≡ Declares v.name (entry.Variable (type_named type)) → ⊥
@@ -63,12 +63,12 @@ module _ (s : Source) (x : Identifier) (ty : SimType) where
     low : i ≤ x.token.0
     high : x.token.0 < j
 
-  in_variables : (type : TypeName) (vs : List Variable) (other : Option Value) (i j : ℕ) → Between i (variable_tokens vs) j → Has (Declares x (entry.Constant ty)) (each (variable_marks type) vs) → InVariables type vs other i j
+  in_variables : (type : TypeName) (vs : List Variable) (other : Option Value) (i j : ℕ) → Between i (variable_tokens vs) j → Has (Declares x (entry.Constant ty)) (each (own_variable type) vs) → InVariables type vs other i j
   in_variables type [] other i j b h = elim h [ ]
-  in_variables type (v ∷ vs) other i j b h = go (has_split (variable_marks type v) (each (variable_marks type) vs) h) (λ q. in_variables type vs other (v.name.token.0 + 1) j b.1 q)
+  in_variables type (v ∷ vs) other i j b h = go (has_split (own_variable type v) (each (own_variable type) vs) h) (λ q. in_variables type vs other (v.name.token.0 + 1) j b.1 q)
     where
-      go : Has (Declares x (entry.Constant ty)) (variable_marks type v) ⊎ Has (Declares x (entry.Constant ty)) (each (variable_marks type) vs)
-          → (Has (Declares x (entry.Constant ty)) (each (variable_marks type) vs) → InVariables type vs other (v.name.token.0 + 1) j) → InVariables type (v ∷ vs) other i j
+      go : Has (Declares x (entry.Constant ty)) (own_variable type v) ⊎ Has (Declares x (entry.Constant ty)) (each (own_variable type) vs)
+          → (Has (Declares x (entry.Constant ty)) (each (own_variable type) vs) → InVariables type vs other (v.name.token.0 + 1) j) → InVariables type (v ∷ vs) other i j
       go (inl q) rest =
           let r = variable_is type v q in
           let same : v.name.token.0 ≡ x.token.0 = ap (λ (z : Identifier). z.token.0) (sym r.2) in
@@ -109,20 +109,20 @@ module _ (s : Source) (x : Identifier) (ty : SimType) where
       let P : (v.name.token.0 == x.token.0) ≡ false = grind (arith, nat_tests) in
       ap (λ c. if c then value_in s v.value else among_variables s x.token.0 vs other) P ∙ past_variables vs other (v.name.token.0 + 1) j b.1 le
 
-  no_array : (type : TypeName) (n : ℕ) (xs : List Identifier) → Has (Declares x (entry.Constant ty)) (each (array_marks type n) xs) → ⊥
-  unfolding array_marks
+  no_array : (type : TypeName) (n : ℕ) (xs : List Identifier) → Has (Declares x (entry.Constant ty)) (each (own_array type n) xs) → ⊥
+  unfolding own_array
   no_array type n [] h = elim h [ ]
   no_array type n (y ∷ xs) h = go (cases h) (λ q. no_array type n xs q)
     where
-      go : (Declares x (entry.Constant ty) ≡ Declares y (entry.Array (type_named type) n)) ⊎ Has (Declares x (entry.Constant ty)) (each (array_marks type n) xs) → (Has (Declares x (entry.Constant ty)) (each (array_marks type n) xs) → ⊥) → ⊥
+      go : (Declares x (entry.Constant ty) ≡ Declares y (entry.Array (type_named type) n)) ⊎ Has (Declares x (entry.Constant ty)) (each (own_array type n) xs) → (Has (Declares x (entry.Constant ty)) (each (own_array type n) xs) → ⊥) → ⊥
       go (inl e) rest = cc
       go (inr q) rest = rest q
 
-  no_segment : (type : TypeName) (as_ : List Arrayed) → Has (Declares x (entry.Constant ty)) (each (segment_marks type) as_) → ⊥
+  no_segment : (type : TypeName) (as_ : List Arrayed) → Has (Declares x (entry.Constant ty)) (each (own_segment type) as_) → ⊥
   no_segment type [] h = elim h [ ]
-  no_segment type (a ∷ as_) h = go (has_split (segment_marks type a) (each (segment_marks type) as_) h) (λ q. no_segment type as_ q)
+  no_segment type (a ∷ as_) h = go (has_split (own_segment type a) (each (own_segment type) as_) h) (λ q. no_segment type as_ q)
     where
-      go : Has (Declares x (entry.Constant ty)) (segment_marks type a) ⊎ Has (Declares x (entry.Constant ty)) (each (segment_marks type) as_) → (Has (Declares x (entry.Constant ty)) (each (segment_marks type) as_) → ⊥) → ⊥
+      go : Has (Declares x (entry.Constant ty)) (own_segment type a) ⊎ Has (Declares x (entry.Constant ty)) (each (own_segment type) as_) → (Has (Declares x (entry.Constant ty)) (each (own_segment type) as_) → ⊥) → ⊥
       go (inl q) rest = no_array type (length a.bounds) a.names q
       go (inr q) rest = rest q
 
@@ -145,9 +145,9 @@ module _ (s : Source) (x : Identifier) (ty : SimType) where
 
   in_declarations : (ds : Declarations) (i j : ℕ) → Between i (own_tokens ds) j → Has (Declares x (entry.Constant ty)) (own_marks ds) → InDeclarations ds i
   in_declarations NoDeclaration i j b h = elim h [ ]
-  in_declarations (With (Variables type vs) ds) i j b h = go (has_split (each (variable_marks type) vs) (own_marks ds) h) (between_split (variable_tokens vs) (own_tokens ds) i j b) (λ k q c. in_declarations ds k j q c)
+  in_declarations (With (Variables type vs) ds) i j b h = go (has_split (each (own_variable type) vs) (own_marks ds) h) (between_split (variable_tokens vs) (own_tokens ds) i j b) (λ k q c. in_declarations ds k j q c)
     where
-      go : Has (Declares x (entry.Constant ty)) (each (variable_marks type) vs) ⊎ Has (Declares x (entry.Constant ty)) (own_marks ds) → (k : ℕ) × Between i (variable_tokens vs) k × Between k (own_tokens ds) j
+      go : Has (Declares x (entry.Constant ty)) (each (own_variable type) vs) ⊎ Has (Declares x (entry.Constant ty)) (own_marks ds) → (k : ℕ) × Between i (variable_tokens vs) k × Between k (own_tokens ds) j
           → ((k : ℕ) → Between k (own_tokens ds) j → Has (Declares x (entry.Constant ty)) (own_marks ds) → InDeclarations ds k) → InDeclarations (With (Variables type vs) ds) i
       go (inl q) p rest =
           let r = in_variables type vs (among_declarations s x.token.0 ds) i p.0 p.1 q in
@@ -155,9 +155,9 @@ module _ (s : Source) (x : Identifier) (ty : SimType) where
       go (inr q) p rest =
           let r = rest p.0 p.2 q in
           in_more (Variables type vs) ds i p.0 (between_le (variable_tokens vs) i p.0 p.1) (past_variables vs (among_declarations s x.token.0 ds) i p.0 p.1 r.low) r
-  in_declarations (With (Arrays type n segments) ds) i j b h = go (has_split (each (segment_marks type) segments) (own_marks ds) h) (between_split (segment_tokens segments) (own_tokens ds) i j b) (λ k q c. in_declarations ds k j q c)
+  in_declarations (With (Arrays type n segments) ds) i j b h = go (has_split (each (own_segment type) segments) (own_marks ds) h) (between_split (segment_tokens segments) (own_tokens ds) i j b) (λ k q c. in_declarations ds k j q c)
     where
-      go : Has (Declares x (entry.Constant ty)) (each (segment_marks type) segments) ⊎ Has (Declares x (entry.Constant ty)) (own_marks ds) → (k : ℕ) × Between i (segment_tokens segments) k × Between k (own_tokens ds) j
+      go : Has (Declares x (entry.Constant ty)) (each (own_segment type) segments) ⊎ Has (Declares x (entry.Constant ty)) (own_marks ds) → (k : ℕ) × Between i (segment_tokens segments) k × Between k (own_tokens ds) j
           → ((k : ℕ) → Between k (own_tokens ds) j → Has (Declares x (entry.Constant ty)) (own_marks ds) → InDeclarations ds k) → InDeclarations (With (Arrays type n segments) ds) i
       go (inl q) p rest = absurd (no_segment type segments q)
       go (inr q) p rest = in_more (Arrays type n segments) ds i p.0 (between_le (segment_tokens segments) i p.0 p.1) refl (rest p.0 p.2 q)

@@ -6,6 +6,7 @@ use Rattle.std.specs.Str.{bytes_eq}
 use Rattle.std.proofs.lemmas.List.{length-append, length-set}
 use Rattle.std.proofs.lemmas.Option.{slice_get_within}
 use Rattle.std.proofs.lemmas.Bool.Decides.{nat_tests}
+use Rattle.sim_base.specs.declared.numbering.DeclNo.{DeclNo}
 use Rattle.sim_base.specs.declared.rule.Rule.{Rule}
 use Rattle.sim_base.specs.declared.rule.Rule.TheVariants as r
 use Rattle.sim_tree.specs.declared.expr.Identifier.{Identifier}
@@ -15,11 +16,12 @@ use Rattle.sim_scope.specs.declared.types.BlockKind.{BlockKind}
 use Rattle.sim_scope.specs.declared.types.BlockKind.TheVariants as kind
 use Rattle.sim_scope.specs.declared.types.Entry.{Entry}
 use Rattle.sim_scope.specs.declared.types.Entry.TheVariants as entry
-use Rattle.sim_scope.specs.Building.{BuildingOf, Mark, block_around, broken, broken_if, closed, closed_at, counted, counted_in, declared, declared_at, declared_inside, declared_new, found_in, headed as headed_of, level_in, marked, most_levels, opened, owner_of, parameter as parameter_of, placed, unspecified_at, with_name}
+use Rattle.sim_scope.specs.Building.{BuildingOf, Mark, block_around, broken, broken_if, closed, closed_at, counted, counted_in, declared, declared_again, declared_at, declared_inside, declared_new, declared_twice, found_in, headed as headed_of, is_match, level_in, marked, matched, most_levels, opened, owner_of, parameter as parameter_of, placed, unspecified_at, with_name}
 use Rattle.sim_scope.specs.Calls.{inside_block, is_inside}
 use Rattle.sim_scope.specs.Declare.{declared_by, empty, result_named}
 use Rattle.sim_scope.specs.Runs.{run}
-use Rattle.sim_scope.specs.Scopes.{around, block_at, declared_in, encloser, joined}
+use Rattle.sim_scope.specs.Access.{around, block_at, encloser, joined}
+use Rattle.sim_scope.specs.Scopes.{declared_in, entry_of}
 use Rattle.sim_scope.specs.Source.{Source}
 use Rattle.sim_scope.specs.Tables.{BlockOf, Tables}
 use Rattle.sim_scope.proofs.Kept.{kept_set, more_here, more_other, set_here, set_other}
@@ -29,7 +31,7 @@ use Rattle.sim_agree.specs.Plain.{Plain}
 use Rattle.sim_agree.proofs.Clean.{Quiet, moded_quiet, specified_quiet}
 use Rattle.sim_agree.proofs.Laid.{Frame, Laid, block, closes, declares, headed, leaves, moded, nothing, parameter, passes, procedure, program, program_laid, specified, uses}
 use Rattle.sim_agree.proofs.Spots.{reached}
-use Rattle.sim_agree.proofs.Steps.{Step, declared_step, headed_step, moded_step, parameter_step, specified_step}
+use Rattle.sim_agree.proofs.Steps.{Step, headed_step, met, moded_step, parameter_step, specified_met}
 
 -- ---- what marks that begin and end no block leave as it is
 
@@ -50,21 +52,37 @@ record Calm (b c : BuildingOf) : Type 0 where
 some_same : {A : Type 0} (a b : A) → Some a ≡ Some b → a ≡ b
 some_same a b e = cc
 
-if_spans : (a : Bool) (b c : BuildingOf) (token : ℕ) (rule : Rule) → ((j : ℕ) → span (slice_get c.tables.blocks j) ≡ span (slice_get b.tables.blocks j)) → (j : ℕ) → span (slice_get (broken_if a c token rule).tables.blocks j) ≡ span (slice_get b.tables.blocks j)
-if_spans true b c token rule h j = h j
-if_spans false b c token rule h j = h j
+nothing_calm : (b : BuildingOf) → Calm b b
+nothing_calm b = record { current = refl; size = refl; places = refl; spans = λ j. refl }
 
-declared_row : (b : BuildingOf) (x : Identifier) (e : Entry) (n : ℕ) (o : Option BlockOf) → slice_get b.tables.blocks n ≡ o → (j : ℕ) → span (slice_get (declared_at b x e n o).tables.blocks j) ≡ span (slice_get b.tables.blocks j)
-declared_row b x e n None at j = refl
-declared_row b x e n (Some row) at j = go (list_any (bytes_eq x.name) row.names)
+if_calm : (a : Bool) (b c : BuildingOf) (token : ℕ) (rule : Rule) → Calm b c → Calm b (broken_if a c token rule)
+if_calm true b c token rule h = record { current = h.current; size = h.size; places = h.places; spans = h.spans }
+if_calm false b c token rule h = h
+
+declared_row : (b : BuildingOf) (x : Identifier) (e : Entry) (n : ℕ) (o : Option BlockOf) → slice_get b.tables.blocks n ≡ o → Calm b (declared_at b x e n o)
+declared_row b x e n None at = nothing_calm b
+declared_row b x e n (Some row) at = go (list_any (bytes_eq x.name) row.names)
   where
-    go : (c : Bool) → span (slice_get (if c then broken (record b { latest = declared_in (Some row) x.name }) x.token.0 r.DeclaredTwice else declared_new b x e n row).tables.blocks j) ≡ span (slice_get b.tables.blocks j)
-    go true = refl
-    go false = if_spans (nat_eq (length b.tables.declarations) 65535) b _ x.token.0 r.TooManyDeclarations (λ i. kept_set span b.tables.blocks n row (with_name row x.name (record { 0 = length b.tables.declarations })) at refl i) j
+    either : (d : DeclNo) (c : Bool) → Calm b (if c then matched b x e n d else declared_twice b x (Some d))
+    either d true = if_calm (nat_eq b.own 65535) b _ x.token.0 r.TooManyDeclarations (record { current = refl; size = refl; places = refl; spans = λ j. refl })
+    either d false = record { current = refl; size = refl; places = refl; spans = λ j. refl }
 
-declared_spans : (b : BuildingOf) (x : Identifier) (e : Entry) (o : Option ℕ) (j : ℕ) → span (slice_get (declared_inside b x e o).tables.blocks j) ≡ span (slice_get b.tables.blocks j)
-declared_spans b x e None j = refl
-declared_spans b x e (Some n) j = declared_row b x e n (slice_get b.tables.blocks n) refl j
+    again : (o : Option DeclNo) → Calm b (declared_again b x e n o)
+    again None = record { current = refl; size = refl; places = refl; spans = λ j. refl }
+    again (Some d) = either d (is_match e (entry_of b.tables d))
+
+    go : (c : Bool) → Calm b (if c then declared_again b x e n (declared_in (Some row) x.name) else declared_new b x e n row)
+    go true = again (declared_in (Some row) x.name)
+    go false = if_calm (nat_eq b.own 65535) b _ x.token.0 r.TooManyDeclarations (record {
+      current = refl;
+      size = length-set b.tables.blocks n (with_name row x.name (record { 0 = length b.tables.declarations }));
+      places = refl;
+      spans = λ j. kept_set span b.tables.blocks n row (with_name row x.name (record { 0 = length b.tables.declarations })) at refl j;
+    })
+
+declared_calm : (b : BuildingOf) (x : Identifier) (e : Entry) (o : Option ℕ) → Calm b (declared_inside b x e o)
+declared_calm b x e None = nothing_calm b
+declared_calm b x e (Some n) = declared_row b x e n (slice_get b.tables.blocks n) refl
 
 counted_spans : (b : BuildingOf) (o : Option ℕ) (j : ℕ) → span (slice_get (counted_in b o).tables.blocks j) ≡ span (slice_get b.tables.blocks j)
 counted_spans b None j = refl
@@ -352,21 +370,14 @@ if_deep false b token rule from d = d
 opened_deep : (b : BuildingOf) (k : BlockKind) (text first from : ℕ) → from ≤ first → Deep b from → Deep (opened b k text first) (first + 1)
 opened_deep b k text first from le d =
     if_deep (nat_lt most_levels (level_in k (block_around b.tables b.current))) _ text r.TooManyLevels (first + 1)
-    (begun_deep b (record { kind = k; first = first; end = first; encloser = b.current; level = level_in k (block_around b.tables b.current); owner = owner_of k b.latest; formals = 0; inner = None; names = []; numbers = [] }) first from le refl refl refl d)
-
-nothing_calm : (b : BuildingOf) → Calm b b
-nothing_calm b = record { current = refl; size = refl; places = refl; spans = λ j. refl }
-
-declared_calm : (b : BuildingOf) (x : Identifier) (e : Entry) (o : Option ℕ) → b.current ≡ o → Calm b (declared b x e)
-declared_calm b x e None cur = subst (λ z. Calm b (declared_inside b x e z)) (sym cur) (nothing_calm b)
-declared_calm b x e (Some n) cur = calm b (declared b x e) (declared_step b x e n cur) (declared_spans b x e b.current)
+    (begun_deep b (record { kind = k; first = first; end = first; encloser = b.current; level = level_in k (block_around b.tables b.current); owner = owner_of k b.latest; formals = 0; inner = None; prefix = None; base = None; standard = None; names = []; numbers = []; has_class = false; brought_names = []; brought = []; protected = []; hidden = [] }) first from le refl refl refl d)
 
 parameter_calm : (b : BuildingOf) (x : Identifier) (o : Option ℕ) → b.current ≡ o → Calm b (parameter_of b x)
 parameter_calm b x None cur =
     subst (λ z. Calm b (counted_in (declared_inside b x (entry.Unspecified None) z) (declared_inside b x (entry.Unspecified None) z).current)) (sym cur) (subst (λ z. Calm b (counted_in b z)) (sym cur) (nothing_calm b))
 parameter_calm b x (Some n) cur =
     let c : BuildingOf = declared b x (entry.Unspecified None) in
-    calm b (parameter_of b x) (parameter_step b x n cur) (λ j. counted_spans c c.current j ∙ declared_spans b x (entry.Unspecified None) b.current j)
+    calm b (parameter_of b x) (parameter_step b x n cur) (λ j. counted_spans c c.current j ∙ (declared_calm b x (entry.Unspecified None) b.current).spans j)
 
 run_deep : {os : List Frame} {ms : List Mark} {l : List Spot} {xs : List Text} (b : BuildingOf) (from : ℕ) → Laid os ms l xs → Ascends from l → Deep b from → (to : ℕ) × Deep (run marked b ms) to
 unfolding run marked
@@ -374,14 +385,14 @@ run_deep b from (nothing e) a d = (from, d)
 run_deep b from (uses x u i g) a d = run_deep b (i + 1) g a.1 (later_deep b from (i + 1) (let le : from ≤ i = a.0 in omega arith) d)
 run_deep b from (passes i g) a d = run_deep b (i + 1) g a.1 (later_deep b from (i + 1) (let le : from ≤ i = a.0 in omega arith) d)
 run_deep b from (leaves i g) a d = run_deep b i g a.1 (later_deep b from i a.0 d)
-run_deep b from (declares x e g) a d =
-    run_deep (declared b x e) (x.token.0 + 1) g a.1 (later_deep (declared b x e) from (x.token.0 + 1) (let le : from ≤ x.token.0 = a.0 in omega arith) (calm_deep b (declared b x e) from (declared_calm b x e b.current refl) d))
+run_deep b from (declares x e own g) a d =
+    run_deep (declared b x e) (x.token.0 + 1) g a.1 (later_deep (declared b x e) from (x.token.0 + 1) (let le : from ≤ x.token.0 = a.0 in omega arith) (calm_deep b (declared b x e) from (declared_calm b x e b.current) d))
 run_deep b from (parameter x g) a d =
     run_deep (parameter_of b x) (x.token.0 + 1) g a.1 (later_deep (parameter_of b x) from (x.token.0 + 1) (let le : from ≤ x.token.0 = a.0 in omega arith) (calm_deep b (parameter_of b x) from (parameter_calm b x b.current refl) d))
 run_deep b from (moded x g) a d =
     run_deep _ from g a (calm_deep b _ from (quiet_calm b _ (moded_step b x.token (found_in b.tables b.current x.name)) (moded_quiet b x.token (found_in b.tables b.current x.name))) d)
 run_deep b from (specified x k ty p g) a d =
-    run_deep _ from g a (calm_deep b _ from (quiet_calm b _ (specified_step b x.token k ty (found_in b.tables b.current x.name) p) (specified_quiet b x.token k ty (found_in b.tables b.current x.name))) d)
+    run_deep _ from g a (calm_deep b _ from (quiet_calm b _ (specified_met b x.token k ty (found_in b.tables b.current x.name) p) (specified_quiet (met b (found_in b.tables b.current x.name)) x.token k ty (found_in b.tables b.current x.name))) d)
 run_deep b from (headed x g) a d =
     run_deep _ from g a (calm_deep b _ from (calm b _ (headed_step b x.token (unspecified_at b.tables (found_in b.tables b.current x.name))) (headed_spans (unspecified_at b.tables (found_in b.tables b.current x.name)))) d)
   where
@@ -393,7 +404,7 @@ run_deep b from (block text i ds ss y u g) a d = run_deep (opened b kind.SubBloc
 run_deep b from (procedure text result h body g) a d =
     let e : Entry = entry.Procedure (result_named result) (length b.tables.blocks) in
     let i : ℕ = h.name.token.0 in
-    run_deep (opened (declared b h.name e) kind.Procedure text i) (i + 1) g a.1 (opened_deep (declared b h.name e) kind.Procedure text i from a.0 (calm_deep b (declared b h.name e) from (declared_calm b h.name e b.current refl) d))
+    run_deep (opened (declared b h.name e) kind.Procedure text i) (i + 1) g a.1 (opened_deep (declared b h.name e) kind.Procedure text i from a.0 (calm_deep b (declared b h.name e) from (declared_calm b h.name e b.current) d))
 run_deep b from (closes x end g) a d = run_deep (closed b end b.current) end g a.1 (closed_deep b end from b.current refl a.0 d)
 
 nothing_deep : Deep empty 0

@@ -23,16 +23,18 @@ use Rattle.sim_scope.specs.declared.types.WrittenMode.{WrittenMode}
 use Rattle.sim_scope.specs.Building.{BuildingOf, Declares, Headed, Mark, block_around, broken_if, closed, closed_at, declared, deeper, found_in, headed as headed_of, level_in, marked, moded as moded_of, most_levels, opened, owner_of, parameter, placed, specified as specified_of, unspecified_at}
 use Rattle.sim_scope.specs.Declare.{result_named}
 use Rattle.sim_scope.specs.Runs.{run}
-use Rattle.sim_scope.specs.Scopes.{around, declared_in, numbered}
+use Rattle.sim_scope.specs.Access.{around}
+use Rattle.sim_scope.specs.Scopes.{declared_in, has_detach, numbered}
 use Rattle.sim_scope.specs.Source.{level_in as level_of_row}
 use Rattle.sim_scope.specs.Tables.{BlockOf}
-use Rattle.sim_scope.proofs.Kept.{kept_set, more_here, more_other, set_here, set_other}
+use Rattle.sim_scope.proofs.Kept.{kept_more, kept_set, more_here, more_other, set_here, set_other}
 use Rattle.sim_meaning.specs.Entries.{numbers_in}
 use Rattle.sim_meaning.specs.Texts.{BlockText, ClassText, ConnectionText, PrefixedText, ProcedureText, Text}
 use Rattle.sim_sound.specs.Typed.{Among}
 use Rattle.sim_agree.specs.Plain.{PlainResult}
 use Rattle.sim_agree.proofs.Groups.{Grouped, Has, Open, OwnEntry, PlainFormal, PlainKind, block, closes, declares, headed, here, item, moded, nothing, own_marks, parameter as parameter_mark, procedure, specified, there}
-use Rattle.sim_agree.proofs.Steps.{AllEven, Changed, Even, Declared, IsRow, Fixed, Nothing, Parametric, Step, WrittenPlain, declared_step, fixed, headed_step, moded_step, parameter_step, specified_step, unchanged}
+use Rattle.sim_agree.proofs.Steps.{AllEven, Changed, Declared, Even, Fixed, IsRow, Nothing, Parametric, Step, WrittenPlain, declared_step, fixed, headed_step, met, moded_step, own_unmatched, parameter_step, procedure_unmatched, specified_met, unchanged}
+use Rattle.sim_agree.proofs.WithoutClasses.{WithoutClasses, extras_in, no_extras}
 
 -- ---- the open texts
 
@@ -66,6 +68,7 @@ pub record Fine (b : BuildingOf) (ts : List Text) (os : List Open) : Type 0 wher
   pub evens : AllEven b.tables.blocks
   pub finds : (d : ℕ) (row : Declaration) → slice_get b.tables.declarations d ≡ Some row → declared_in (slice_get b.tables.blocks row.block) row.name ≡ Some (record { 0 = d })
   pub own : (k : ℕ) (d : DeclNo) → Among d (numbers_in (slice_get b.tables.blocks k)) → (row : Declaration) × (slice_get b.tables.declarations d.0 ≡ Some row) × (row.block ≡ k)
+  pub bare : WithoutClasses b.tables
 
 -- a declaration of a block: one of its own marks, or a procedure, whose text stands in the block
 pub record Own (ds : Declarations) (row : Declaration) : Type 0 where
@@ -206,6 +209,7 @@ module _ (b c : BuildingOf) (New : ℕ → Declaration → Type 0) (s : Step b c
     evens = s.evens f.evens;
     finds = λ d row is. finds d row (s.rows d row is);
     own = λ k d a. own k d (s.fewer k d a);
+    bare = s.bare f.bare;
   }
     where
       out : (t : ℕ) → around (slice_get c.tables.blocks t) ≡ around (slice_get b.tables.blocks t)
@@ -270,9 +274,9 @@ module _ (b : BuildingOf) (new : BlockOf) (places : List (Option ℕ)) (ts : Lis
       let same : length b.tables.blocks ≡ length ts = f.size in
       (ap around (more_other b.tables.blocks new n (let P : nat_eq n (length b.tables.blocks) ≡ false = grind (arith, nat_tests) in P)), more_text ts (x ∷ []) n y is)
 
-  begun_fine : (owed : List Mark) (os : List Open) → new.encloser ≡ b.current → new.numbers ≡ [] → new.names ≡ [] → ((u : ℕ) → b.current ≡ Some u → new.level ≡ suc (level_of_row (slice_get b.tables.blocks u))) → KindIs (Some new) (Some x)
+  begun_fine : (owed : List Mark) (os : List Open) → new.encloser ≡ b.current → new.numbers ≡ [] → new.names ≡ [] → ((u : ℕ) → b.current ≡ Some u → new.level ≡ suc (level_of_row (slice_get b.tables.blocks u))) → KindIs (Some new) (Some x) → extras_in (Some new) ≡ no_extras
       → Fine b ts os → Fine With (ts ++ x ∷ []) (item x owed ∷ os)
-  begun_fine owed os out none nameless level fits f = record {
+  begun_fine owed os out none nameless level fits without f = record {
     size = length-append bs (new ∷ []) ∙ (let e : length bs ≡ length ts = f.size in ap (λ z. z + 1) e) ∙ sym (length-append ts (x ∷ []));
     stack = (length bs, refl, at, subst (λ z. Stack (bs ++ new ∷ []) (ts ++ x ∷ []) z os) (sym (here ∙ out)) (stack_kept bs (bs ++ new ∷ []) ts (ts ++ x ∷ []) (begun_keeps os f) os b.current f.stack));
     nested = λ t u is. nested t u (nat_eq t (length bs)) refl is;
@@ -282,6 +286,7 @@ module _ (b : BuildingOf) (new : BlockOf) (places : List (Option ℕ)) (ts : Lis
     evens = λ j. evens j (nat_eq j (length bs)) refl;
     finds = λ d row is. finds row (record { 0 = d }) (nat_eq row.block (length bs)) refl (f.finds d row is);
     own = λ k d a. own k d (nat_eq k (length bs)) refl a;
+    bare = record { blocks = λ k. kept_more extras_in bs new without k ∙ f.bare.blocks k; virtuals = f.bare.virtuals; qualified = f.bare.qualified };
   }
     where
       bs : List BlockOf
@@ -366,9 +371,9 @@ module _ (b : BuildingOf) (new : BlockOf) (places : List (Option ℕ)) (ts : Lis
 
 -- ---- a block ends
 
-end_step : (b : BuildingOf) (n : ℕ) (row new : BlockOf) → b.current ≡ Some n → slice_get b.tables.blocks n ≡ Some row → fixed (Some new) ≡ fixed (Some row) → new.numbers ≡ row.numbers → new.names ≡ row.names
+end_step : (b : BuildingOf) (n : ℕ) (row new : BlockOf) → b.current ≡ Some n → slice_get b.tables.blocks n ≡ Some row → fixed (Some new) ≡ fixed (Some row) → new.numbers ≡ row.numbers → new.names ≡ row.names → extras_in (Some new) ≡ extras_in (Some row)
     → Step b (record b { tables = record b.tables { blocks = slice_set b.tables.blocks n new } }) Nothing
-end_step b n row new cur at alike numbers names = record {
+end_step b n row new cur at alike numbers names extras = record {
   current = refl;
   size = length-set bs n new;
   fixes = λ j. kept_set fixed bs n row new at alike j;
@@ -380,6 +385,7 @@ end_step b n row new cur at alike numbers names = record {
   evens = λ a j. even j (nat_eq n j) refl (a j);
   looks = λ j name d is. kept_set (λ o. declared_in o name) bs n row new at (named name) j ∙ is;
   stays = λ d old is. (old, is, unchanged old);
+  bare = λ w. record { blocks = λ j. kept_set extras_in bs n row new at extras j ∙ w.blocks j; virtuals = w.virtuals; qualified = w.qualified };
 }
   where
     bs : List BlockOf
@@ -413,10 +419,10 @@ closed_row b end n None ts x os cur at is under a = absurd (no_kind (subst (λ z
 closed_row b end n (Some row) ts x os cur at is under a =
     let new : BlockOf = record row { end = end } in
     let c : BuildingOf = record b { tables = record b.tables { blocks = slice_set b.tables.blocks n new } } in
-    let s : Step b c Nothing = end_step b n row new cur at refl refl refl in
+    let s : Step b c Nothing = end_step b n row new cur at refl refl refl refl in
     let f : Fine c ts (item x [] ∷ os) = step_fine b c Nothing s ts (item x [] ∷ os) a.fine in
     let g : Rows c ts = step_rows b c Nothing s ts (λ d r q. absurd q) a.rows in record {
-      fine = record { size = f.size; stack = subst (λ z. Stack c.tables.blocks ts z os) (ap around at) (stack_kept b.tables.blocks c.tables.blocks ts ts (step_keeps b c Nothing s ts) os (around (slice_get b.tables.blocks n)) under); nested = f.nested; levels = f.levels; kinds = f.kinds; listed = f.listed; evens = f.evens; finds = f.finds; own = f.own };
+      fine = record { size = f.size; stack = subst (λ z. Stack c.tables.blocks ts z os) (ap around at) (stack_kept b.tables.blocks c.tables.blocks ts ts (step_keeps b c Nothing s ts) os (around (slice_get b.tables.blocks n)) under); nested = f.nested; levels = f.levels; kinds = f.kinds; listed = f.listed; evens = f.evens; finds = f.finds; own = f.own; bare = record { blocks = f.bare.blocks; virtuals = f.bare.virtuals; qualified = f.bare.qualified } };
       rows = g;
     }
 
@@ -428,7 +434,7 @@ closed_agrees b end ts x os a =
 -- ---- a block begins
 
 if_agrees : (c : Bool) (b : BuildingOf) (token : ℕ) (rule : Rule) (ts : List Text) (os : List Open) → Agree b ts os → Agree (broken_if c b token rule) ts os
-if_agrees true b token rule ts os a = record { fine = record { size = a.fine.size; stack = a.fine.stack; nested = a.fine.nested; levels = a.fine.levels; kinds = a.fine.kinds; listed = a.fine.listed; evens = a.fine.evens; finds = a.fine.finds; own = a.fine.own }; rows = a.rows }
+if_agrees true b token rule ts os a = record { fine = record { size = a.fine.size; stack = a.fine.stack; nested = a.fine.nested; levels = a.fine.levels; kinds = a.fine.kinds; listed = a.fine.listed; evens = a.fine.evens; finds = a.fine.finds; own = a.fine.own; bare = a.fine.bare }; rows = a.rows }
 if_agrees false b token rule ts os a = a
 
 -- a block that is no connection is one level deeper than the block around it
@@ -438,14 +444,14 @@ level_new k bs u None d = refl
 level_new k bs u (Some row) d = d row.level
 
 abbrev pub fresh : BuildingOf → BlockKind → ℕ → BlockOf
-fresh b k first = record { kind = k; first = first; end = first; encloser = b.current; level = level_in k (block_around b.tables b.current); owner = owner_of k b.latest; formals = 0; inner = None; names = []; numbers = [] }
+fresh b k first = record { kind = k; first = first; end = first; encloser = b.current; level = level_in k (block_around b.tables b.current); owner = owner_of k b.latest; formals = 0; inner = None; prefix = None; base = None; standard = None; names = []; numbers = []; has_class = false; brought_names = []; brought = []; protected = []; hidden = [] }
 
-opened_agrees : (b : BuildingOf) (k : BlockKind) (text first : ℕ) (ts : List Text) (x : Text) (owed : List Mark) (os : List Open) → ((n : ℕ) → deeper k n ≡ suc n) → ((row : BlockOf) → row.kind ≡ k → KindIs (Some row) (Some x))
+opened_agrees : (b : BuildingOf) (k : BlockKind) (text first : ℕ) (ts : List Text) (x : Text) (owed : List Mark) (os : List Open) → ((n : ℕ) → deeper k n ≡ suc n) → ((row : BlockOf) → row.kind ≡ k → KindIs (Some row) (Some x)) → has_detach k ≡ false
     → Fine b ts os → Rows (With b (fresh b k first) (placed b.tables b.current first).places ts x) (ts ++ x ∷ []) → Agree (opened b k text first) (ts ++ x ∷ []) (item x owed ∷ os)
-opened_agrees b k text first ts x owed os d fits f g =
+opened_agrees b k text first ts x owed os d fits plain f g =
     if_agrees (nat_lt most_levels (level_in k (block_around b.tables b.current))) (With b (fresh b k first) (placed b.tables b.current first).places ts x) text r.TooManyLevels (ts ++ x ∷ []) (item x owed ∷ os) (record {
       fine = begun_fine b (fresh b k first) (placed b.tables b.current first).places ts x owed os refl refl refl
-          (λ u cur. subst (λ z. level_in k (block_around b.tables z) ≡ suc (level_of_row (slice_get b.tables.blocks u))) (sym cur) (level_new k b.tables.blocks u (slice_get b.tables.blocks u) d)) (fits (fresh b k first) refl) f;
+          (λ u cur. subst (λ z. level_in k (block_around b.tables z) ≡ suc (level_of_row (slice_get b.tables.blocks u))) (sym cur) (level_new k b.tables.blocks u (slice_get b.tables.blocks u) d)) (fits (fresh b k first) refl) (ap (λ z. record { detach = z; prefix = None; base = None; standard = None; protected = [] }) plain) f;
       rows = g;
     })
 
@@ -456,6 +462,16 @@ plain_deeper kind.Procedure p n = absurd p
 plain_deeper kind.Class p n = absurd p
 plain_deeper kind.Prefixed p n = absurd p
 plain_deeper kind.Connection p n = absurd p
+plain_deeper (kind.StandardClass which) p n = absurd p
+
+plain_detach : (k : BlockKind) → PlainKind k → has_detach k ≡ false
+plain_detach kind.Program p = refl
+plain_detach kind.SubBlock p = refl
+plain_detach kind.Procedure p = refl
+plain_detach kind.Class p = absurd p
+plain_detach kind.Prefixed p = absurd p
+plain_detach kind.Connection p = absurd p
+plain_detach (kind.StandardClass which) p = refl
 
 -- ---- a procedure is declared, and its block begins
 
@@ -463,7 +479,7 @@ pub procedure_agrees : (b : BuildingOf) (text first i : ℕ) (ds : Declarations)
     → Agree b ts (item (BlockText i ds ss) owed ∷ os)
     → Agree (opened (declared b h.name (entry.Procedure (result_named result) (length b.tables.blocks))) kind.Procedure text first) (ts ++ ProcedureText result h a ∷ []) (item (ProcedureText result h a) inner ∷ item (BlockText i ds ss) owed ∷ os)
 procedure_agrees b text first i ds ss owed inner result h a ts os pr g =
-    opened_agrees c kind.Procedure text first ts x inner (item (BlockText i ds ss) owed ∷ os) (λ m. omega arith) (λ row is. is) f rows
+    opened_agrees c kind.Procedure text first ts x inner (item (BlockText i ds ss) owed ∷ os) (λ m. omega arith) (λ row is. is) refl f rows
   where
     n : ℕ
     n = g.fine.stack.0
@@ -481,7 +497,7 @@ procedure_agrees b text first i ds ss owed inner result h a ts os pr g =
     us = ts ++ x ∷ []
 
     s : Step b c (Declared (length b.tables.declarations) h.name e n)
-    s = declared_step b h.name e n g.fine.stack.1
+    s = declared_step b h.name e n (procedure_unmatched b.tables (result_named result) (length b.tables.blocks) g.fine.bare.virtuals) g.fine.stack.1
 
     f : Fine c ts (item (BlockText i ds ss) owed ∷ os)
     f = step_fine b c (Declared (length b.tables.declarations) h.name e n) s ts (item (BlockText i ds ss) owed ∷ os) g.fine
@@ -527,8 +543,8 @@ pub declares_agrees : (b : BuildingOf) (i : ℕ) (ds : Declarations) (ss : State
 declares_agrees b i ds ss owed x e ts os own has a =
     let n : ℕ = a.fine.stack.0 in
     let New : ℕ → Declaration → Type 0 = Declared (length b.tables.declarations) x e n in
-    let s : Step b (declared b x e) (Declared (length b.tables.declarations) x e n) = declared_step b x e n a.fine.stack.1 in record {
-      fine = step_fine b (declared b x e) New s ts (item (BlockText i ds ss) owed ∷ os) (record { size = a.fine.size; stack = a.fine.stack; nested = a.fine.nested; levels = a.fine.levels; kinds = a.fine.kinds; listed = a.fine.listed; evens = a.fine.evens; finds = a.fine.finds; own = a.fine.own });
+    let s : Step b (declared b x e) (Declared (length b.tables.declarations) x e n) = declared_step b x e n (own_unmatched b.tables e own) a.fine.stack.1 in record {
+      fine = step_fine b (declared b x e) New s ts (item (BlockText i ds ss) owed ∷ os) (record { size = a.fine.size; stack = a.fine.stack; nested = a.fine.nested; levels = a.fine.levels; kinds = a.fine.kinds; listed = a.fine.listed; evens = a.fine.evens; finds = a.fine.finds; own = a.fine.own; bare = a.fine.bare });
       rows = step_rows b (declared b x e) New s ts (λ d row q. made n row q.1 a.fine.stack.2) a.rows;
     }
   where
@@ -542,7 +558,7 @@ heading_agrees : (b c : BuildingOf) (New : ℕ → Declaration → Type 0) (resu
     → ((d : ℕ) (row : Declaration) → New d row → RowOf c.tables.blocks ts (slice_get ts row.block) row)
     → Agree b ts (item (ProcedureText result h a) owed ∷ os) → Agree c ts (item (ProcedureText result h a) later ∷ os)
 heading_agrees b c New result h a owed later ts os s new g = record {
-  fine = step_fine b c New s ts (item (ProcedureText result h a) later ∷ os) (record { size = g.fine.size; stack = g.fine.stack; nested = g.fine.nested; levels = g.fine.levels; kinds = g.fine.kinds; listed = g.fine.listed; evens = g.fine.evens; finds = g.fine.finds; own = g.fine.own });
+  fine = step_fine b c New s ts (item (ProcedureText result h a) later ∷ os) (record { size = g.fine.size; stack = g.fine.stack; nested = g.fine.nested; levels = g.fine.levels; kinds = g.fine.kinds; listed = g.fine.listed; evens = g.fine.evens; finds = g.fine.finds; own = g.fine.own; bare = g.fine.bare });
   rows = step_rows b c New s ts new g.rows;
 }
 
@@ -563,7 +579,7 @@ Owes (o ∷ os) = OwesText o.text o.owed × Owes os
 
 pub block_agrees : (b : BuildingOf) (k : BlockKind) (text first i : ℕ) (ds : Declarations) (ss : Statements) (ts : List Text) (os : List Open) → PlainKind k → Agree b ts os → Agree (opened b k text first) (ts ++ BlockText i ds ss ∷ []) (item (BlockText i ds ss) (own_marks ds) ∷ os)
 block_agrees b k text first i ds ss ts os p a =
-    opened_agrees b k text first ts (BlockText i ds ss) (own_marks ds) os (plain_deeper k p) (λ row is. subst PlainKind (sym is) p) a.fine (begun_rows b (fresh b k first) (placed b.tables b.current first).places ts (BlockText i ds ss) os a.fine a.rows)
+    opened_agrees b k text first ts (BlockText i ds ss) (own_marks ds) os (plain_deeper k p) (λ row is. subst PlainKind (sym is) p) (plain_detach k p) a.fine (begun_rows b (fresh b k first) (placed b.tables b.current first).places ts (BlockText i ds ss) os a.fine a.rows)
 
 pub parameter_agrees : (b : BuildingOf) (result : Option TypeName) (h : Heading) (body : Statement) (owed : List Mark) (x : Identifier) (ts : List Text) (os : List Open) → Agree b ts (item (ProcedureText result h body) owed ∷ os) → Agree (parameter b x) ts (item (ProcedureText result h body) owed ∷ os)
 parameter_agrees b result h body owed x ts os a =
@@ -575,8 +591,8 @@ pub moded_agrees : (b : BuildingOf) (result : Option TypeName) (h : Heading) (bo
 moded_agrees b result h body owed x ts os a = heading_agrees b _ Nothing result h body owed owed ts os (moded_step b x.token (found_in b.tables b.current x.name)) (λ d row q. absurd q) a
 
 pub specified_agrees : (b : BuildingOf) (result : Option TypeName) (h : Heading) (body : Statement) (owed : List Mark) (x : Identifier) (k : FormalKind) (ty : Option SimType) → PlainFormal k ty → (ts : List Text) (os : List Open) → Agree b ts (item (ProcedureText result h body) owed ∷ os)
-    → Agree (specified_of b x.token k ty (found_in b.tables b.current x.name)) ts (item (ProcedureText result h body) owed ∷ os)
-specified_agrees b result h body owed x k ty p ts os a = heading_agrees b _ Nothing result h body owed owed ts os (specified_step b x.token k ty (found_in b.tables b.current x.name) p) (λ d row q. absurd q) a
+    → Agree (specified_of (met b (found_in b.tables b.current x.name)) x.token k ty (found_in b.tables b.current x.name)) ts (item (ProcedureText result h body) owed ∷ os)
+specified_agrees b result h body owed x k ty p ts os a = heading_agrees b _ Nothing result h body owed owed ts os (specified_met b x.token k ty (found_in b.tables b.current x.name) p) (λ d row q. absurd q) a
 
 pub headed_agrees : (b : BuildingOf) (result : Option TypeName) (h : Heading) (body : Statement) (owed : List Mark) (x : Identifier) (ts : List Text) (os : List Open) → Agree b ts (item (ProcedureText result h body) (Headed x ∷ owed) ∷ os)
     → Agree (headed_of b x.token (unspecified_at b.tables (found_in b.tables b.current x.name))) ts (item (ProcedureText result h body) owed ∷ os)

@@ -19,17 +19,26 @@ use Rattle.sim_scope.specs.declared.types.Position.TheVariants.{Inside}
 use Rattle.sim_scope.specs.declared.types.SimType.{SimType}
 use Rattle.sim_scope.specs.declared.types.SimType.TheVariants as t
 use Rattle.sim_scope.specs.Building.{Closes, Declares, DeclaresProcedure, Headed, Mark, Moded, Opens, Parameter, Specified}
-use Rattle.sim_scope.specs.Declare.{array_marks, declaring, first_of_procedure, headed_marks, heading_marks, mode_named, mode_part_marks, moded_marks, parameter_marks, procedure_marks, program_marks, result_named, segment_marks, specification_marks, specified_marks, type_named, variable_marks}
+use Rattle.sim_scope.specs.Declare.{array_marks, declaring, first_of_procedure, headed_marks, heading_marks, mode_named, mode_part_marks, moded_marks, parameter_marks, procedure_marks, program_marks, qualified_marks, qualified_result, result_named, segment_marks, specification_marks, specified_marks, type_named, variable_marks}
 use Rattle.sim_scope.specs.Runs.{each}
 use Rattle.sim_scope.specs.Walk.{begin_of, block_events, declaration_events, declarations_events, program_events, statement_events, statements_events, whole_events}
 use Rattle.sim_meaning.specs.Texts.{BlockText, ProcedureText, Text, block_texts, declaration_texts, declarations_texts, program_texts, statement_texts, statements_texts}
 use Rattle.sim_agree.specs.Plain.{Each, Plain, PlainBlock, PlainDeclarations, PlainHeading, PlainMode, PlainResult, PlainSpecification, PlainStatement, PlainStatements, PlainType, PlainWord}
 
 -- what a block declares itself, but for its procedures
+unfoldable pub own_variable : TypeName → Variable → List Mark
+own_variable type v = (elim v.value [ None ↦ Declares v.name (entry.Variable (type_named type)) ∷ [] | Some c ↦ Declares v.name (entry.Constant (type_named type)) ∷ [] ])
+
+unfoldable pub own_array : TypeName → (dimensions : ℕ) → Identifier → List Mark
+own_array type n x = Declares x (entry.Array (type_named type) n) ∷ []
+
+abbrev pub own_segment : TypeName → Arrayed → List Mark
+own_segment type a = each (own_array type (length a.bounds)) a.names
+
 abbrev pub own_marks : Declarations → List Mark
 own_marks NoDeclaration = []
-own_marks (With (Variables type vs) ds) = each (variable_marks type) vs ++ own_marks ds
-own_marks (With (Arrays type i segments) ds) = each (segment_marks type) segments ++ own_marks ds
+own_marks (With (Variables type vs) ds) = each (own_variable type) vs ++ own_marks ds
+own_marks (With (Arrays type i segments) ds) = each (own_segment type) segments ++ own_marks ds
 own_marks (With (DeclareProcedure result i h a end) ds) = own_marks ds
 own_marks (With (DeclareClass prefix i h interface a end) ds) = own_marks ds
 
@@ -101,6 +110,21 @@ both {os = os} {es = es} {fs = fs} {ns = ns} {ks = ks} a b = record {
 pub none : {os : List Open} → Adds os [] [] os
 none = record { before = λ ms xs g. g }
 
+-- ---- types without references have no qualification
+
+pub unqualified : (type : TypeName) → PlainType type → qualified_marks type ≡ []
+unfolding qualified_marks
+unqualified (type_name.Integer i) p = refl
+unqualified (type_name.Boolean i) p = refl
+unqualified (type_name.Character i) p = refl
+unqualified (type_name.Text i) p = refl
+unqualified (type_name.Reference i class) p = absurd p
+
+pub unqualified_result : (result : Option TypeName) → PlainResult result → qualified_result result ≡ []
+unfolding qualified_result
+unqualified_result None p = refl
+unqualified_result (Some type) p = unqualified type p
+
 -- ---- declarations of a block
 
 module _ (i : ℕ) (all : Declarations) (ss : Statements) (os : List Open) where
@@ -118,27 +142,30 @@ module _ (i : ℕ) (all : Declarations) (ss : Statements) (os : List Open) where
   one : (x : Identifier) (e : Entry) (owed : List Mark) → OwnEntry e → Adds (In (Declares x e ∷ owed)) (Declares x e ∷ []) [] (In owed)
   one x e owed own = record { before = λ ms xs g. declares i all ss owed x e own g }
 
-  variable_adds : (type : TypeName) → PlainType type → (v : Variable) (owed : List Mark) → Adds (In (variable_marks type v ++ owed)) (variable_marks type v) [] (In owed)
-  unfolding variable_marks
-  variable_adds type p v owed = elim v.value as (λ o. Adds (In ((elim o [ None ↦ Declares v.name (entry.Variable (type_named type)) ∷ [] | Some c ↦ Declares v.name (entry.Constant (type_named type)) ∷ [] ]) ++ owed)) (elim o [ None ↦ Declares v.name (entry.Variable (type_named type)) ∷ [] | Some c ↦ Declares v.name (entry.Constant (type_named type)) ∷ [] ]) [] (In owed))
-      [ None ↦ one v.name (entry.Variable (type_named type)) owed (plain_named type p) | Some c ↦ one v.name (entry.Constant (type_named type)) owed (plain_named type p) ]
+  one_typed : (type : TypeName) → PlainType type → (x : Identifier) (e : Entry) (owed : List Mark) → OwnEntry e → Adds (In (Declares x e ∷ owed)) (Declares x e ∷ qualified_marks type) [] (In owed)
+  one_typed type p x e owed own = subst (λ z. Adds (In (Declares x e ∷ owed)) (Declares x e ∷ z) [] (In owed)) (sym (unqualified type p)) (one x e owed own)
 
-  variables_add : (type : TypeName) → PlainType type → (vs : List Variable) (owed : List Mark) → Adds (In (each (variable_marks type) vs ++ owed)) (each (variable_marks type) vs) [] (In owed)
+  variable_adds : (type : TypeName) → PlainType type → (v : Variable) (owed : List Mark) → Adds (In (own_variable type v ++ owed)) (variable_marks type v) [] (In owed)
+  unfolding own_variable variable_marks
+  variable_adds type p v owed = elim v.value as (λ o. Adds (In ((elim o [ None ↦ Declares v.name (entry.Variable (type_named type)) ∷ [] | Some c ↦ Declares v.name (entry.Constant (type_named type)) ∷ [] ]) ++ owed)) (elim o [ None ↦ Declares v.name (entry.Variable (type_named type)) ∷ qualified_marks type | Some c ↦ Declares v.name (entry.Constant (type_named type)) ∷ [] ]) [] (In owed))
+      [ None ↦ one_typed type p v.name (entry.Variable (type_named type)) owed (plain_named type p) | Some c ↦ one v.name (entry.Constant (type_named type)) owed (plain_named type p) ]
+
+  variables_add : (type : TypeName) → PlainType type → (vs : List Variable) (owed : List Mark) → Adds (In (each (own_variable type) vs ++ owed)) (each (variable_marks type) vs) [] (In owed)
   variables_add type p [] owed = none
   variables_add type p (v ∷ vs) owed =
-      subst (λ z. Adds (In z) (variable_marks type v ++ each (variable_marks type) vs) [] (In owed)) (sym (append_assoc (variable_marks type v) (each (variable_marks type) vs) owed))
-      (both (variable_adds type p v (each (variable_marks type) vs ++ owed)) (variables_add type p vs owed))
+      subst (λ z. Adds (In z) (variable_marks type v ++ each (variable_marks type) vs) [] (In owed)) (sym (append_assoc (own_variable type v) (each (own_variable type) vs) owed))
+      (both (variable_adds type p v (each (own_variable type) vs ++ owed)) (variables_add type p vs owed))
 
-  array_adds : (type : TypeName) → PlainType type → (n : ℕ) (xs : List Identifier) (owed : List Mark) → Adds (In (each (array_marks type n) xs ++ owed)) (each (array_marks type n) xs) [] (In owed)
-  unfolding array_marks
+  array_adds : (type : TypeName) → PlainType type → (n : ℕ) (xs : List Identifier) (owed : List Mark) → Adds (In (each (own_array type n) xs ++ owed)) (each (array_marks type n) xs) [] (In owed)
+  unfolding own_array array_marks
   array_adds type p n [] owed = none
-  array_adds type p n (x ∷ xs) owed = both (one x (entry.Array (type_named type) n) (each (array_marks type n) xs ++ owed) (plain_named type p)) (array_adds type p n xs owed)
+  array_adds type p n (x ∷ xs) owed = both (one_typed type p x (entry.Array (type_named type) n) (each (own_array type n) xs ++ owed) (plain_named type p)) (array_adds type p n xs owed)
 
-  segments_add : (type : TypeName) → PlainType type → (xs : List Arrayed) (owed : List Mark) → Adds (In (each (segment_marks type) xs ++ owed)) (each (segment_marks type) xs) [] (In owed)
+  segments_add : (type : TypeName) → PlainType type → (xs : List Arrayed) (owed : List Mark) → Adds (In (each (own_segment type) xs ++ owed)) (each (segment_marks type) xs) [] (In owed)
   segments_add type p [] owed = none
   segments_add type p (x ∷ xs) owed =
-      subst (λ z. Adds (In z) (segment_marks type x ++ each (segment_marks type) xs) [] (In owed)) (sym (append_assoc (segment_marks type x) (each (segment_marks type) xs) owed))
-      (both (array_adds type p (length x.bounds) x.names (each (segment_marks type) xs ++ owed)) (segments_add type p xs owed))
+      subst (λ z. Adds (In z) (segment_marks type x ++ each (segment_marks type) xs) [] (In owed)) (sym (append_assoc (own_segment type x) (each (own_segment type) xs) owed))
+      (both (array_adds type p (length x.bounds) x.names (each (own_segment type) xs ++ owed)) (segments_add type p xs owed))
 
 -- ---- headings
 
@@ -168,6 +195,9 @@ module _ (result : Option TypeName) (h : Heading) (a : Statement) (os : List Ope
   specified_one : (owed : List Mark) (x : Identifier) (k : FormalKind) (ty : Option SimType) → PlainFormal k ty → Adds (Of owed) (Specified x k ty ∷ []) [] (Of owed)
   specified_one owed x k ty p = record { before = λ ms ts g. specified result h a owed x k ty p g }
 
+  specified_typed : (type : TypeName) → PlainType type → (owed : List Mark) (x : Identifier) (k : FormalKind) → PlainFormal k (Some (type_named type)) → Adds (Of owed) (Specified x k (Some (type_named type)) ∷ qualified_marks type) [] (Of owed)
+  specified_typed type q owed x k p = subst (λ z. Adds (Of owed) (Specified x k (Some (type_named type)) ∷ z) [] (Of owed)) (sym (unqualified type q)) (specified_one owed x k (Some (type_named type)) p)
+
   headed_one : (owed : List Mark) (x : Identifier) → Adds (Of (Headed x ∷ owed)) (Headed x ∷ []) [] (Of owed)
   headed_one owed x = record { before = λ ms ts g. headed result h a owed x g }
 
@@ -189,12 +219,12 @@ module _ (result : Option TypeName) (h : Heading) (a : Statement) (os : List Ope
   simple_add : (type : TypeName) → PlainType type → (xs : List Identifier) (owed : List Mark) → Adds (Of owed) (each (specified_marks (syntax.Simple type)) xs) [] (Of owed)
   unfolding specified_marks
   simple_add type p [] owed = none
-  simple_add type p (x ∷ xs) owed = both (specified_one owed x shape.Simple (Some (type_named type)) (plain_named 0 NoDeclaration NoStatement os type p)) (simple_add type p xs owed)
+  simple_add type p (x ∷ xs) owed = both (specified_typed type p owed x shape.Simple (plain_named 0 NoDeclaration NoStatement os type p)) (simple_add type p xs owed)
 
   arrays_add : (type : TypeName) (i : ℕ) → PlainType type → (xs : List Identifier) (owed : List Mark) → Adds (Of owed) (each (specified_marks (syntax.Array type i)) xs) [] (Of owed)
   unfolding specified_marks
   arrays_add type i p [] owed = none
-  arrays_add type i p (x ∷ xs) owed = both (specified_one owed x shape.Array (Some (type_named type)) (plain_named 0 NoDeclaration NoStatement os type p)) (arrays_add type i p xs owed)
+  arrays_add type i p (x ∷ xs) owed = both (specified_typed type p owed x shape.Array (plain_named 0 NoDeclaration NoStatement os type p)) (arrays_add type i p xs owed)
 
   specified_add : (k : Specifier) (xs : List Identifier) (owed : List Mark) → PlainSpecification (record { kind = k; names = xs }) → Adds (Of owed) (each (specified_marks k) xs) [] (Of owed)
   specified_add (syntax.Simple type) xs owed p = simple_add type p xs owed
@@ -224,7 +254,9 @@ begins_block k text first i ds ss os p = record { before = λ ms xs g. block k t
 begins_procedure : (i : ℕ) (ds : Declarations) (ss : Statements) (owed : List Mark) (os : List Open) (result : Option TypeName) (token : ℕ) (h : Heading) (a : Statement) → PlainResult result
     → Adds (item (BlockText i ds ss) owed ∷ os) (procedure_marks result token h.name) (ProcedureText result h a ∷ []) (item (ProcedureText result h a) (each headed_marks h.formals) ∷ item (BlockText i ds ss) owed ∷ os)
 unfolding procedure_marks
-begins_procedure i ds ss owed os result token h a p = record { before = λ ms xs g. procedure (first_of_procedure result token) h.name.token.0 i ds ss owed result h a p g }
+begins_procedure i ds ss owed os result token h a p =
+    subst (λ z. Adds (item (BlockText i ds ss) owed ∷ os) (DeclaresProcedure h.name (result_named result) ∷ (z ++ Opens kind.Procedure (first_of_procedure result token) h.name.token.0 ∷ [])) (ProcedureText result h a ∷ []) (item (ProcedureText result h a) (each headed_marks h.formals) ∷ item (BlockText i ds ss) owed ∷ os))
+    (sym (unqualified_result result p)) (record { before = λ ms xs g. procedure (first_of_procedure result token) h.name.token.0 i ds ss owed result h a p g })
 
 ends : (x : Text) (end : ℕ) (os : List Open) → Adds (item x [] ∷ os) (Closes end ∷ []) [] os
 ends x end os = record { before = λ ms xs g. closes x end g }

@@ -17,13 +17,13 @@ use Rattle.sim_scope.specs.declared.types.Mode.TheVariants as mode
 use Rattle.sim_scope.specs.declared.types.Position.TheVariants.{Inside}
 use Rattle.sim_scope.specs.declared.types.SimType.{SimType}
 use Rattle.sim_scope.specs.Building.{Closes, Declares, DeclaresProcedure, Headed, Mark, Moded, Opens, Parameter, Specified}
-use Rattle.sim_scope.specs.Declare.{array_marks, declaring, first_of_procedure, headed_marks, heading_marks, mode_named, mode_part_marks, moded_marks, parameter_marks, procedure_marks, program_marks, result_named, segment_marks, specification_marks, specified_marks, type_named, variable_marks}
+use Rattle.sim_scope.specs.Declare.{array_marks, declaring, first_of_procedure, headed_marks, heading_marks, mode_named, mode_part_marks, moded_marks, parameter_marks, procedure_marks, program_marks, qualified_marks, qualified_result, result_named, segment_marks, specification_marks, specified_marks, type_named, variable_marks}
 use Rattle.sim_scope.specs.Runs.{each}
 use Rattle.sim_scope.specs.Walk.{begin_of, block_events, declaration_events, declarations_events, program_events, statement_events, statements_events, whole_events}
 use Rattle.sim_meaning.specs.Texts.{BlockText, ProcedureText, Text, block_texts, declaration_texts, declarations_texts, program_texts, statement_texts, statements_texts}
 use Rattle.sim_tree.specs.Order.{Behind, Spot, Token, in_block, in_bounds, in_declaration, in_declarations, in_each, in_element, in_expression, in_name, in_segment, in_side, in_statement, in_statements, in_variable, tokens}
-use Rattle.sim_agree.specs.Plain.{Each, Plain, PlainBlock, PlainDeclarations, PlainHeading, PlainMode, PlainSpecification, PlainStatement, PlainStatements, PlainType, PlainWord}
-use Rattle.sim_agree.proofs.Groups.{PlainFormal, plain_named}
+use Rattle.sim_agree.specs.Plain.{Each, Plain, PlainBlock, PlainDeclarations, PlainHeading, PlainMode, PlainResult, PlainSpecification, PlainStatement, PlainStatements, PlainType, PlainWord}
+use Rattle.sim_agree.proofs.Groups.{OwnEntry, PlainFormal, plain_named, unqualified, unqualified_result}
 
 -- ---- what a text uses itself: tokens, and sub-blocks by their first token
 
@@ -99,7 +99,7 @@ pub data Laid : List Frame → List Mark → List Spot → List Text → Type 0 
   -- a token that is no use, and the end of what is no block
   passes : {os : List Frame} {ms : List Mark} {l : List Spot} {xs : List Text} (i : ℕ) → Laid os ms l xs → Laid os ms (Token i ∷ l) xs
   leaves : {os : List Frame} {ms : List Mark} {l : List Spot} {xs : List Text} (i : ℕ) → Laid os ms l xs → Laid os ms (Behind i ∷ l) xs
-  declares : {o : Frame} {os : List Frame} {ms : List Mark} {l : List Spot} {xs : List Text} (x : Identifier) (e : Entry) → Laid (o ∷ os) ms l xs → Laid (o ∷ os) (Declares x e ∷ ms) (Token x.token.0 ∷ l) xs
+  declares : {o : Frame} {os : List Frame} {ms : List Mark} {l : List Spot} {xs : List Text} (x : Identifier) (e : Entry) → OwnEntry e → Laid (o ∷ os) ms l xs → Laid (o ∷ os) (Declares x e ∷ ms) (Token x.token.0 ∷ l) xs
   parameter : {o : Frame} {os : List Frame} {ms : List Mark} {l : List Spot} {xs : List Text} (x : Identifier) → Laid (o ∷ os) ms l xs → Laid (o ∷ os) (Parameter x ∷ ms) (Token x.token.0 ∷ l) xs
   moded : {os : List Frame} {ms : List Mark} {l : List Spot} {xs : List Text} (x : Identifier) → Laid os ms l xs → Laid os (Moded x mode.ByValue ∷ ms) l xs
   specified : {os : List Frame} {ms : List Mark} {l : List Spot} {xs : List Text} (x : Identifier) (k : FormalKind) (ty : Option SimType) → PlainFormal k ty → Laid os ms l xs → Laid os (Specified x k ty ∷ ms) l xs
@@ -173,29 +173,32 @@ module _ (x : Text) (os : List Frame) where
 
   -- ---- declarations of a block
 
-  declared_lays : (y : Identifier) (e : Entry) (u : List Part) → Lays (At u) (Declares y e ∷ []) (in_name y) [] (At u)
-  declared_lays y e u = record { before = λ ms l xs h. declares y e h }
+  declared_lays : (y : Identifier) (e : Entry) (u : List Part) → OwnEntry e → Lays (At u) (Declares y e ∷ []) (in_name y) [] (At u)
+  declared_lays y e u own = record { before = λ ms l xs h. declares y e own h }
 
-  variable_lays : (type : TypeName) (v : Variable) (u : List Part) → Lays (At u) (variable_marks type v) (in_variable v) [] (At u)
+  typed_lays : (type : TypeName) → PlainType type → (y : Identifier) (e : Entry) (u : List Part) → OwnEntry e → Lays (At u) (Declares y e ∷ qualified_marks type) (in_name y) [] (At u)
+  typed_lays type p y e u own = subst (λ z. Lays (At u) (Declares y e ∷ z) (in_name y) [] (At u)) (sym (unqualified type p)) (declared_lays y e u own)
+
+  variable_lays : (type : TypeName) → PlainType type → (v : Variable) (u : List Part) → Lays (At u) (variable_marks type v) (in_variable v) [] (At u)
   unfolding variable_marks
-  variable_lays type v u = elim v.value as (λ o. Lays (At u) (elim o [ None ↦ Declares v.name (entry.Variable (type_named type)) ∷ [] | Some c ↦ Declares v.name (entry.Constant (type_named type)) ∷ [] ]) (in_variable v) [] (At u))
-      [ None ↦ declared_lays v.name (entry.Variable (type_named type)) u | Some c ↦ declared_lays v.name (entry.Constant (type_named type)) u ]
+  variable_lays type p v u = elim v.value as (λ o. Lays (At u) (elim o [ None ↦ Declares v.name (entry.Variable (type_named type)) ∷ qualified_marks type | Some c ↦ Declares v.name (entry.Constant (type_named type)) ∷ [] ]) (in_variable v) [] (At u))
+      [ None ↦ typed_lays type p v.name (entry.Variable (type_named type)) u (plain_named 0 NoDeclaration NoStatement [] type p) | Some c ↦ declared_lays v.name (entry.Constant (type_named type)) u (plain_named 0 NoDeclaration NoStatement [] type p) ]
 
-  variables_lay : (type : TypeName) (vs : List Variable) (u : List Part) → Lays (At u) (each (variable_marks type) vs) (in_each in_variable vs) [] (At u)
-  variables_lay type [] u = none
-  variables_lay type (v ∷ vs) u = both (in_variable v) (in_each in_variable vs) (variable_lays type v u) (variables_lay type vs u)
+  variables_lay : (type : TypeName) → PlainType type → (vs : List Variable) (u : List Part) → Lays (At u) (each (variable_marks type) vs) (in_each in_variable vs) [] (At u)
+  variables_lay type p [] u = none
+  variables_lay type p (v ∷ vs) u = both (in_variable v) (in_each in_variable vs) (variable_lays type p v u) (variables_lay type p vs u)
 
-  array_lays : (type : TypeName) (n : ℕ) (xs : List Identifier) (u : List Part) → Lays (At u) (each (array_marks type n) xs) (in_each in_name xs) [] (At u)
+  array_lays : (type : TypeName) → PlainType type → (n : ℕ) (xs : List Identifier) (u : List Part) → Lays (At u) (each (array_marks type n) xs) (in_each in_name xs) [] (At u)
   unfolding array_marks
-  array_lays type n [] u = none
-  array_lays type n (y ∷ ys) u = both (in_name y) (in_each in_name ys) (declared_lays y (entry.Array (type_named type) n) u) (array_lays type n ys u)
+  array_lays type p n [] u = none
+  array_lays type p n (y ∷ ys) u = both (in_name y) (in_each in_name ys) (typed_lays type p y (entry.Array (type_named type) n) u (plain_named 0 NoDeclaration NoStatement [] type p)) (array_lays type p n ys u)
 
-  segments_lay : (type : TypeName) (ys : List Arrayed) (u : List Part) → Lays (At (each_used segment_used ys u)) (each (segment_marks type) ys) (in_each in_segment ys) [] (At u)
-  segments_lay type [] u = none
-  segments_lay type (y ∷ ys) u =
+  segments_lay : (type : TypeName) → PlainType type → (ys : List Arrayed) (u : List Part) → Lays (At (each_used segment_used ys u)) (each (segment_marks type) ys) (in_each in_segment ys) [] (At u)
+  segments_lay type p [] u = none
+  segments_lay type p (y ∷ ys) u =
       both (in_segment y) (in_each in_segment ys)
-      (follow (in_each in_name y.names) (in_each in_bounds y.bounds) (array_lays type (length y.bounds) y.names (segment_used y (each_used segment_used ys u))) (each_lays bounds_used in_bounds bounds_lay y.bounds (each_used segment_used ys u)))
-      (segments_lay type ys u)
+      (follow (in_each in_name y.names) (in_each in_bounds y.bounds) (array_lays type p (length y.bounds) y.names (segment_used y (each_used segment_used ys u))) (each_lays bounds_used in_bounds bounds_lay y.bounds (each_used segment_used ys u)))
+      (segments_lay type p ys u)
 
 -- ---- headings
 
@@ -208,6 +211,9 @@ module _ (o : Frame) (os : List Frame) where
 
   specified_one : (x : Identifier) (k : FormalKind) (ty : Option SimType) → PlainFormal k ty → Lays (o ∷ os) (Specified x k ty ∷ []) (λ l. l) [] (o ∷ os)
   specified_one x k ty p = record { before = λ ms l xs h. specified x k ty p h }
+
+  specified_typed : (type : TypeName) → PlainType type → (x : Identifier) (k : FormalKind) → PlainFormal k (Some (type_named type)) → Lays (o ∷ os) (Specified x k (Some (type_named type)) ∷ qualified_marks type) (λ l. l) [] (o ∷ os)
+  specified_typed type q x k p = subst (λ z. Lays (o ∷ os) (Specified x k (Some (type_named type)) ∷ z) (λ l. l) [] (o ∷ os)) (sym (unqualified type q)) (specified_one x k (Some (type_named type)) p)
 
   headed_one : (x : Identifier) → Lays (o ∷ os) (Headed x ∷ []) (λ l. l) [] (o ∷ os)
   headed_one x = record { before = λ ms l xs h. headed x h }
@@ -230,12 +236,12 @@ module _ (o : Frame) (os : List Frame) where
   simple_lay : (type : TypeName) → PlainType type → (xs : List Identifier) → Lays (o ∷ os) (each (specified_marks (syntax.Simple type)) xs) (λ l. l) [] (o ∷ os)
   unfolding specified_marks
   simple_lay type p [] = none
-  simple_lay type p (x ∷ xs) = both (λ l. l) (λ l. l) (specified_one x shape.Simple (Some (type_named type)) (plain_named 0 NoDeclaration NoStatement [] type p)) (simple_lay type p xs)
+  simple_lay type p (x ∷ xs) = both (λ l. l) (λ l. l) (specified_typed type p x shape.Simple (plain_named 0 NoDeclaration NoStatement [] type p)) (simple_lay type p xs)
 
   arrays_lay : (type : TypeName) (i : ℕ) → PlainType type → (xs : List Identifier) → Lays (o ∷ os) (each (specified_marks (syntax.Array type i)) xs) (λ l. l) [] (o ∷ os)
   unfolding specified_marks
   arrays_lay type i p [] = none
-  arrays_lay type i p (x ∷ xs) = both (λ l. l) (λ l. l) (specified_one x shape.Array (Some (type_named type)) (plain_named 0 NoDeclaration NoStatement [] type p)) (arrays_lay type i p xs)
+  arrays_lay type i p (x ∷ xs) = both (λ l. l) (λ l. l) (specified_typed type p x shape.Array (plain_named 0 NoDeclaration NoStatement [] type p)) (arrays_lay type i p xs)
 
   specified_lay : (k : Specifier) (xs : List Identifier) → PlainSpecification (record { kind = k; names = xs }) → Lays (o ∷ os) (each (specified_marks k) xs) (λ l. l) [] (o ∷ os)
   specified_lay (syntax.Simple type) xs p = simple_lay type p xs
@@ -264,10 +270,12 @@ begins_block i ds ss x u os = record { before = λ ms l xs h. block i i ds ss x 
 begins_program : (i : ℕ) (ds : Declarations) (ss : Statements) → Lays [] (Opens kind.Program i i ∷ []) (λ l. Token i ∷ l) (BlockText i ds ss ∷ []) (frame (BlockText i ds ss) (text_used (BlockText i ds ss)) ∷ [])
 begins_program i ds ss = record { before = λ ms l xs h. program i i ds ss h }
 
-begins_procedure : (result : Option TypeName) (token : ℕ) (h : Heading) (a : Statement) (o : Frame) (os : List Frame)
+begins_procedure : (result : Option TypeName) → PlainResult result → (token : ℕ) (h : Heading) (a : Statement) (o : Frame) (os : List Frame)
     → Lays (o ∷ os) (procedure_marks result token h.name) (in_name h.name) (ProcedureText result h a ∷ []) (frame (ProcedureText result h a) (text_used (ProcedureText result h a)) ∷ o ∷ os)
 unfolding procedure_marks
-begins_procedure result token h a o os = record { before = λ ms l xs k. procedure (first_of_procedure result token) result h a k }
+begins_procedure result p token h a o os =
+    subst (λ z. Lays (o ∷ os) (DeclaresProcedure h.name (result_named result) ∷ (z ++ Opens kind.Procedure (first_of_procedure result token) h.name.token.0 ∷ [])) (in_name h.name) (ProcedureText result h a ∷ []) (frame (ProcedureText result h a) (text_used (ProcedureText result h a)) ∷ o ∷ os))
+    (sym (unqualified_result result p)) (record { before = λ ms l xs k. procedure (first_of_procedure result token) result h a k })
 
 ends : (x : Text) (end : ℕ) (os : List Frame) → Lays (frame x [] ∷ os) (Closes end ∷ []) (λ l. Behind end ∷ l) [] os
 ends x end os = record { before = λ ms l xs h. closes x end h }
@@ -282,15 +290,15 @@ inside_block : (os : List Frame) (x : Text) (u v : List Part) (ds ss : List Mark
     → Lays (frame x u ∷ os) ((ds ++ ss) ++ Closes end ∷ []) (λ l. f (g (Behind end ∷ l))) (dt ++ st) os
 inside_block os x u v ds ss f g dt st end a b = as_texts (λ l. f (g (Behind end ∷ l))) ((dt ++ st) ++ []) (dt ++ st) (append-nil (dt ++ st)) (both (λ l. f (g l)) (λ l. Behind end ∷ l) (both f g a b) (ends x end os))
 
-procedure_lays : (result : Option TypeName) (j : ℕ) (h : Heading) (a : Statement) (e : ℕ) (o : Frame) (os : List Frame) → PlainHeading h
+procedure_lays : (result : Option TypeName) (j : ℕ) (h : Heading) (a : Statement) (e : ℕ) (o : Frame) (os : List Frame) → PlainResult result → PlainHeading h
     → Lays (frame (ProcedureText result h a) (statement_used a []) ∷ o ∷ os) (statement_events declaring Inside a) (in_statement a) (statement_texts a) (frame (ProcedureText result h a) [] ∷ o ∷ os)
     → Lays (o ∷ os) (declaration_events declaring (DeclareProcedure result j h a e)) (in_declaration (DeclareProcedure result j h a e)) (declaration_texts (DeclareProcedure result j h a e)) (o ∷ os)
 unfolding declaring
-procedure_lays result j h a e o os p body =
+procedure_lays result j h a e o os r p body =
     let x : Text = ProcedureText result h a in
     as_texts (in_declaration (DeclareProcedure result j h a e)) (x ∷ (statement_texts a ++ [])) (x ∷ statement_texts a) (ap (λ z. x ∷ z) (append-nil (statement_texts a)))
     (both (λ l. in_name h.name (in_each in_name h.formals l)) (λ l. in_statement a (Behind e ∷ l))
-    (both (in_name h.name) (in_each in_name h.formals) (begins_procedure result j h a o os) (heading_lays (frame x (statement_used a [])) (o ∷ os) h p))
+    (both (in_name h.name) (in_each in_name h.formals) (begins_procedure result r j h a o os) (heading_lays (frame x (statement_used a [])) (o ∷ os) h p))
     (both (in_statement a) (λ l. Behind e ∷ l) body (ends x e (o ∷ os))))
 
 mutual
@@ -331,11 +339,11 @@ mutual
 
   declarations_lay : (ds : Declarations) (x : Text) (u : List Part) (os : List Frame) → PlainDeclarations ds → Lays (frame x (declarations_used ds u) ∷ os) (declarations_events declaring ds) (in_declarations ds) (declarations_texts ds) (frame x u ∷ os)
   declarations_lay NoDeclaration x u os p = none
-  declarations_lay (With (Variables type vs) ds) x u os p = both (in_each in_variable vs) (in_declarations ds) (variables_lay x os type vs (declarations_used ds u)) (declarations_lay ds x u os p.1)
-  declarations_lay (With (Arrays type j segments) ds) x u os p = both (in_each in_segment segments) (in_declarations ds) (segments_lay x os type segments (declarations_used ds u)) (declarations_lay ds x u os p.1)
+  declarations_lay (With (Variables type vs) ds) x u os p = both (in_each in_variable vs) (in_declarations ds) (variables_lay x os type p.0 vs (declarations_used ds u)) (declarations_lay ds x u os p.1)
+  declarations_lay (With (Arrays type j segments) ds) x u os p = both (in_each in_segment segments) (in_declarations ds) (segments_lay x os type p.0.0 segments (declarations_used ds u)) (declarations_lay ds x u os p.1)
   declarations_lay (With (DeclareProcedure result j h a e) ds) x u os p =
       both (in_declaration (DeclareProcedure result j h a e)) (in_declarations ds)
-      (procedure_lays result j h a e (frame x (declarations_used ds u)) os p.0.1 (statement_lays a (ProcedureText result h a) [] (frame x (declarations_used ds u) ∷ os) p.0.2)) (declarations_lay ds x u os p.1)
+      (procedure_lays result j h a e (frame x (declarations_used ds u)) os p.0.0 p.0.1 (statement_lays a (ProcedureText result h a) [] (frame x (declarations_used ds u) ∷ os) p.0.2)) (declarations_lay ds x u os p.1)
   declarations_lay (With (DeclareClass prefix j h interface a e) ds) x u os p = absurd p.0
 
 -- a plain program

@@ -1,3 +1,4 @@
+pub mod WithoutClasses
 pub mod Groups
 pub mod Steps
 pub mod Fine

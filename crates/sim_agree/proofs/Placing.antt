@@ -9,7 +9,7 @@ use Rattle.sim_tree.specs.Syntax.{Also, Arrayed, Arrays, Begin, Block, BoundPair
 use Rattle.sim_tree.specs.Syntax as syntax
 use Rattle.sim_scope.specs.declared.scopes.Declaration.{Declaration}
 use Rattle.sim_scope.specs.Declare.{declared_by, empty}
-use Rattle.sim_scope.specs.Scopes.{around, block_at, encloser, joined}
+use Rattle.sim_scope.specs.Access.{around, block_at, encloser, joined}
 use Rattle.sim_scope.specs.Source.{Source, block_around}
 use Rattle.sim_scope.specs.Tables.{Tables}
 use Rattle.sim_meaning.specs.Texts.{BlockText, ProcedureText, Text, declared_at, number_from, program_texts, text}
@@ -18,6 +18,7 @@ use Rattle.sim_tree.specs.Order.{InOrder}
 use Rattle.sim_agree.specs.Places.{PlacedArrays, PlacedBlock, PlacedBounds, PlacedElement, PlacedExpression, PlacedExpressions, PlacedSegment, PlacedSide, PlacedStatement, PlacedStatements}
 use Rattle.sim_agree.specs.Plain.{Each, Plain}
 use Rattle.sim_agree.proofs.Laid.{Part, Sub, Use, block_used, bounds_used, declarations_used, each_used, element_used, expression_used, program_laid, segment_used, side_used, statement_used, statements_used, text_used, used}
+use Rattle.sim_agree.proofs.WithoutClasses.{nothing_bare}
 use Rattle.sim_agree.proofs.Spots.{Fact, Final, Has, Here, Lay, LeftAt, here, run_laid, there}
 
 nothing_laid : Lay empty [] [] 0
@@ -28,6 +29,7 @@ nothing_laid = record {
   done = λ n x p is has. absurd (cc);
   below = λ d row is. absurd (cc);
   rising = λ d e row other is at lt. absurd (cc);
+  bare = nothing_bare;
 }
 
 pub program_final : (p : Program) → Plain p → InOrder p → Final (declared_by p) (program_texts p.prefix p.block)

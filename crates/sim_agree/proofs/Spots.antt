@@ -18,15 +18,17 @@ use Rattle.sim_scope.specs.declared.types.Entry.TheVariants as entry
 use Rattle.sim_scope.specs.Building.{BuildingOf, Mark, block_around, broken_if, closed, closed_at, declared, found_in, level_in, marked, most_levels, opened, owner_of, parameter as parameter_of, placed, unspecified_at}
 use Rattle.sim_scope.specs.Declare.{result_named}
 use Rattle.sim_scope.specs.Runs.{run}
-use Rattle.sim_scope.specs.Scopes.{around, declared_in}
+use Rattle.sim_scope.specs.Access.{around}
+use Rattle.sim_scope.specs.Scopes.{declared_in, has_detach}
 use Rattle.sim_meaning.specs.Entries.{numbers_in}
 use Rattle.sim_sound.specs.Typed.{Among}
 use Rattle.sim_scope.specs.Tables.{BlockOf}
-use Rattle.sim_scope.proofs.Kept.{kept_set, more_here, more_other}
+use Rattle.sim_scope.proofs.Kept.{kept_more, kept_set, more_here, more_other}
 use Rattle.sim_meaning.specs.Texts.{BlockText, ProcedureText, Text}
 use Rattle.sim_tree.specs.Order.{Ascends, Spot}
 use Rattle.sim_agree.proofs.Laid.{Frame, Laid, Part, Sub, Use, block, closes, declares, frame, headed, leaves, moded, nothing, parameter, passes, procedure, program, specified, text_used, uses}
-use Rattle.sim_agree.proofs.Steps.{AllEven, Changed, Declared, Nothing, Step, declared_step, headed_step, moded_step, parameter_step, specified_step}
+use Rattle.sim_agree.proofs.Steps.{AllEven, Changed, Declared, Nothing, Step, Unmatched, declared_step, headed_step, moded_step, own_unmatched, parameter_step, procedure_unmatched, specified_met}
+use Rattle.sim_agree.proofs.WithoutClasses.{WithoutClasses, extras_in, no_extras}
 use Rattle.sim_agree.proofs.Fine.{same_around}
 
 -- ---- the open texts
@@ -95,6 +97,7 @@ pub record Lays (b : BuildingOf) (ts : List Text) (os : List Frame) (from high :
   pub done : (n : ℕ) (x : Text) (p : Part) → slice_get ts n ≡ Some x → Has p (text_used x) → Fact b ts from n p ⊎ LeftAt b.tables.blocks b.current os n p
   pub below : (d : ℕ) (row : Declaration) → slice_get b.tables.declarations d ≡ Some row → row.token.0 < high
   pub rising : (d e : ℕ) (row other : Declaration) → slice_get b.tables.declarations d ≡ Some row → slice_get b.tables.declarations e ≡ Some other → d < e → row.token.0 < other.token.0
+  pub bare : WithoutClasses b.tables
 
 abbrev pub Lay : BuildingOf → List Text → List Frame → ℕ → Type 0
 Lay b ts os from = Lays b ts os from from
@@ -119,6 +122,7 @@ use_laid b ts x u i os from le l = record {
   done = λ n y p at has. done n p (l.done n y p at has);
   below = λ d row at. (let lt : row.token.0 < from = l.below d row at in omega arith);
   rising = l.rising;
+  bare = l.bare;
 }
   where
     later : (n j : ℕ) → Here b from n j → Here b (i + 1) n j
@@ -143,6 +147,7 @@ later_laid b ts os from high to le up l = record {
   done = λ n y p at has. done n p (l.done n y p at has);
   below = λ d row at. (let lt : row.token.0 < high = l.below d row at in omega arith);
   rising = l.rising;
+  bare = l.bare;
 }
   where
     later : (n j : ℕ) → Here b from n j → Here b to n j
@@ -176,6 +181,7 @@ step_laid b c New s ts os from to le new l = record {
   done = λ n y p at has. done n p (l.done n y p at has);
   below = λ d row at. below row (row_of d row at);
   rising = λ d e row other at at' lt. rising d e row other lt (row_of d row at) (row_of e other at');
+  bare = s.bare l.bare;
 }
   where
     keep : (n : ℕ) (x : Text) → slice_get ts n ≡ Some x → (around (slice_get c.tables.blocks n) ≡ around (slice_get b.tables.blocks n)) × (slice_get ts n ≡ Some x)
@@ -256,17 +262,18 @@ filled_here b from to n i le reach (inr q) =
     let lt : i < from = q.1 in
     filled_at b.tables.places b.current (to - length b.tables.places) i low (omega arith) ∙ ap Some q.2
 
-begun_laid : (b : BuildingOf) (new : BlockOf) (first : ℕ) (ts : List Text) (x : Text) (os ps : List Frame) (from high : ℕ) → from ≤ first → high ≤ first + 1 → new.encloser ≡ b.current
+begun_laid : (b : BuildingOf) (new : BlockOf) (first : ℕ) (ts : List Text) (x : Text) (os ps : List Frame) (from high : ℕ) → from ≤ first → high ≤ first + 1 → new.encloser ≡ b.current → extras_in (Some new) ≡ no_extras
     → Lays b ts os from high → Stack b.tables.blocks ts b.current ps
     → ((n : ℕ) (p : Part) → LeftAt b.tables.blocks b.current os n p → LeftAt b.tables.blocks b.current ps n p ⊎ ((b.current ≡ Some n) × (i : ℕ) × (ds : Declarations) × (ss : Statements) × (p ≡ Sub i) × (x ≡ BlockText i ds ss) × (i ≡ first)))
     → Lay (record b { tables = record b.tables { blocks = b.tables.blocks ++ new ∷ []; places = (placed b.tables b.current first).places }; current = Some (length b.tables.blocks) }) (ts ++ x ∷ []) (frame x (text_used x) ∷ ps) (first + 1)
-begun_laid b new first ts x os ps from high le up around_is l stack pop = record {
+begun_laid b new first ts x os ps from high le up around_is without l stack pop = record {
   size = length-append bs (new ∷ []) ∙ (let e : length bs ≡ length ts = l.size in ap (λ z. z + 1) e) ∙ sym (length-append ts (x ∷ []));
   stack = (length bs, refl, at, subst (λ z. Stack cs us z ps) (sym under) (stack_kept bs cs ts us keep ps b.current stack));
   reach = (let e : length (placed b.tables b.current first).places ≡ first = long in omega arith);
   done = λ n y p is has. done n y p has (text_cases ts x n y is);
   below = λ d row is. (let lt : row.token.0 < high = l.below d row is in omega arith);
   rising = l.rising;
+  bare = record { blocks = λ k. kept_more extras_in bs new without k ∙ l.bare.blocks k; virtuals = l.bare.virtuals; qualified = l.bare.qualified };
 }
   where
     bs : List BlockOf
@@ -336,6 +343,7 @@ if_laid true b token rule ts os from l = record {
   done = λ n x p at has. done n p (l.done n x p at has);
   below = l.below;
   rising = l.rising;
+  bare = l.bare;
 }
   where
     done : (n : ℕ) (p : Part) → Fact b ts from n p ⊎ LeftAt b.tables.blocks b.current os n p → Fact (broken_if true b token rule) ts from n p ⊎ LeftAt b.tables.blocks b.current os n p
@@ -345,11 +353,11 @@ if_laid true b token rule ts os from l = record {
 abbrev Pops : BuildingOf → Text → (first : ℕ) → (os ps : List Frame) → Type 0
 Pops b x first os ps = (n : ℕ) (p : Part) → LeftAt b.tables.blocks b.current os n p → LeftAt b.tables.blocks b.current ps n p ⊎ ((b.current ≡ Some n) × (i : ℕ) × (ds : Declarations) × (ss : Statements) × (p ≡ Sub i) × (x ≡ BlockText i ds ss) × (i ≡ first))
 
-opened_laid : (b : BuildingOf) (k : BlockKind) (text first : ℕ) (ts : List Text) (x : Text) (os ps : List Frame) (from high : ℕ) → from ≤ first → high ≤ first + 1 → Lays b ts os from high → Stack b.tables.blocks ts b.current ps → Pops b x first os ps
+opened_laid : (b : BuildingOf) (k : BlockKind) (text first : ℕ) (ts : List Text) (x : Text) (os ps : List Frame) (from high : ℕ) → from ≤ first → high ≤ first + 1 → has_detach k ≡ false → Lays b ts os from high → Stack b.tables.blocks ts b.current ps → Pops b x first os ps
     → Lay (opened b k text first) (ts ++ x ∷ []) (frame x (text_used x) ∷ ps) (first + 1)
-opened_laid b k text first ts x os ps from high le up l stack pop =
+opened_laid b k text first ts x os ps from high le up plain l stack pop =
     if_laid (nat_lt most_levels (level_in k (block_around b.tables b.current))) _ text r.TooManyLevels (ts ++ x ∷ []) (frame x (text_used x) ∷ ps) (first + 1)
-    (begun_laid b (record { kind = k; first = first; end = first; encloser = b.current; level = level_in k (block_around b.tables b.current); owner = owner_of k b.latest; formals = 0; inner = None; names = []; numbers = [] }) first ts x os ps from high le up refl l stack pop)
+    (begun_laid b (record { kind = k; first = first; end = first; encloser = b.current; level = level_in k (block_around b.tables b.current); owner = owner_of k b.latest; formals = 0; inner = None; prefix = None; base = None; standard = None; names = []; numbers = []; has_class = false; brought_names = []; brought = []; protected = []; hidden = [] }) first ts x os ps from high le up refl (ap (λ z. record { detach = z; prefix = None; base = None; standard = None; protected = [] }) plain) l stack pop)
 
 -- a sub-block stands among the parts of the text around it
 pop_sub : (b : BuildingOf) (i : ℕ) (ds : Declarations) (ss : Statements) (x : Text) (u : List Part) (os : List Frame) → Pops b (BlockText i ds ss) i (frame x (Sub i ∷ u) ∷ os) (frame x u ∷ os)
@@ -375,6 +383,7 @@ closed_row b end n (Some row) ts x os from le cur at found is l = record {
   done = λ m y p is has. done m p (l.done m y p is has);
   below = λ d r is. (let lt : r.token.0 < from = l.below d r is in omega arith);
   rising = l.rising;
+  bare = record { blocks = λ j. kept_set extras_in bs n row new at refl j ∙ l.bare.blocks j; virtuals = l.bare.virtuals; qualified = l.bare.qualified };
 }
   where
     bs : List BlockOf
@@ -427,9 +436,9 @@ pub record Final (b : BuildingOf) (ts : List Text) : Type 0 where
   pub laid : Lay b ts [] to
 
 -- an identifier is declared
-named_laid : (b : BuildingOf) (x : Identifier) (e : Entry) (n : ℕ) (ts : List Text) (o : Frame) (os : List Frame) (from : ℕ) → from ≤ x.token.0 → b.current ≡ Some n → Lay b ts (o ∷ os) from → Lays (declared b x e) ts (o ∷ os) from (x.token.0 + 1)
-named_laid b x e n ts o os from le cur f =
-    step_laid b (declared b x e) (Declared (length b.tables.declarations) x e n) (declared_step b x e n cur) ts (o ∷ os) from (x.token.0 + 1) (omega arith)
+named_laid : (b : BuildingOf) (x : Identifier) (e : Entry) (n : ℕ) (ts : List Text) (o : Frame) (os : List Frame) (from : ℕ) → Unmatched b.tables e → from ≤ x.token.0 → b.current ≡ Some n → Lay b ts (o ∷ os) from → Lays (declared b x e) ts (o ∷ os) from (x.token.0 + 1)
+named_laid b x e n ts o os from alone le cur f =
+    step_laid b (declared b x e) (Declared (length b.tables.declarations) x e n) (declared_step b x e n alone cur) ts (o ∷ os) from (x.token.0 + 1) (omega arith)
     (λ d row q. (q.0, (let t : row.token.0 ≡ x.token.0 = ap (λ (z : TokenNo). z.0) q.1.1 in omega arith), (let t : row.token.0 ≡ x.token.0 = ap (λ (z : TokenNo). z.0) q.1.1 in omega arith))) f
 
 pub run_laid : {os : List Frame} {ms : List Mark} {l : List Spot} {xs : List Text} (b : BuildingOf) (ts : List Text) (from : ℕ) → Laid os ms l xs → Ascends from l → Lay b ts os from → Final (run marked b ms) (ts ++ xs)
@@ -438,11 +447,11 @@ run_laid {os = os} b ts from (nothing e) a f = record { to = from; laid = subst 
 run_laid b ts from (uses {os = os} x u i g) a f = run_laid b ts (i + 1) g a.1 (use_laid b ts x u i os from a.0 f)
 run_laid {os = os} b ts from (passes i g) a f = run_laid b ts (i + 1) g a.1 (later_laid b ts os from from (i + 1) (let le : from ≤ i = a.0 in omega arith) (let le : from ≤ i = a.0 in omega arith) f)
 run_laid {os = os} b ts from (leaves i g) a f = run_laid b ts i g a.1 (later_laid b ts os from from i a.0 a.0 f)
-run_laid b ts from (declares {o = o} {os = os} x e g) a f =
+run_laid b ts from (declares {o = o} {os = os} x e own g) a f =
     let n : ℕ = f.stack.0 in
     run_laid (declared b x e) ts (x.token.0 + 1) g a.1
     (later_laid (declared b x e) ts (o ∷ os) from (x.token.0 + 1) (x.token.0 + 1) (let le : from ≤ x.token.0 = a.0 in omega arith) (let z : x.token.0 + 1 ≤ x.token.0 + 1 = omega arith in z)
-    (named_laid b x e n ts o os from a.0 f.stack.1 f))
+    (named_laid b x e n ts o os from (own_unmatched b.tables e own) a.0 f.stack.1 f))
 run_laid b ts from (parameter {o = o} {os = os} x g) a f =
     let n : ℕ = f.stack.0 in
     run_laid (parameter_of b x) ts (x.token.0 + 1) g a.1
@@ -452,16 +461,16 @@ run_laid b ts from (parameter {o = o} {os = os} x g) a f =
 run_laid {os = os} b ts from (moded x g) a f =
     run_laid _ ts from g a (step_laid b _ Nothing (moded_step b x.token (found_in b.tables b.current x.name)) ts os from from (let z : from ≤ from = omega arith in z) (λ d row q. absurd q) f)
 run_laid {os = os} b ts from (specified x k ty p g) a f =
-    run_laid _ ts from g a (step_laid b _ Nothing (specified_step b x.token k ty (found_in b.tables b.current x.name) p) ts os from from (let z : from ≤ from = omega arith in z) (λ d row q. absurd q) f)
+    run_laid _ ts from g a (step_laid b _ Nothing (specified_met b x.token k ty (found_in b.tables b.current x.name) p) ts os from from (let z : from ≤ from = omega arith in z) (λ d row q. absurd q) f)
 run_laid {os = os} b ts from (headed x g) a f =
     run_laid _ ts from g a (step_laid b _ Nothing (headed_step b x.token (unspecified_at b.tables (found_in b.tables b.current x.name))) ts os from from (let z : from ≤ from = omega arith in z) (λ d row q. absurd q) f)
 run_laid b ts from (program {ms = ms} {xs = xs} text i ds ss g) a f =
     let x : Text = BlockText i ds ss in
-    let q = run_laid (opened b kind.Program text i) (ts ++ x ∷ []) (i + 1) g a.1 (opened_laid b kind.Program text i ts x [] [] from from a.0 (let le : from ≤ i = a.0 in omega arith) f f.stack (pop_none b x i [])) in
+    let q = run_laid (opened b kind.Program text i) (ts ++ x ∷ []) (i + 1) g a.1 (opened_laid b kind.Program text i ts x [] [] from from a.0 (let le : from ≤ i = a.0 in omega arith) refl f f.stack (pop_none b x i [])) in
     record { to = q.to; laid = subst (λ z. Lay (run marked (opened b kind.Program text i) ms) z [] q.to) (append_assoc ts (x ∷ []) xs) q.laid }
 run_laid b ts from (block {os = os} {ms = ms} {xs = xs} text i ds ss y u g) a f =
     let x : Text = BlockText i ds ss in
-    let q = run_laid (opened b kind.SubBlock text i) (ts ++ x ∷ []) (i + 1) g a.1 (opened_laid b kind.SubBlock text i ts x (frame y (Sub i ∷ u) ∷ os) (frame y u ∷ os) from from a.0 (let le : from ≤ i = a.0 in omega arith) f f.stack (pop_sub b i ds ss y u os)) in
+    let q = run_laid (opened b kind.SubBlock text i) (ts ++ x ∷ []) (i + 1) g a.1 (opened_laid b kind.SubBlock text i ts x (frame y (Sub i ∷ u) ∷ os) (frame y u ∷ os) from from a.0 (let le : from ≤ i = a.0 in omega arith) refl f f.stack (pop_sub b i ds ss y u os)) in
     record { to = q.to; laid = subst (λ z. Lay (run marked (opened b kind.SubBlock text i) ms) z [] q.to) (append_assoc ts (x ∷ []) xs) q.laid }
 run_laid b ts from (procedure {o = o} {os = os} {ms = ms} {xs = xs} text result h body g) a f =
     let x : Text = ProcedureText result h body in
@@ -469,9 +478,9 @@ run_laid b ts from (procedure {o = o} {os = os} {ms = ms} {xs = xs} text result 
     let i : ℕ = h.name.token.0 in
     let e : Entry = entry.Procedure (result_named result) (length b.tables.blocks) in
     let c : BuildingOf = declared b h.name (entry.Procedure (result_named result) (length b.tables.blocks)) in
-    let k = named_laid b h.name e n ts o os from a.0 f.stack.1 f in
+    let k = named_laid b h.name e n ts o os from (procedure_unmatched b.tables (result_named result) (length b.tables.blocks) f.bare.virtuals) a.0 f.stack.1 f in
     let q = run_laid (opened c kind.Procedure text i) (ts ++ x ∷ []) (i + 1) g a.1
-    (opened_laid c kind.Procedure text i ts x (o ∷ os) (o ∷ os) from (i + 1) a.0 (let z : i + 1 ≤ i + 1 = omega arith in z) k k.stack (pop_none c x i (o ∷ os))) in
+    (opened_laid c kind.Procedure text i ts x (o ∷ os) (o ∷ os) from (i + 1) a.0 (let z : i + 1 ≤ i + 1 = omega arith in z) refl k k.stack (pop_none c x i (o ∷ os))) in
     record { to = q.to; laid = subst (λ z. Lay (run marked (opened c kind.Procedure text i) ms) z [] q.to) (append_assoc ts (x ∷ []) xs) q.laid }
 run_laid b ts from (closes {os = os} x end g) a f =
     let row = row_of_text b ts (frame x [] ∷ os) from f f.stack.0 x f.stack.2 in run_laid (closed b end b.current) ts end g a.1 (closed_laid b end ts x os from a.0 f row.0 row.1)

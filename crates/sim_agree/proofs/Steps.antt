@@ -22,13 +22,14 @@ use Rattle.sim_scope.specs.declared.types.Mode.{Mode}
 use Rattle.sim_scope.specs.declared.types.Mode.TheVariants as mode
 use Rattle.sim_scope.specs.declared.types.SimType.{SimType}
 use Rattle.sim_scope.specs.declared.types.WrittenMode.{WrittenMode}
-use Rattle.sim_scope.specs.Building.{BuildingOf, broken, broken_if, counted, counted_in, declared, declared_at, declared_inside, declared_new, default_mode, entered, formal, headed, in_class, is_procedure, is_simple, mode_allowed, moded, moded_as, parameter, specified, specified_as, token_in, unspecified_in, with_entry, with_mode, with_name}
-use Rattle.sim_scope.specs.Scopes.{declared_in, entry_in, entry_of, numbered}
+use Rattle.sim_scope.specs.Building.{BuildingOf, broken, broken_if, counted, counted_in, declared, declared_again, declared_at, declared_inside, declared_new, declared_twice, default_mode, entered, formal, headed, in_class, is_match, is_procedure, is_simple, matched, mode_allowed, moded, moded_as, parameter, row_of, specified, specified_as, token_in, unspecified_in, with_entry, with_mode, with_name}
+use Rattle.sim_scope.specs.Scopes.{declared_in, entry_in, entry_of, is_virtual, numbered}
 use Rattle.sim_scope.specs.Tables.{BlockOf, Tables}
 use Rattle.sim_scope.proofs.Kept.{kept_set, more_here, more_other, set_here, set_other}
 use Rattle.sim_meaning.specs.Entries.{numbers_in}
 use Rattle.sim_sound.specs.Typed.{Among, first, later}
-use Rattle.sim_agree.proofs.Groups.{PlainFormal}
+use Rattle.sim_agree.proofs.Groups.{OwnEntry, PlainFormal}
+use Rattle.sim_agree.proofs.WithoutClasses.{NoVirtuals, WithoutClasses, extras_in}
 
 -- ---- lists of numbers
 
@@ -176,6 +177,7 @@ pub record Step (b c : BuildingOf) (New : ℕ → Declaration → Type 0) : Type
   pub evens : AllEven b.tables.blocks → AllEven c.tables.blocks
   pub looks : (j : ℕ) (name : List ℕ) (d : DeclNo) → declared_in (slice_get b.tables.blocks j) name ≡ Some d → declared_in (slice_get c.tables.blocks j) name ≡ Some d
   pub stays : (d : ℕ) (old : Declaration) → slice_get b.tables.declarations d ≡ Some old → (row : Declaration) × (slice_get c.tables.declarations d ≡ Some row) × Changed old row
+  pub bare : WithoutClasses b.tables → WithoutClasses c.tables
 
 -- nothing new
 abbrev pub Nothing : ℕ → Declaration → Type 0
@@ -199,11 +201,12 @@ same_step b c New t k = record {
   evens = λ a j. subst (λ (s : Tables). Even (slice_get s.blocks j)) (sym t) (a j);
   looks = λ j name d e. subst (λ (s : Tables). declared_in (slice_get s.blocks j) name ≡ Some d) (sym t) e;
   stays = λ d old e. (old, ap (λ (s : Tables). slice_get s.declarations d) t ∙ e, unchanged old);
+  bare = λ w. subst WithoutClasses (sym t) w;
 }
 
 -- a broken rule changes no table
 pub broken_step : (a : Bool) (b c : BuildingOf) (token : ℕ) (rule : Rule) (New : ℕ → Declaration → Type 0) → Step b c New → Step b (broken_if a c token rule) New
-broken_step true b c token rule New h = record { current = h.current; size = h.size; fixes = h.fixes; others = h.others; more = h.more; fewer = h.fewer; rows = h.rows; places = h.places; evens = h.evens; looks = h.looks; stays = h.stays }
+broken_step true b c token rule New h = record { current = h.current; size = h.size; fixes = h.fixes; others = h.others; more = h.more; fewer = h.fewer; rows = h.rows; places = h.places; evens = h.evens; looks = h.looks; stays = h.stays; bare = h.bare }
 broken_step false b c token rule New h = h
 
 -- ---- a declaration
@@ -214,10 +217,10 @@ some_same a b e = cc
 number_same : (d : DeclNo) (n : ℕ) → d ≡ record { 0 = n } → d.0 ≡ n
 number_same d n e = ap (λ (z : DeclNo). z.0) e
 
-new_step : (b : BuildingOf) (x : Identifier) (e : Entry) (n : ℕ) (row : BlockOf) → b.current ≡ Some n → slice_get b.tables.blocks n ≡ Some row → list_any (bytes_eq x.name) row.names ≡ false
-    → Step b (record b { tables = record b.tables { blocks = slice_set b.tables.blocks n (with_name row x.name (record { 0 = length b.tables.declarations })); declarations = b.tables.declarations ++ record { name = x.name; token = x.token; block = n; entry = e } ∷ [] }; latest = Some (record { 0 = length b.tables.declarations }) })
+new_step : (b : BuildingOf) (x : Identifier) (e : Entry) (n : ℕ) (row : BlockOf) → is_virtual e ≡ false → b.current ≡ Some n → slice_get b.tables.blocks n ≡ Some row → list_any (bytes_eq x.name) row.names ≡ false
+    → Step b (record b { tables = record b.tables { blocks = slice_set b.tables.blocks n (with_name row x.name (record { 0 = length b.tables.declarations })); declarations = b.tables.declarations ++ row_of x e n true ∷ [] }; own = b.own + 1; latest = Some (record { 0 = length b.tables.declarations }) })
     (λ d row. (d ≡ length b.tables.declarations) × IsRow x e n row)
-new_step b x e n row cur at fresh_name = record {
+new_step b x e n row plain cur at fresh_name = record {
   current = refl;
   size = length-set bs n new;
   fixes = λ j. kept_set fixed bs n row new at refl j;
@@ -229,6 +232,7 @@ new_step b x e n row cur at fresh_name = record {
   evens = λ a j. evens j (nat_eq n j) refl (a j);
   looks = λ j name d is. looks j name d (nat_eq n j) refl is;
   stays = λ d old is. (old, more_other ds fresh d (within d old is) ∙ is, unchanged old);
+  bare = λ w. record { blocks = λ j. kept_set extras_in bs n row new at refl j ∙ w.blocks j; virtuals = λ d found is. plainly d found w.virtuals (nat_eq d (length ds)) refl is; qualified = w.qualified };
 }
   where
     bs : List BlockOf
@@ -244,7 +248,14 @@ new_step b x e n row cur at fresh_name = record {
     new = with_name row x.name number
 
     fresh : Declaration
-    fresh = record { name = x.name; token = x.token; block = n; entry = e }
+    fresh = row_of x e n true
+
+    plainly : (d : ℕ) (found : Declaration) → NoVirtuals ds → (c : Bool) → nat_eq d (length ds) ≡ c → slice_get (ds ++ fresh ∷ []) d ≡ Some found → is_virtual found.entry ≡ false
+    plainly d found w true is at' =
+        let same : d ≡ length ds = grind (arith, nat_tests) in
+        let f : fresh ≡ found = some_same fresh found (sym (more_here ds fresh) ∙ subst (λ z. slice_get (ds ++ fresh ∷ []) z ≡ Some found) same at') in
+        subst (λ (z : Declaration). is_virtual z.entry ≡ false) f plain
+    plainly d found w false is at' = w d found (sym (more_other ds fresh d is) ∙ at')
 
     differ : (j : ℕ) → (b.current ≡ Some j → ⊥) → (c : Bool) → nat_eq n j ≡ c → nat_eq n j ≡ false
     differ j q true is = absurd (q (cur ∙ ap Some (let P : n ≡ j = grind (arith, nat_tests) in P)))
@@ -307,17 +318,59 @@ new_step b x e n row cur at fresh_name = record {
 abbrev pub Declared : ℕ → Identifier → Entry → ℕ → ℕ → Declaration → Type 0
 Declared next x e n d row = (d ≡ next) × IsRow x e n row
 
-declared_row : (b : BuildingOf) (x : Identifier) (e : Entry) (n : ℕ) (o : Option BlockOf) → b.current ≡ Some n → slice_get b.tables.blocks n ≡ o
-    → Step b (declared_at b x e n o) (Declared (length b.tables.declarations) x e n)
-declared_row b x e n None cur at = same_step b b _ refl refl
-declared_row b x e n (Some row) cur at = go (list_any (bytes_eq x.name) row.names) refl
-  where
-    go : (c : Bool) → list_any (bytes_eq x.name) row.names ≡ c → Step b (if c then broken (record b { latest = declared_in (Some row) x.name }) x.token.0 r.DeclaredTwice else declared_new b x e n row) (Declared (length b.tables.declarations) x e n)
-    go true is = same_step b _ _ refl refl
-    go false is = broken_step (nat_eq (length b.tables.declarations) 65535) b _ x.token.0 r.TooManyDeclarations _ (new_step b x e n row cur at is)
+-- what is declared is no virtual, and matches none
+abbrev pub Unmatched : Tables → Entry → Type 0
+Unmatched t e = (is_virtual e ≡ false) × ((d : DeclNo) → is_match e (entry_of t d) ≡ false)
 
-pub declared_step : (b : BuildingOf) (x : Identifier) (e : Entry) (n : ℕ) → b.current ≡ Some n → Step b (declared b x e) (Declared (length b.tables.declarations) x e n)
-declared_step b x e n cur = subst (λ o. Step b (declared_inside b x e o) (Declared (length b.tables.declarations) x e n)) (sym cur) (declared_row b x e n (slice_get b.tables.blocks n) cur refl)
+declared_row : (b : BuildingOf) (x : Identifier) (e : Entry) (n : ℕ) (o : Option BlockOf) → Unmatched b.tables e → b.current ≡ Some n → slice_get b.tables.blocks n ≡ o
+    → Step b (declared_at b x e n o) (Declared (length b.tables.declarations) x e n)
+declared_row b x e n None alone cur at = same_step b b _ refl refl
+declared_row b x e n (Some row) alone cur at = go (list_any (bytes_eq x.name) row.names) refl
+  where
+    again : (o : Option DeclNo) → Step b (declared_again b x e n o) (Declared (length b.tables.declarations) x e n)
+    again None = same_step b _ _ refl refl
+    again (Some d) = subst (λ c. Step b (if c then matched b x e n d else declared_twice b x (Some d)) (Declared (length b.tables.declarations) x e n)) (sym (alone.1 d)) (same_step b _ _ refl refl)
+
+    go : (c : Bool) → list_any (bytes_eq x.name) row.names ≡ c → Step b (if c then declared_again b x e n (declared_in (Some row) x.name) else declared_new b x e n row) (Declared (length b.tables.declarations) x e n)
+    go true is = again (declared_in (Some row) x.name)
+    go false is = broken_step (nat_eq b.own 65535) b _ x.token.0 r.TooManyDeclarations _ (new_step b x e n row alone.0 cur at is)
+
+pub declared_step : (b : BuildingOf) (x : Identifier) (e : Entry) (n : ℕ) → Unmatched b.tables e → b.current ≡ Some n → Step b (declared b x e) (Declared (length b.tables.declarations) x e n)
+declared_step b x e n alone cur = subst (λ o. Step b (declared_inside b x e o) (Declared (length b.tables.declarations) x e n)) (sym cur) (declared_row b x e n (slice_get b.tables.blocks n) alone cur refl)
+
+-- what a block declares itself but for its procedures, what is not specified yet, and a procedure in tables without virtuals
+pub own_unmatched : (t : Tables) (e : Entry) → OwnEntry e → Unmatched t e
+own_unmatched t (entry.Variable ty) own = (refl, λ d. refl)
+own_unmatched t (entry.Constant ty) own = (refl, λ d. refl)
+own_unmatched t (entry.Array ty n) own = (refl, λ d. refl)
+own_unmatched t (entry.Procedure ty n) own = absurd own
+own_unmatched t (entry.Class n) own = absurd own
+own_unmatched t (entry.Virtual ty n) own = absurd own
+own_unmatched t (entry.Formal f) own = absurd own
+own_unmatched t (entry.Attribute name parameter result) own = absurd own
+own_unmatched t (entry.Unspecified w) own = absurd own
+
+pub unspecified_unmatched : (t : Tables) (w : Option WrittenMode) → Unmatched t (entry.Unspecified w)
+unspecified_unmatched t w = (refl, λ d. refl)
+
+pub procedure_unmatched : (t : Tables) (result : Option SimType) (k : ℕ) → NoVirtuals t.declarations → Unmatched t (entry.Procedure result k)
+unfolding entry_of
+procedure_unmatched t result k none = (refl, λ d. go d (slice_get t.declarations d.0) refl)
+  where
+    no_match : (e : Entry) → is_virtual e ≡ false → is_match (entry.Procedure result k) (Some e) ≡ false
+    no_match (entry.Variable ty) is = refl
+    no_match (entry.Constant ty) is = refl
+    no_match (entry.Array ty n) is = refl
+    no_match (entry.Procedure ty n) is = refl
+    no_match (entry.Class n) is = refl
+    no_match (entry.Virtual ty n) is = absurd (cc)
+    no_match (entry.Formal f) is = refl
+    no_match (entry.Attribute name parameter given) is = refl
+    no_match (entry.Unspecified w) is = refl
+
+    go : (d : DeclNo) (o : Option Declaration) → slice_get t.declarations d.0 ≡ o → is_match (entry.Procedure result k) (entry_in o) ≡ false
+    go d None at = refl
+    go d (Some row) at = no_match row.entry (none d.0 row at)
 
 -- ---- parameters
 
@@ -336,6 +389,7 @@ counted_step b c n (Some row) New cur at h = record {
   evens = λ a j. even j (nat_eq n j) refl (h.evens a j);
   looks = λ j name d is. kept_set (λ o. declared_in o name) bs n row new at refl j ∙ h.looks j name d is;
   stays = h.stays;
+  bare = λ w. let v = h.bare w in record { blocks = λ j. kept_set extras_in bs n row new at refl j ∙ v.blocks j; virtuals = v.virtuals; qualified = v.qualified };
 }
   where
     bs : List BlockOf
@@ -362,14 +416,14 @@ counted_step b c n (Some row) New cur at h = record {
 pub parameter_step : (b : BuildingOf) (x : Identifier) (n : ℕ) → b.current ≡ Some n → Step b (parameter b x) (Declared (length b.tables.declarations) x (entry.Unspecified None) n)
 parameter_step b x n cur =
     let c : BuildingOf = declared b x (entry.Unspecified None) in
-    let h : Step b c (Declared (length b.tables.declarations) x (entry.Unspecified None) n) = declared_step b x (entry.Unspecified None) n cur in
+    let h : Step b c (Declared (length b.tables.declarations) x (entry.Unspecified None) n) = declared_step b x (entry.Unspecified None) n (unspecified_unmatched b.tables None) cur in
     subst (λ o. Step b (counted_in c o) (Declared (length b.tables.declarations) x (entry.Unspecified None) n)) (sym (h.current ∙ cur)) (counted_step b c n (slice_get c.tables.blocks n) _ cur refl h)
 
 -- ---- what becomes known of a parameter
 
-entry_step : (b : BuildingOf) (d : DeclNo) (w : Option WrittenMode) (e : Entry) (o : Option Declaration) → slice_get b.tables.declarations d.0 ≡ o → entry_in o ≡ Some (entry.Unspecified w) → (WrittenPlain w → Parametric e) → Step b (entered b d e o) Nothing
-entry_step b d w e None at is fine = absurd (cc)
-entry_step b d w e (Some row) at is fine = record {
+entry_step : (b : BuildingOf) (d : DeclNo) (w : Option WrittenMode) (e : Entry) (o : Option Declaration) → is_virtual e ≡ false → slice_get b.tables.declarations d.0 ≡ o → entry_in o ≡ Some (entry.Unspecified w) → (WrittenPlain w → Parametric e) → Step b (entered b d e o) Nothing
+entry_step b d w e None plain at is fine = absurd (cc)
+entry_step b d w e (Some row) plain at is fine = record {
   current = refl;
   size = refl;
   fixes = λ j. refl;
@@ -381,6 +435,7 @@ entry_step b d w e (Some row) at is fine = record {
   evens = λ a. a;
   looks = λ j name f p. p;
   stays = λ f old p. stays f old (nat_eq d.0 f) refl p;
+  bare = λ v. record { blocks = v.blocks; virtuals = λ f found p. plainly f found v.virtuals (nat_eq d.0 f) refl p; qualified = v.qualified };
 }
   where
     ds : List Declaration
@@ -398,6 +453,10 @@ entry_step b d w e (Some row) at is fine = record {
     old_here : (f : ℕ) → nat_eq d.0 f ≡ true → slice_get ds f ≡ Some row
     old_here f is = let same : d.0 ≡ f = grind (arith, nat_tests) in subst (λ z. slice_get ds z ≡ Some row) same at
 
+    plainly : (f : ℕ) (found : Declaration) → NoVirtuals ds → (c : Bool) → nat_eq d.0 f ≡ c → slice_get (slice_set ds d.0 new) f ≡ Some found → is_virtual found.entry ≡ false
+    plainly f found v true is p = subst (λ (z : Declaration). is_virtual z.entry ≡ false) (some_same new found (sym (here f is) ∙ p)) plain
+    plainly f found v false is p = v f found (sym (set_other ds d.0 f new is) ∙ p)
+
     rows : (f : ℕ) (found : Declaration) (c : Bool) → nat_eq d.0 f ≡ c → slice_get (slice_set ds d.0 new) f ≡ Some found → (old : Declaration) × (slice_get ds f ≡ Some old) × Changed old found
     rows f found true is p = (row, old_here f is, subst (Changed row) (some_same new found (sym (here f is) ∙ p)) change)
     rows f found false is p = (found, sym (set_other ds d.0 f new is) ∙ p, unchanged found)
@@ -408,6 +467,7 @@ entry_step b d w e (Some row) at is fine = record {
 
 is_unspecified : (o : Option Entry) (w : Option WrittenMode) → unspecified_in o ≡ Some w → o ≡ Some (entry.Unspecified w)
 is_unspecified (Some (entry.Unspecified v)) w e = ap (λ z. Some (entry.Unspecified z)) (some_same v w e)
+is_unspecified (Some (entry.Attribute name parameter result)) w e = absurd (cc)
 is_unspecified None w e = absurd (cc)
 is_unspecified (Some (entry.Variable ty)) w e = absurd (cc)
 is_unspecified (Some (entry.Constant ty)) w e = absurd (cc)
@@ -417,14 +477,14 @@ is_unspecified (Some (entry.Class n)) w e = absurd (cc)
 is_unspecified (Some (entry.Virtual ty n)) w e = absurd (cc)
 is_unspecified (Some (entry.Formal f)) w e = absurd (cc)
 
-with_entry_step : (b : BuildingOf) (d : DeclNo) (w : Option WrittenMode) (e : Entry) → unspecified_in (entry_of b.tables d) ≡ Some w → (WrittenPlain w → Parametric e) → Step b (with_entry b d e) Nothing
+with_entry_step : (b : BuildingOf) (d : DeclNo) (w : Option WrittenMode) (e : Entry) → is_virtual e ≡ false → unspecified_in (entry_of b.tables d) ≡ Some w → (WrittenPlain w → Parametric e) → Step b (with_entry b d e) Nothing
 unfolding entry_of
-with_entry_step b d w e is fine = entry_step b d w e (slice_get b.tables.declarations d.0) refl (is_unspecified (entry_in (slice_get b.tables.declarations d.0)) w is) fine
+with_entry_step b d w e plain is fine = entry_step b d w e (slice_get b.tables.declarations d.0) plain refl (is_unspecified (entry_in (slice_get b.tables.declarations d.0)) w is) fine
 
 moded_row : (b : BuildingOf) (token : TokenNo) (d : DeclNo) (o : Option (Option WrittenMode)) → unspecified_in (entry_of b.tables d) ≡ o → Step b (moded_as b token mode.ByValue d o) Nothing
 moded_row b token d None is = same_step b _ _ refl refl
 moded_row b token d (Some (Some w)) is = same_step b _ _ refl refl
-moded_row b token d (Some None) is = with_entry_step b d None (entry.Unspecified (Some (record { token = token; mode = mode.ByValue }))) is (λ q. refl)
+moded_row b token d (Some None) is = with_entry_step b d None (entry.Unspecified (Some (record { token = token; mode = mode.ByValue }))) refl is (λ q. refl)
 
 pub moded_step : (b : BuildingOf) (token : TokenNo) (o : Option DeclNo) → Step b (moded b token mode.ByValue o) Nothing
 moded_step b token None = same_step b _ _ refl refl
@@ -441,16 +501,26 @@ no_default_name shape.Array ty = tt
 no_default_name shape.Procedure ty = tt
 
 specified_mode : (b : BuildingOf) (d : DeclNo) (k : FormalKind) (ty : Option SimType) (w : Option WrittenMode) → unspecified_in (entry_of b.tables d) ≡ Some w → PlainFormal k ty → Step b (with_mode b d k ty w) Nothing
-specified_mode b d k ty None is p = with_entry_step b d None (formal (default_mode k ty) k ty) is (λ q. (no_default_name k ty, p))
-specified_mode b d k ty (Some w) is p = broken_step (not (mode_allowed w.mode k ty)) b _ w.token.0 r.ModeNotAllowed Nothing (with_entry_step b d (Some w) (formal w.mode k ty) is (λ q. (subst NoName (sym q) tt, p)))
+specified_mode b d k ty None is p = with_entry_step b d None (formal (default_mode k ty) k ty) refl is (λ q. (no_default_name k ty, p))
+specified_mode b d k ty (Some w) is p = broken_step (not (mode_allowed w.mode k ty)) b _ w.token.0 r.ModeNotAllowed Nothing (with_entry_step b d (Some w) (formal w.mode k ty) refl is (λ q. (subst NoName (sym q) tt, p)))
 
 specified_row : (b : BuildingOf) (token : TokenNo) (k : FormalKind) (ty : Option SimType) (d : DeclNo) (o : Option (Option WrittenMode)) → unspecified_in (entry_of b.tables d) ≡ o → PlainFormal k ty → Step b (specified_as b token k ty d o) Nothing
 specified_row b token k ty d None is p = same_step b _ _ refl refl
 specified_row b token k ty d (Some w) is p = broken_step (is_procedure k && in_class b) b _ (token_in (slice_get b.tables.declarations d.0)) r.ModeNotAllowed Nothing (specified_mode b d k ty w is p)
 
-pub specified_step : (b : BuildingOf) (token : TokenNo) (k : FormalKind) (ty : Option SimType) (o : Option DeclNo) → PlainFormal k ty → Step b (specified b token k ty o) Nothing
+specified_step : (b : BuildingOf) (token : TokenNo) (k : FormalKind) (ty : Option SimType) (o : Option DeclNo) → PlainFormal k ty → Step b (specified b token k ty o) Nothing
 specified_step b token k ty None p = same_step b _ _ refl refl
 specified_step b token k ty (Some d) p = specified_row b token k ty d (unspecified_in (entry_of b.tables d)) refl p
+
+-- which declaration was met last does not matter
+abbrev pub met : BuildingOf → Option DeclNo → BuildingOf
+met b o = record b { latest = o }
+
+met_step : (b c : BuildingOf) (o : Option DeclNo) → Step (met b o) c Nothing → Step b c Nothing
+met_step b c o h = record { current = h.current; size = h.size; fixes = h.fixes; others = h.others; more = h.more; fewer = h.fewer; rows = h.rows; places = h.places; evens = h.evens; looks = h.looks; stays = h.stays; bare = h.bare }
+
+pub specified_met : (b : BuildingOf) (token : TokenNo) (k : FormalKind) (ty : Option SimType) (o : Option DeclNo) → PlainFormal k ty → Step b (specified (met b o) token k ty o) Nothing
+specified_met b token k ty o p = met_step b (specified (met b o) token k ty o) o (specified_step (met b o) token k ty o p)
 
 pub headed_step : (b : BuildingOf) (token : TokenNo) (o : Option (Option WrittenMode)) → Step b (headed b token o) Nothing
 headed_step b token None = same_step b _ _ refl refl

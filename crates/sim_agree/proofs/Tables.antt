@@ -23,16 +23,18 @@ use Rattle.sim_scope.specs.declared.types.SimType.TheVariants as t
 use Rattle.sim_scope.specs.declared.types.WrittenMode.{WrittenMode}
 use Rattle.sim_scope.specs.Declare.{declared_by, empty, result_named, type_named}
 use Rattle.sim_scope.specs.Laws.{Innermost, further as innermost_further, here as innermost_here}
-use Rattle.sim_scope.specs.Scopes.{around, binding, block_at, declaration_from, declared_in, declared_or_standard, encloser, entry_in, entry_of, lookup, numbered, shown}
+use Rattle.sim_scope.specs.Access.{around, block_at, encloser}
+use Rattle.sim_scope.specs.Scopes.{binding, declaration_from, declared_in, declared_or_standard, entry_in, entry_of, lookup, numbered, shown}
 use Rattle.sim_scope.specs.Source.{Source, block_of, block_of_row, level_in, level_of}
 use Rattle.sim_scope.specs.Standard.{standard_name}
 use Rattle.sim_scope.specs.Tables.{BlockOf, Tables}
-use Rattle.sim_scope.proofs.Outward.{found_innermost}
+use Rattle.sim_scope.proofs.Searches.{found_innermost}
 use Rattle.sim_meaning.specs.Entries.{formals_from, formals_of, numbers_in, numbers_of}
 use Rattle.sim_meaning.specs.Texts.{BlockText, ClassText, ConnectionText, PrefixedText, ProcedureText, Text, has_class_in, is_class_free, is_class_kind, program_texts, text}
 use Rattle.sim_sound.specs.Typed.{Among, Around, FormalsAre, Holds, NoFormal, NoFormals, ProcedureThere, first, formal_holds, further, itself, later, named_kind, result_kind}
 use Rattle.sim_agree.specs.Facts.{ProperEntry, ProperFormal, ProperResult, ProperType}
 use Rattle.sim_agree.specs.Plain.{Plain, PlainResult, PlainType}
+use Rattle.sim_agree.proofs.WithoutClasses.{WithoutClasses, declared_is, goes_outward, nothing_bare, shown_here}
 use Rattle.sim_agree.proofs.Groups.{OwnEntry, PlainFormal, PlainKind, PlainSimType, program_grouped}
 use Rattle.sim_agree.proofs.Steps.{NoName, Parametric}
 use Rattle.sim_agree.proofs.Fine.{Agree, KindIs, OfProcedure, RowOf, run_agrees}
@@ -52,6 +54,7 @@ nothing_agrees = record {
     evens = λ j. tt;
     finds = λ d row is. absurd (cc);
     own = λ k d a. absurd (elim a [ ]);
+    bare = nothing_bare;
   };
   rows = λ d row is. absurd (cc);
 }
@@ -83,6 +86,10 @@ module _ (s : Source) (is : s.tables ≡ (declared_by s.program).tables) (plain 
 
   agree : Agree (declared_by s.program) (program_texts s.program.prefix s.program.block) []
   agree = program_agrees s.program plain
+
+  -- nothing of classes is in them
+  pub without_classes : WithoutClasses s.tables
+  without_classes = subst WithoutClasses (sym is) agree.fine.bare
 
   pub nesting : (t u : ℕ) → encloser s.tables t ≡ Some u → u < t
   unfolding encloser
@@ -138,6 +145,7 @@ module _ (s : Source) (is : s.tables ≡ (declared_by s.program).tables) (plain 
       go kind.Class p = absurd p
       go kind.Prefixed p = absurd p
       go kind.Connection p = absurd p
+      go (kind.StandardClass which) p = absurd p
   not_class (Some row) (Some (ProcedureText result h a)) k = ap is_class_kind k
   not_class (Some row) None k = absurd k
   not_class (Some row) (Some (ClassText p h a)) k = absurd k
@@ -251,6 +259,7 @@ module _ (s : Source) (is : s.tables ≡ (declared_by s.program).tables) (plain 
       go (entry.Virtual r n) q = absurd q
       go (entry.Formal f) q = absurd q
       go (entry.Unspecified w) q = absurd q
+      go (entry.Attribute name parameter result) q = absurd q
   no_formal row i ds ss (inr p) = subst (λ z. NoFormal (Some z)) (sym p.entry) tt
 
   pub no_formals : (k i : ℕ) (ds : Declarations) (ss : Statements) → text s k ≡ Some (BlockText i ds ss) → NoFormals s (numbers_of s k)
@@ -268,8 +277,8 @@ module _ (s : Source) (is : s.tables ≡ (declared_by s.program).tables) (plain 
 
   -- ---- what an identifier denotes
 
-  shown_row : (name : List ℕ) (k : ℕ) (d : DeclNo) → shown s.tables k name ≡ Some d → Among d (numbers_of s k)
-  unfolding shown lookup
+  shown_row : (name : List ℕ) (k : ℕ) (d : DeclNo) → lookup s.tables k name ≡ Some d → Among d (numbers_of s k)
+  unfolding lookup
   shown_row name k d e = go (slice_get Bs k) e
     where
       at_place : (ns : List DeclNo) (n : ℕ) → slice_get ns n ≡ Some d → Among d ns
@@ -285,34 +294,26 @@ module _ (s : Source) (is : s.tables ≡ (declared_by s.program).tables) (plain 
       go None e = absurd (cc)
       go (Some row) e = placed row.numbers _ e
 
-  innermost_around : (name : List ℕ) (k : ℕ) (d : DeclNo) → Innermost s.tables name k d → Around s.tables k (block_of s d) × ((row : Declaration) × (slice_get s.tables.declarations d.0 ≡ Some row))
-  innermost_around name k d (innermost_here e) =
-      let r = owned k d (shown_row name k d e) in (subst (λ z. Around s.tables k z) (sym (block_is d r.0 r.1 ∙ r.2)) itself, (r.0, r.1))
-  innermost_around name k d (innermost_further none out rest) = let r = innermost_around name _ d rest in (further out r.0, r.1)
+  innermost_around : (from : Option ℕ) (name : List ℕ) (k : ℕ) (d : DeclNo) → Innermost s.tables from name k d → Around s.tables k (block_of s d) × ((row : Declaration) × (slice_get s.tables.declarations d.0 ≡ Some row))
+  innermost_around from name k d (innermost_here e) =
+      let r = owned k d (shown_row name k d (sym (shown_here s.tables without_classes from k name) ∙ e)) in (subst (λ z. Around s.tables k z) (sym (block_is d r.0 r.1 ∙ r.2)) itself, (r.0, r.1))
+  innermost_around from name k d (innermost_further none out rest) =
+      let r = innermost_around from name _ d rest in (further (sym (goes_outward s.tables without_classes k name) ∙ out) r.0, r.1)
 
   declared_around : (token k : ℕ) (name : List ℕ) (d : DeclNo) → block_at s.tables token ≡ Some k → binding s.tables token name ≡ Some (denotation.Declared d)
       → Around s.tables k (block_of s d) × ((row : Declaration) × (slice_get s.tables.declarations d.0 ≡ Some row))
-  unfolding binding declaration_from
+  unfolding declaration_from
   declared_around token k name d at e =
-      innermost_around name k d (found_innermost s.tables (length s.tables.blocks) k name d
-      (of_declared (declaration_from s.tables (Some k) name) (standard_name name) (ap (λ o. declared_or_standard (declaration_from s.tables o name) (standard_name name)) (sym at) ∙ e)))
-    where
-      of_declared : (o : Option DeclNo) (q : Option Standard) → declared_or_standard o q ≡ Some (denotation.Declared d) → o ≡ Some d
-      of_declared (Some f) q e = (let h : f ≡ d = cc in ap Some h)
-      of_declared None (Some x) e = absurd (cc)
-      of_declared None None e = absurd (cc)
+      innermost_around (Some token) name k d (found_innermost s.tables (Some token) (length s.tables.blocks) k name d
+      (ap (λ o. declaration_from s.tables (Some token) o name) (sym at) ∙ declared_is s.tables without_classes token name d e))
 
   pub there : (token : ℕ) (name : List ℕ) (d : DeclNo) → binding s.tables token name ≡ Some (denotation.Declared d) → (e : Entry) × (entry_of s.tables d ≡ Some e)
-  unfolding binding declaration_from
+  unfolding declaration_from
   there token name d e = go (block_at s.tables token) refl
     where
-      none : (q : Option Standard) → declared_or_standard None q ≡ Some (denotation.Declared d) → ⊥
-      none (Some x) f = cc
-      none None f = cc
-
       go : (o : Option ℕ) → block_at s.tables token ≡ o → (f : Entry) × (entry_of s.tables d ≡ Some f)
       go (Some k) at = let r = (declared_around token k name d at e).1 in (r.0.entry, row_entry d r.0 r.1)
-      go None at = absurd (none (standard_name name) (ap (λ o. declared_or_standard (declaration_from s.tables o name) (standard_name name)) (sym at) ∙ e))
+      go None at = absurd (let none : None ≡ Some d = ap (λ o. declaration_from s.tables (Some token) o name) (sym at) ∙ declared_is s.tables without_classes token name d e in cc)
 
   pub enclosed : (token k : ℕ) (name : List ℕ) (d : DeclNo) → block_at s.tables token ≡ Some k → binding s.tables token name ≡ Some (denotation.Declared d) → Around s.tables k (block_of s d)
   enclosed token k name d at e = (declared_around token k name d at e).0
@@ -329,6 +330,7 @@ module _ (s : Source) (is : s.tables ≡ (declared_by s.program).tables) (plain 
   parametric_formal : (e : Entry) → Parametric e → ((w : Option WrittenMode) → e ≡ entry.Unspecified w → ⊥) → IsFormal e
   parametric_formal (entry.Formal f) p h = (f, refl, p.0, p.1)
   parametric_formal (entry.Unspecified w) p h = absurd (h w refl)
+  parametric_formal (entry.Attribute name parameter result) p h = absurd p
   parametric_formal (entry.Variable ty) p h = absurd p
   parametric_formal (entry.Constant ty) p h = absurd p
   parametric_formal (entry.Array ty n) p h = absurd p
@@ -411,6 +413,7 @@ module _ (s : Source) (is : s.tables ≡ (declared_by s.program).tables) (plain 
   proper_own (entry.Virtual r n) p = absurd p
   proper_own (entry.Formal f) p = absurd p
   proper_own (entry.Unspecified w) p = absurd p
+  proper_own (entry.Attribute name parameter result) p = absurd p
 
   proper_formal : (m : Mode) (k : FormalKind) (ty : Option SimType) → NoName m → PlainFormal k ty → ProperFormal m k ty
   proper_formal mode.ByName k ty n p = absurd n

@@ -41,6 +41,7 @@ plain_kind kind.Procedure (inl q) = tt
 plain_kind kind.Class (inl q) = absurd q
 plain_kind kind.Prefixed (inl q) = absurd q
 plain_kind kind.Connection (inl q) = absurd q
+plain_kind (kind.StandardClass which) (inl q) = absurd q
 
 pub tables_agree : (s : Source) → TablesOf s → Plain s.program → InOrder s.program → TablesAgree s
 tables_agree s of plain order =

@@ -1,5 +1,5 @@
 -- What is known of the tables of an allowed program without classes, parameters by name and formal procedures.
-use Rattle.std.specs.Prelude.{◌≡◌, ℕ, true, List, Option, Some, None}
+use Rattle.std.specs.Prelude.{◌≡◌, ◌<◌, ℕ, true, List, length, Option, Some, None}
 use Rattle.sim_base.specs.declared.numbering.DeclNo.{DeclNo}
 use Rattle.sim_scope.specs.declared.scopes.Denotation.TheVariants as denotation
 use Rattle.sim_scope.specs.declared.types.Entry.{Entry}
@@ -11,7 +11,8 @@ use Rattle.sim_scope.specs.declared.types.Mode.TheVariants as mode
 use Rattle.sim_scope.specs.declared.types.SimType.{SimType}
 use Rattle.sim_scope.specs.declared.types.SimType.TheVariants as t
 use Rattle.sim_scope.specs.Calls.{is_inside}
-use Rattle.sim_scope.specs.Scopes.{binding, block_at, entry_of}
+use Rattle.sim_scope.specs.Access.{block_at}
+use Rattle.sim_scope.specs.Scopes.{binding, entry_of}
 use Rattle.sim_scope.specs.Source.{Source, block_of}
 use Rattle.sim_values.specs.Plain.{Plain, kind_of}
 use Rattle.sim_meaning.specs.Entries.{formals_of, numbers_of}
@@ -52,6 +53,8 @@ pub record ConstantIs (s : Source) (d : DeclNo) (ty : SimType) : Type 0 where
   pub of_type : kind_of value ≡ kind_of_type ty
 
 pub record Tabled (s : Source) : Type 0 where
+  -- there is a block
+  pub some_block : 0 < length s.tables.blocks
   -- what an identifier denotes is in the tables
   pub there : (token : ℕ) (name : List ℕ) (d : DeclNo) → binding s.tables token name ≡ Some (denotation.Declared d) → (e : Entry) × (entry_of s.tables d ≡ Some e)
   pub proper : (d : DeclNo) (e : Entry) → entry_of s.tables d ≡ Some e → ProperEntry e

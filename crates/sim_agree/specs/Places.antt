@@ -1,7 +1,7 @@
 -- Where the parts of a text stand: the innermost block around each identifier that is used in it is the block of the text, and each of its
 -- sub-blocks stands in it.
 use Rattle.std.specs.Prelude.{◌≡◌, ℕ, Some}
-use Rattle.sim_scope.specs.Scopes.{block_at}
+use Rattle.sim_scope.specs.Access.{block_at}
 use Rattle.sim_scope.specs.Source.{Source}
 use Rattle.sim_scope.specs.Tables.{Tables}
 use Rattle.sim_sound.specs.Typed.{BlockIs}

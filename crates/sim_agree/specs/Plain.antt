@@ -1,15 +1,21 @@
 -- Programs without classes, parameters by name and formal procedures.
-use Rattle.std.specs.Prelude.{◌≡◌, List, [], ◌∷◌, Option, Some, None}
+use Rattle.std.specs.Prelude.{◌≡◌, false, List, [], ◌∷◌, Option, Some, None}
+use Rattle.sim_tree.specs.declared.expr.Identifier.{Identifier}
 use Rattle.sim_tree.specs.declared.stmt.Mode.{Mode as Word}
 use Rattle.sim_tree.specs.declared.stmt.Mode.TheVariants as word
 use Rattle.sim_tree.specs.declared.stmt.TypeName.{TypeName}
 use Rattle.sim_tree.specs.declared.stmt.TypeName.TheVariants as type_name
+use Rattle.sim_scope.specs.ClassNames.{is_name_of_classes}
 use Rattle.sim_tree.specs.Syntax as s
 use Rattle.sim_tree.specs.Syntax.{Expression, Expressions, Literal, Statement, Statements, Arms, Block, Declarations, Declaration, RightSide, Element, BoundPair, Arrayed, Heading, Moded, Specification, Specified, Prefix, Program}
 
 abbrev pub PlainLiteral : Literal → Type 0
 PlainLiteral s.NoObject = ⊥
 PlainLiteral _ = Unit {0}
+
+-- an identifier that is not spelt as a standard name of classes
+abbrev pub PlainName : Identifier → Type 0
+PlainName x = is_name_of_classes x.name ≡ false
 
 abbrev mutual
   pub PlainExpression : Expression → Type 0
@@ -19,7 +25,7 @@ abbrev mutual
   PlainExpression (s.Signed sign i a) = PlainExpression a
   PlainExpression (s.Dot i a name es) = PlainExpression a × PlainExpressions es
   PlainExpression (s.Constant literal i) = PlainLiteral literal
-  PlainExpression (s.Named name es) = PlainExpressions es
+  PlainExpression (s.Named name es) = PlainName name × PlainExpressions es
   PlainExpression (s.Parentheses i a) = PlainExpression a
   PlainExpression _ = ⊥
 
@@ -102,7 +108,7 @@ abbrev mutual
   PlainDeclaration (s.DeclareProcedure result i heading x end) = PlainResult result × PlainHeading heading × PlainStatement x
   PlainDeclaration (s.DeclareClass prefix i heading interface x end) = ⊥
 
--- a program without classes, prefixed blocks, connections, references, parameters by name and formal procedures
+-- a program without classes, prefixed blocks, connections, references, standard names of classes, parameters by name and formal procedures
 pub record Plain (p : Program) : Type 0 where
   pub prefix : p.prefix ≡ None
   pub block : PlainBlock p.block

@@ -9,7 +9,8 @@ use Rattle.sim_scope.specs.declared.types.Entry.{Entry}
 use Rattle.sim_scope.specs.declared.types.Entry.TheVariants as entry
 use Rattle.sim_scope.specs.declared.types.SimType.{SimType}
 use Rattle.sim_scope.specs.Calls.{is_inside}
-use Rattle.sim_scope.specs.Scopes.{binding, block_at, encloser, entry_of}
+use Rattle.sim_scope.specs.Access.{block_at, encloser}
+use Rattle.sim_scope.specs.Scopes.{binding, entry_of}
 use Rattle.sim_scope.specs.Source.{Source, block_of, level_of}
 use Rattle.sim_scope.specs.Tables.{BlockOf}
 use Rattle.sim_tree.specs.declared.stmt.TypeName.{TypeName}

@@ -2,6 +2,7 @@
 use Rattle.std.proofs.Common.{◌≡◌, ℕ, zero, suc, ◌+◌, Bool, true, false, List, [], ◌∷◌, length, Option, Some, None, refl, sym, ap, ◌∙◌, subst, arith, if◌then◌else◌}
 use Rattle.std.specs.Prelude.{◌&&◌, slice_get}
 use Rattle.sim_base.specs.declared.numbering.DeclNo.{DeclNo}
+use Rattle.sim_base.specs.declared.rule.Rule.{Rule}
 use Rattle.sim_base.specs.declared.rule.Rule.TheVariants as r
 use Rattle.sim_scope.specs.declared.found.Fault.{Fault}
 use Rattle.sim_scope.specs.declared.outcome.Actual.{Actual}
@@ -15,6 +16,8 @@ use Rattle.sim_scope.specs.declared.scopes.Denotation.{Denotation}
 use Rattle.sim_scope.specs.declared.scopes.Denotation.TheVariants as denotation
 use Rattle.sim_scope.specs.declared.standard.Signature.{Signature}
 use Rattle.sim_scope.specs.declared.standard.Standard.{Standard}
+use Rattle.sim_scope.specs.declared.types.Entry.{Entry}
+use Rattle.sim_scope.specs.declared.types.Entry.TheVariants as entry
 use Rattle.sim_scope.specs.declared.types.Formal.{Formal}
 use Rattle.sim_scope.specs.declared.types.FormalKind.{FormalKind}
 use Rattle.sim_scope.specs.declared.types.FormalKind.TheVariants as shape
@@ -22,11 +25,12 @@ use Rattle.sim_scope.specs.declared.types.Mode.{Mode}
 use Rattle.sim_scope.specs.declared.types.Mode.TheVariants as mode
 use Rattle.sim_scope.specs.declared.types.SimType.{SimType}
 use Rattle.sim_scope.specs.declared.types.SimType.TheVariants as t
-use Rattle.sim_scope.specs.Actuals.{actual, array_actual, array_fits, as_value, fitting, formal_or_none, more, parameter_at, parameter_type, procedure_actual, procedure_fits, same_or_misfit, misfitting, has_value_alone, result_in, result_matches, standard_actual, type_matches, typed_or_none, unspecified_standard, value_fits, with_actual}
+use Rattle.sim_scope.specs.Actuals.{actual, array_actual, array_fits, as_value, attribute_alone, conforming, fitting, fitting_unless, formal_or_none, has_value_alone, misfitting, more, parameter_at, parameter_type, passed_procedure, procedure_actual, procedure_fits, result_in, result_matches, same_or_misfit, standard_actual, type_matches, typed_or_none, unspecified_procedure, unspecified_standard, value_fits, with_actual}
 use Rattle.sim_scope.specs.Calls.{parameter_count}
 use Rattle.sim_scope.specs.Expressions.{actuals, judge}
 use Rattle.sim_scope.specs.Found.{fault, lesser, lesser_of, precedes}
 use Rattle.sim_scope.specs.Judged.{Judged, gives, next}
+use Rattle.sim_scope.specs.Operators.{misfit_of}
 use Rattle.sim_scope.specs.Outcomes.{is_stream, type_in, valued}
 use Rattle.sim_scope.specs.Scopes.{entry_of}
 use Rattle.sim_scope.specs.Source.{Source}
@@ -40,7 +44,7 @@ use Rattle.sim_allowed.proofs.Calls.{valued_means}
 use Rattle.sim_allowed.proofs.Headings.{AllProper}
 use Rattle.sim_allowed.proofs.Meant.{Means, ValueIs}
 use Rattle.sim_allowed.proofs.Names.{kinds_of, parameter_kinds}
-use Rattle.sim_allowed.proofs.Operators.{same_type}
+use Rattle.sim_allowed.proofs.Operators.{no_misfit, same_type}
 use Rattle.sim_allowed.proofs.Said.{AllSay, next_says}
 
 -- ---- one actual
@@ -98,23 +102,38 @@ module _ (s : Source) (known : Tabled s) (from : Option ℕ) (e : Expression) (f
   misfit_is rule P = (refl, λ e. absurd (no_fault (fault first rule) e))
 
   -- a value
-  value_is : (p : Parameter) (b : SimType) → ValueIs s from e b → ActualIs s from e p (value_fits first p (Some b))
+  value_is : (p : Parameter) (b : SimType) → ValueIs s from e b → ActualIs s from e p (value_fits s.tables first p (Some b))
   value_is parameter.Unknown b v = is_actual parameter.Unknown fitting (refl, λ e. tt)
   value_is parameter.Unspecified b v = is_actual parameter.Unspecified fitting (refl, λ e. tt)
   value_is parameter.Subscript b v =
       is_actual parameter.Subscript (same_or_misfit first (Some t.Integer) b) (same_typed (Some t.Integer) first b, λ h. wanted_simply s from e (Some t.Integer) b v.proper v.value (matched (Some t.Integer) first b h))
-  value_is (parameter.Formal f) b v = is_actual (parameter.Formal f) (value_fits first (parameter.Formal f) (Some b)) (go f.kind f.ty)
+  value_is (parameter.Formal f) b v = is_actual (parameter.Formal f) (value_fits s.tables first (parameter.Formal f) (Some b)) (go f.kind f.ty)
     where
-      go : (k : FormalKind) (wanted : Option SimType) → Is (elim k as (λ z. Actual) [ shape.Simple ↦ same_or_misfit first wanted b | _ ↦ misfitting first r.WrongType ]) (FitsFormal s from e k wanted)
-      go shape.Simple wanted = (same_typed wanted first b, λ h. wanted_simply s from e wanted b v.proper v.value (matched wanted first b h))
+      held : (o : Option Rule) → (fitting_unless first o).typed ≡ true
+      held None = refl
+      held (Some rule) = refl
+
+      none : (o : Option Rule) → (fitting_unless first o).misfit ≡ None → o ≡ None
+      none None h = refl
+      none (Some rule) h = absurd (no_fault (fault first rule) h)
+
+      simply : (wanted : Option SimType) → Is (conforming s.tables first wanted b) (FitsFormal s from e shape.Simple wanted)
+      simply None = (refl, λ h. tt)
+      simply (Some a) = (
+        held (misfit_of s.tables a b),
+        λ h. subst (λ z. ExprIs s from e (Simply (kind_of_type z))) (sym (no_misfit s.tables a b v.proper (none (misfit_of s.tables a b) h))) v.value,
+      )
+
+      go : (k : FormalKind) (wanted : Option SimType) → Is (elim k as (λ z. Actual) [ shape.Simple ↦ conforming s.tables first wanted b | _ ↦ misfitting first r.WrongType ]) (FitsFormal s from e k wanted)
+      go shape.Simple wanted = simply wanted
       go shape.Array wanted = misfit_is r.WrongType (FitsFormal s from e shape.Array wanted)
       go shape.Procedure wanted = misfit_is r.WrongType (FitsFormal s from e shape.Procedure wanted)
 
   value_actual : (p : Parameter) (o : Outcome) → Means true s from e o → AllSay s (as_value s.tables first p o).events → ActualIs s from e p (as_value s.tables first p o).value
   unfolding as_value next gives
   value_actual p o m said =
-      let v = valued_means s known from e first o m (next_says s (valued s.tables first o) (λ v. gives (value_fits first p (type_in v))) said).0 in
-      subst (λ z. ActualIs s from e p (value_fits first p (type_in z))) (sym v.is) (value_is p v.ty v.value)
+      let v = valued_means s known from e first o m (next_says s (valued s.tables first o) (λ v. gives (value_fits s.tables first p (type_in v))) said).0 in
+      subst (λ z. ActualIs s from e p (value_fits s.tables first p (type_in z))) (sym v.is) (value_is p v.ty v.value)
 
   -- an array alone
   array_is : (p : Parameter) (b : SimType) → Means true s from e (is.Array b) → AllSay s (array_actual s.tables first p (is.Array b) b).events → ActualIs s from e p (array_actual s.tables first p (is.Array b) b).value
@@ -136,19 +155,51 @@ module _ (s : Source) (known : Tabled s) (from : Option ℕ) (e : Expression) (f
   procedure_is : (p : Parameter) (o : Outcome) (d : DeclNo) → Means true s from e o → AllSay s (procedure_actual s.tables first p o d).events → ActualIs s from e p (procedure_actual s.tables first p o d).value
   unfolding gives
   procedure_is parameter.Unknown o d m said = is_actual parameter.Unknown fitting (refl, λ e. tt)
-  procedure_is parameter.Unspecified o d m said = is_actual parameter.Unspecified fitting (refl, λ e. tt)
+  procedure_is parameter.Unspecified o d m said = go (entry_of s.tables d)
+    where
+      attribute : (w given : Option SimType) → ActualIs s from e parameter.Unspecified (attribute_alone first w given)
+      attribute None (Some ty) = is_actual parameter.Unspecified fitting (refl, λ e. tt)
+      attribute None None = is_actual parameter.Unspecified (misfitting first r.StandardNameLeftOut) (refl, λ e. tt)
+      attribute (Some a) given = is_actual parameter.Unspecified (misfitting first r.StandardNameLeftOut) (refl, λ e. tt)
+
+      go : (b : Option Entry) → ActualIs s from e parameter.Unspecified (unspecified_procedure first b)
+      go (Some (entry.Attribute name w given)) = attribute w given
+      go (Some (entry.Variable ty)) = is_actual parameter.Unspecified fitting (refl, λ e. tt)
+      go (Some (entry.Constant ty)) = is_actual parameter.Unspecified fitting (refl, λ e. tt)
+      go (Some (entry.Array ty n)) = is_actual parameter.Unspecified fitting (refl, λ e. tt)
+      go (Some (entry.Procedure ty n)) = is_actual parameter.Unspecified fitting (refl, λ e. tt)
+      go (Some (entry.Class n)) = is_actual parameter.Unspecified fitting (refl, λ e. tt)
+      go (Some (entry.Virtual ty n)) = is_actual parameter.Unspecified fitting (refl, λ e. tt)
+      go (Some (entry.Formal f)) = is_actual parameter.Unspecified fitting (refl, λ e. tt)
+      go (Some (entry.Unspecified w)) = is_actual parameter.Unspecified fitting (refl, λ e. tt)
+      go None = is_actual parameter.Unspecified fitting (refl, λ e. tt)
   procedure_is parameter.Subscript o d m said = value_actual parameter.Subscript o m said
   procedure_is (parameter.Formal f) o d m said = go f.kind f.ty refl refl said
     where
-      passed : (wanted : Option SimType) (c : Bool) → Is (if c then fitting else misfitting first r.WrongType) (FitsFormal s from e shape.Procedure wanted)
-      passed wanted true = (refl, λ h. tt)
-      passed wanted false = (refl, λ h. tt)
+      fits : (wanted : Option SimType) (c : Bool) → Is (if c then fitting else misfitting first r.WrongType) (FitsFormal s from e shape.Procedure wanted)
+      fits wanted true = (refl, λ h. tt)
+      fits wanted false = (refl, λ h. tt)
 
-      go : (k : FormalKind) (wanted : Option SimType) → f.kind ≡ k → f.ty ≡ wanted → AllSay s (procedure_judged f o (procedure_fits first f (result_in (entry_of s.tables d))) k).events → ActualIs s from e (parameter.Formal f) (procedure_judged f o (procedure_fits first f (result_in (entry_of s.tables d))) k).value
+      matches : (o : Option SimType) → Is (procedure_fits s.tables first f o) (FitsFormal s from e shape.Procedure f.ty)
+      matches o = fits f.ty (result_matches s.tables f.ty o)
+
+      passed : (b : Option Entry) → Is (passed_procedure s.tables first f b) (FitsFormal s from e shape.Procedure f.ty)
+      passed (Some (entry.Attribute name w given)) = (refl, λ h. tt)
+      passed (Some (entry.Variable ty)) = matches (result_in (Some (entry.Variable ty)))
+      passed (Some (entry.Constant ty)) = matches (result_in (Some (entry.Constant ty)))
+      passed (Some (entry.Array ty n)) = matches (result_in (Some (entry.Array ty n)))
+      passed (Some (entry.Procedure ty n)) = matches (result_in (Some (entry.Procedure ty n)))
+      passed (Some (entry.Class n)) = matches (result_in (Some (entry.Class n)))
+      passed (Some (entry.Virtual ty n)) = matches (result_in (Some (entry.Virtual ty n)))
+      passed (Some (entry.Formal g)) = matches (result_in (Some (entry.Formal g)))
+      passed (Some (entry.Unspecified w)) = matches (result_in (Some (entry.Unspecified w)))
+      passed None = matches (result_in None)
+
+      go : (k : FormalKind) (wanted : Option SimType) → f.kind ≡ k → f.ty ≡ wanted → AllSay s (procedure_judged f o (passed_procedure s.tables first f (entry_of s.tables d)) k).events → ActualIs s from e (parameter.Formal f) (procedure_judged f o (passed_procedure s.tables first f (entry_of s.tables d)) k).value
       go shape.Simple wanted same ty said = value_actual (parameter.Formal f) o m said
       go shape.Array wanted same ty said = is_actual (parameter.Formal f) (misfitting first r.WrongType) (misfit_is r.WrongType (FitsFormal s from e f.kind f.ty))
       go shape.Procedure wanted same ty said =
-          is_actual (parameter.Formal f) (procedure_fits first f (result_in (entry_of s.tables d))) (subst (λ k. Is (procedure_fits first f (result_in (entry_of s.tables d))) (FitsFormal s from e k f.ty)) (sym same) (passed f.ty (result_matches f.ty (result_in (entry_of s.tables d)))))
+          is_actual (parameter.Formal f) (passed_procedure s.tables first f (entry_of s.tables d)) (subst (λ k. Is (passed_procedure s.tables first f (entry_of s.tables d)) (FitsFormal s from e k f.ty)) (sym same) (passed (entry_of s.tables d)))
 
   -- a standard name alone
   standard_is : (p : Parameter) (o : Outcome) (g : Signature) → Means true s from e o → AllSay s (standard_actual s.tables first p o g).events → ActualIs s from e p (standard_actual s.tables first p o g).value

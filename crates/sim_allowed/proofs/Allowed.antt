@@ -5,7 +5,7 @@ use Rattle.std.proofs.lemmas.List.{length-map}
 use Rattle.std.specs.Prelude.{nat_eq}
 use Rattle.sim_base.specs.declared.limits.Limits.{Limits}
 use Rattle.sim_base.specs.declared.token.Token.{Token as Word}
-use Rattle.prefix_bind.specs.Cells.{least_overfull}
+use Rattle.prefix_bind.specs.Prefixes.{least_of, prefix_faults, prefixed}
 use Rattle.sim_scope.specs.declared.found.Fault.{Fault}
 use Rattle.sim_scope.specs.declared.scopes.Denotation.{Denotation}
 use Rattle.sim_scope.specs.declared.types.SimType.{SimType}
@@ -23,13 +23,15 @@ use Rattle.sim_tree.specs.SyntaxOfProgram.{program_syntax}
 use Rattle.sim_tree.specs.Tree.{IsTree, line}
 use Rattle.sim_tree.proofs.Filled.{filled as program_filled}
 use Rattle.sim_tree.proofs.Order.{in_order, in_text}
-use Rattle.sim_static.specs.Check.{Allowed, check_of, answer, first_answer, first_least, judged, last_answer}
+use Rattle.sim_static.specs.Check.{Allowed, answer, check_of, completed, first_answer, first_least, judged, last_answer, second_answer, second_least}
 use Rattle.sim_code.specs.Outcome.{Ended, NoRule, World}
 use Rattle.sim_meaning.specs.Meaning.{run}
 use Rattle.sim_sound.specs.Typed.{Typed}
 use Rattle.sim_sound.proofs.Main.{never_no_rule}
 use Rattle.sim_agree.specs.Plain.{Plain}
+use Rattle.sim_agree.proofs.Tables.{program_agrees}
 use Rattle.sim_allowed.proofs.Actuals.{neither}
+use Rattle.sim_allowed.proofs.Completed.{complete}
 use Rattle.sim_allowed.proofs.Counts.{told}
 use Rattle.sim_allowed.proofs.LastRound.{round_says}
 use Rattle.sim_allowed.proofs.ToldProgram.{Fills, among}
@@ -44,22 +46,36 @@ pub record Passed (tables : Tables) (uses : List (Option Denotation)) (types : L
   pub uses_are : uses ≡ (judged n (declared_by p).tables p).uses
   pub types_are : types ≡ (judged n (declared_by p).tables p).types
 
-pub passed : (n : ℕ) (p : Program) (tables : Tables) (uses : List (Option Denotation)) (types : List (Option SimType)) → answer n p ≡ Allowed tables uses types → Passed tables uses types n p
+-- in tables that are complete as they are declared
+abbrev AsDeclared : (n : ℕ) → Program → Tables → Type 0
+AsDeclared n p t = (judged n t p).least ≡ None
+
+pub passed : (n : ℕ) (p : Program) → Plain p → (tables : Tables) (uses : List (Option Denotation)) (types : List (Option SimType)) → answer n p ≡ Allowed tables uses types → Passed tables uses types n p
 unfolding answer
-passed n p tables uses types e = first (first_least (declared_by p)) refl e
+passed n p plain tables uses types e = first (first_least (declared_by p)) refl e
   where
-    last : (o : Option Fault) → (judged n (declared_by p).tables p).least ≡ o → first_least (declared_by p) ≡ None → last_answer (declared_by p).tables (judged n (declared_by p).tables p) o ≡ Allowed tables uses types → Passed tables uses types n p
+    t : Tables
+    t = completed (declared_by p).tables p
+
+    same : completed (declared_by p).tables p ≡ (declared_by p).tables
+    same = complete (declared_by p).tables p (program_agrees p plain).fine.bare plain
+
+    last : (o : Option Fault) → (judged n t p).least ≡ o → first_least (declared_by p) ≡ None → last_answer t (judged n t p) o ≡ Allowed tables uses types → Passed tables uses types n p
     last None clean none e = record {
-      tables_are = cc;
-      unbroken = (neither (declared_by p).least (least_overfull (declared_by p).tables) none).0;
-      clean = clean;
-      uses_are = cc;
-      types_are = cc;
+      tables_are = (let is : tables ≡ t = cc in is ∙ same);
+      unbroken = (neither (declared_by p).least (least_of (prefix_faults (prefixed (declared_by p).tables))) none).0;
+      clean = subst (AsDeclared n p) same clean;
+      uses_are = (let is : uses ≡ (judged n t p).uses = cc in is ∙ ap (λ (z : Tables). (judged n z p).uses) same);
+      types_are = (let is : types ≡ (judged n t p).types = cc in is ∙ ap (λ (z : Tables). (judged n z p).types) same);
     }
     last (Some f) clean none e = absurd (cc)
 
+    second : (o : Option Fault) → first_least (declared_by p) ≡ None → second_answer n p t o ≡ Allowed tables uses types → Passed tables uses types n p
+    second None none e = last (judged n t p).least refl none e
+    second (Some f) none e = absurd (cc)
+
     first : (o : Option Fault) → first_least (declared_by p) ≡ o → first_answer n p (declared_by p).tables o ≡ Allowed tables uses types → Passed tables uses types n p
-    first None none e = last (judged n (declared_by p).tables p).least refl none e
+    first None none e = second (second_least t) none e
     first (Some f) none e = absurd (cc)
 
 -- a token of which something is told is one of the text
@@ -80,7 +96,7 @@ pub allowed_typed : (ws : List Word) (tree : Tree) (s : Source) → IsTree ws tr
 unfolding judged
 allowed_typed ws tree s is same allowed plain =
     let n = length tree.lines.items in
-    let x = subst (λ z. Passed s.tables s.uses s.types n z) (sym same) (passed n (program_syntax tree) s.tables s.uses s.types allowed) in
+    let x = subst (λ z. Passed s.tables s.uses s.types n z) (sym same) (passed n (program_syntax tree) (subst Plain same plain) s.tables s.uses s.types allowed) in
     let order = subst InOrder (sym same) (in_order ws tree is) in
     let filled = subst Filled (sym same) (program_filled ws tree is) in
     let lines : n ≡ length ws = ap length is.lines ∙ length-map ws line in

@@ -3,6 +3,7 @@ use Rattle.std.proofs.Common.{◌≡◌, ℕ, Bool, true, false, List, [], ◌�
 use Rattle.std.proofs.lemmas.Bool.{false≢true}
 use Rattle.sim_base.specs.declared.numbering.DeclNo.{DeclNo}
 use Rattle.sim_base.specs.declared.numbering.TokenNo.{TokenNo}
+use Rattle.sim_base.specs.declared.rule.Rule.{Rule}
 use Rattle.sim_base.specs.declared.rule.Rule.TheVariants as r
 use Rattle.sim_scope.specs.declared.found.Fault.{Fault}
 use Rattle.sim_scope.specs.declared.outcome.Extent.TheVariants.{Statement}
@@ -15,15 +16,16 @@ use Rattle.sim_scope.specs.declared.types.Entry.TheVariants as entry
 use Rattle.sim_scope.specs.declared.types.SimType.{SimType}
 use Rattle.sim_scope.specs.declared.types.SimType.TheVariants as t
 use Rattle.sim_scope.specs.Actuals.{result_in}
-use Rattle.sim_scope.specs.Assignments.{LeftSide, assigned_to, call_assigned, is_text_copied, is_typed, left_side, lefts, no_target, own_result as own_result_assigned, procedure_assigned, result_assigned, sign_agrees, standard_assigned, takes, target, targets, types_assigned, value_assigned, with_left}
+use Rattle.sim_scope.specs.Assignments.{LeftSide, assigned_to, call_assigned, fault_unless, is_text_copied, is_typed, left_side, lefts, no_target, own_result as own_result_assigned, procedure_assigned, result_assigned, sign_agrees, standard_assigned, takes, target, targets, types_assigned, value_assigned, with_left}
 use Rattle.sim_scope.specs.Expressions.{judge}
 use Rattle.sim_scope.specs.Found.{fault}
 use Rattle.sim_scope.specs.Judged.{gives, next, telling}
-use Rattle.sim_scope.specs.Operators.{is_same}
+use Rattle.sim_scope.specs.Operators.{misfit_of}
 use Rattle.sim_scope.specs.Outcomes.{called, is_stream}
 use Rattle.sim_scope.specs.Scopes.{entry_of}
 use Rattle.sim_scope.specs.Source.{Source}
 use Rattle.sim_scope.specs.Standard.{signature}
+use Rattle.sim_scope.specs.Tables.{Tables}
 use Rattle.sim_tree.specs.declared.stmt.Assignment.{Assignment}
 use Rattle.sim_tree.specs.declared.stmt.Assignment.TheVariants as assignment
 use Rattle.sim_tree.specs.Syntax.{Expression, NoMore, first_of}
@@ -36,7 +38,7 @@ use Rattle.sim_agree.specs.Places.{PlacedExpression}
 use Rattle.sim_allowed.proofs.Actuals.{Known, both_true, neither}
 use Rattle.sim_allowed.proofs.Calls.{called_means}
 use Rattle.sim_allowed.proofs.Meant.{Means, ProcedureIs, StandardIs, TypeThere, ValueIs}
-use Rattle.sim_allowed.proofs.Operators.{same_type}
+use Rattle.sim_allowed.proofs.Operators.{no_misfit_of}
 use Rattle.sim_allowed.proofs.Said.{AllSay, next_says}
 
 -- ---- a left side
@@ -200,12 +202,12 @@ no_fault : (f : Fault) → Some f ≡ None → ⊥
 no_fault f e = cc
 
 -- where no type is a misfit
-fits_sign : (sign : Assignment) (x v : Side) (a b : SimType) → ProperType a → types_assigned sign x v (Some a) (Some b) ≡ None → (takes sign a ≡ true) × (b ≡ a)
-fits_sign sign x v a b p e = go (takes sign a) refl (is_same b a) refl e
+fits_sign : (s : Tables) (sign : Assignment) (x v : Side) (a b : SimType) → ProperType a → types_assigned s sign x v (Some a) (Some b) ≡ None → (takes sign a ≡ true) × (b ≡ a)
+fits_sign s sign x v a b p e = go (takes sign a) refl (misfit_of s a b) refl e
   where
-    go : (m : Bool) → takes sign a ≡ m → (n : Bool) → is_same b a ≡ n → (if m then (if n then None else Some (fault v.first.0 r.WrongType)) else Some (fault x.first.0 r.WrongType)) ≡ None → (takes sign a ≡ true) × (b ≡ a)
-    go true m true n e = (m, same_type b a p n)
-    go true m false n e = absurd (no_fault (fault v.first.0 r.WrongType) e)
+    go : (m : Bool) → takes sign a ≡ m → (n : Option Rule) → misfit_of s a b ≡ n → (if m then fault_unless v.first.0 n else Some (fault x.first.0 r.WrongType)) ≡ None → (takes sign a ≡ true) × (b ≡ a)
+    go true m None n e = (m, no_misfit_of s a b p n)
+    go true m (Some rule) n e = absurd (no_fault (fault v.first.0 rule) e)
     go false m n o e = absurd (no_fault (fault x.first.0 r.WrongType) e)
 
 pub record AllLefts (s : Source) (k : ℕ) (ls : List LeftSide) (ty : SimType) (a b : LeftSides) : Type 0 where
@@ -217,17 +219,17 @@ pub lefts_are : (s : Source) → Tabled s → (k : ℕ) (first : Assignment) (v 
 unfolding lefts gives next with_left
 lefts_are s known k first v ty is [] all a said = record { typed = λ h. h; lefts = λ h. (h, tt) }
 lefts_are s known k first v ty is (l ∷ ls) all a said =
-    let parts = next_says s (left_side s.tables first l) (λ x. lefts s.tables first v (with_left l.sign v a x) ls) said in
+    let parts = next_says s (left_side s.tables first l) (λ x. lefts s.tables first v (with_left s.tables l.sign v a x) ls) said in
     let inner = next_says s (sign_agrees first l.sign l.token) (λ n. next (judge s.tables Statement l.target) (target s.tables l.sign (first_of l.target))) parts.0 in
     let own = next_says s (judge s.tables Statement l.target) (target s.tables l.sign (first_of l.target)) inner.1 in
     let o = (judge s.tables Statement l.target).value in
     let y = target_is s known k l.target l.sign (first_of l.target) o (all.0 own.0) all.1 own.1 in
     let x = (target s.tables l.sign (first_of l.target) o).value in
-    let b = with_left l.sign v a x in
+    let b = with_left s.tables l.sign v a x in
     let rest = lefts_are s known k first v ty is ls all.2 b parts.1 in
     record {
       typed = λ h. rest.typed (both_true a.typed (is_typed x.ty) h (subst (λ z. is_typed z ≡ true) (sym y.is) refl));
-      lefts = λ h. (let r = rest.lefts h in let m = neither a.misfit (types_assigned l.sign x v x.ty v.ty) r.0 in
-          let f = fits_sign l.sign x v y.ty ty y.proper (subst (λ z. types_assigned l.sign x v (Some y.ty) z ≡ None) is (subst (λ z. types_assigned l.sign x v z v.ty ≡ None) y.is m.1)) in
+      lefts = λ h. (let r = rest.lefts h in let m = neither a.misfit (types_assigned s.tables l.sign x v x.ty v.ty) r.0 in
+          let f = fits_sign s.tables l.sign x v y.ty ty y.proper (subst (λ z. types_assigned s.tables l.sign x v (Some y.ty) z ≡ None) is (subst (λ z. types_assigned s.tables l.sign x v z v.ty ≡ None) y.is m.1)) in
           (m.0, (subst (λ z. LeftOf z l.sign s k l.target (kind_of_type ty)) (sym y.texts) (subst (λ z. LeftOf (is_text_type (Some y.ty)) l.sign s k l.target (kind_of_type z)) (sym f.1) (y.left f.0)), r.1)));
     }

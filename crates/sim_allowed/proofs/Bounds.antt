@@ -1,8 +1,8 @@
 -- What is seen from a text, and the bounds of arrays.
-use Rattle.std.proofs.Common.{◌≡◌, ℕ, Bool, true, false, List, [], ◌∷◌, ◌++◌, Option, Some, None, refl, sym, ◌∙◌, subst, arith}
+use Rattle.std.proofs.Common.{◌≡◌, ◌<◌, ℕ, zero, suc, length, ap, Bool, true, false, List, [], ◌∷◌, ◌++◌, Option, Some, None, refl, sym, ◌∙◌, subst, arith}
 use Rattle.std.proofs.lemmas.Bool.{false≢true}
 use Rattle.std.proofs.lemmas.Bool.Decides.{nat_tests}
-use Rattle.std.specs.Prelude.{◌&&◌, nat_eq, not, slice_get}
+use Rattle.std.specs.Prelude.{◌&&◌, ◌||◌, nat_eq, not, slice_get}
 use Rattle.sim_base.specs.declared.numbering.DeclNo.{DeclNo}
 use Rattle.sim_scope.specs.declared.outcome.Extent.TheVariants as extent
 use Rattle.sim_scope.specs.declared.scopes.Declaration.{Declaration}
@@ -11,11 +11,14 @@ use Rattle.sim_scope.specs.declared.types.Entry.{Entry}
 use Rattle.sim_scope.specs.declared.types.Entry.TheVariants as entry
 use Rattle.sim_scope.specs.declared.types.Formal.{Formal}
 use Rattle.sim_scope.specs.declared.types.SimType.TheVariants as t
-use Rattle.sim_scope.specs.Calls.{barred_declaration, is_barred, is_fixed, same_block}
+use Rattle.sim_scope.specs.Calls.{barred_declaration, is_barred, is_fixed, is_own_level}
+use Rattle.sim_scope.specs.Levels.{base, has_level, holds, some_level_of}
 use Rattle.sim_scope.specs.Runs.{each}
-use Rattle.sim_scope.specs.Scopes.{block_at, encloser, entry_in, entry_of}
+use Rattle.sim_scope.specs.Access.{block_at, encloser}
+use Rattle.sim_scope.specs.Scopes.{entry_in, entry_of}
 use Rattle.sim_scope.specs.Source.{Source, block_of, block_of_row}
 use Rattle.sim_scope.specs.Statements.{array_events, judging, pair_events, required}
+use Rattle.sim_scope.specs.Tables.{Tables}
 use Rattle.sim_scope.specs.Walk.{declaration_events, declarations_events}
 use Rattle.sim_tree.specs.Syntax.{Arrayed, Arrays, BoundPair, Declarations, DeclareClass, DeclareProcedure, Expression, NoDeclaration, Variables, With}
 use Rattle.sim_values.specs.declared.kind.Kind.{Kind}
@@ -41,11 +44,19 @@ abbrev pub NoFormalIn : Source → (block : ℕ) → Type 0
 NoFormalIn s k = (d : DeclNo) (f : Formal) → entry_of s.tables d ≡ Some (entry.Formal f) → block_of s d ≡ k → ⊥
 
 -- what a bound uses is not of its own block, but for constants
-outside : (s : Source) (k token : ℕ) (d : DeclNo) (e : Entry) → NoFormalIn s k → block_at s.tables token ≡ Some k → is_barred s.tables extent.Bound token (denotation.Declared d) ≡ false → entry_of s.tables d ≡ Some e → NotConstant e → block_of s d ≡ k → ⊥
-unfolding is_barred entry_of block_of
-outside s k token d e none placed open_to there constant same = go (slice_get s.tables.declarations d.0) open_to there same (λ f is. none d f is same)
+own_level : (t : Tables) (k j : ℕ) → 0 < length t.blocks → nat_eq k j ≡ true → has_level t k j ≡ true
+unfolding has_level some_level_of
+own_level t k j some same = go (length t.blocks) some
   where
-    fixed : (row : Declaration) → same_block (block_at s.tables token) row.block ≡ true → (same_block (block_at s.tables token) row.block && not (is_fixed row.entry)) ≡ false → is_fixed row.entry ≡ true
+    go : (n : ℕ) → 0 < n → some_level_of t n (λ b. nat_eq b j) k ≡ true
+    go zero some = absurd (omega (arith, some))
+    go (suc n) some = ap (λ z. z || holds (λ b. some_level_of t n (λ c. nat_eq c j) b) (base t k)) same
+
+outside : (s : Source) → Tabled s → (k token : ℕ) (d : DeclNo) (e : Entry) → NoFormalIn s k → block_at s.tables token ≡ Some k → is_barred s.tables extent.Bound token (denotation.Declared d) ≡ false → entry_of s.tables d ≡ Some e → NotConstant e → block_of s d ≡ k → ⊥
+unfolding is_barred entry_of block_of
+outside s known k token d e none placed open_to there constant same = go (slice_get s.tables.declarations d.0) open_to there same (λ f is. none d f is same)
+  where
+    fixed : (row : Declaration) → is_own_level s.tables (block_at s.tables token) row.block ≡ true → (is_own_level s.tables (block_at s.tables token) row.block && not (is_fixed row.entry)) ≡ false → is_fixed row.entry ≡ true
     fixed row same open_to = negated (is_fixed row.entry) (subst (λ z. (z && not (is_fixed row.entry)) ≡ false) same open_to)
       where
         negated : (b : Bool) → not b ≡ false → b ≡ true
@@ -61,7 +72,7 @@ outside s k token d e none placed open_to there constant same = go (slice_get s.
     go None open_to there same none = absurd (cc)
     go (Some row) open_to there same none =
         let here : nat_eq k row.block ≡ true = grind (arith, nat_tests, same) in
-        let own : same_block (block_at s.tables token) row.block ≡ true = subst (λ z. same_block z row.block ≡ true) (sym placed) here in
+        let own : is_own_level s.tables (block_at s.tables token) row.block ≡ true = subst (λ z. is_own_level s.tables z row.block ≡ true) (sym placed) (own_level s.tables k row.block known.some_block here) in
         let is : row.entry ≡ e = cc in
         of_entry e (subst (λ z. is_fixed z ≡ true) is (fixed row own open_to)) constant (λ f of. none f (there ∙ of))
 
@@ -72,7 +83,7 @@ beyond_itself s k u (further {u = o} out a) other = subst (λ z. Sees s.tables z
 
 pub bound_sight : (s : Source) → Tabled s → (k : ℕ) → NoFormalIn s k → Sight s (encloser s.tables k) extent.Bound k
 bound_sight s known k none token name d e placed binds open_to there constant =
-    beyond_itself s k (block_of s d) (known.around token k name d placed binds) (outside s k token d e none placed open_to there constant)
+    beyond_itself s k (block_of s d) (known.around token k name d placed binds) (outside s known k token d e none placed open_to there constant)
 
 -- ---- bounds
 

@@ -1,6 +1,6 @@
 -- How often a round tells what is at a token: at most once for each time that the token stands in the text.
 use Rattle.std.proofs.Common.{◌≡◌, ◌≤◌, ◌+◌, ℕ, Bool, true, false, List, [], ◌∷◌, ◌++◌, Option, Some, None, refl, arith, if◌then◌else◌}
-use Rattle.std.specs.Prelude.{nat_eq, length}
+use Rattle.std.specs.Prelude.{length, nat_eq, ◌&&◌}
 use Rattle.sim_base.specs.declared.rule.Rule.{Rule}
 use Rattle.sim_base.specs.declared.rule.Rule.TheVariants as r
 use Rattle.sim_scope.specs.declared.found.Fault.{Fault}
@@ -26,14 +26,15 @@ use Rattle.sim_scope.specs.declared.types.FormalKind.{FormalKind}
 use Rattle.sim_scope.specs.declared.types.FormalKind.TheVariants as shape
 use Rattle.sim_scope.specs.declared.types.SimType.{SimType}
 use Rattle.sim_scope.specs.declared.types.SimType.TheVariants as t
-use Rattle.sim_scope.specs.Actuals.{actual, array_actual, as_value, misfitting, more, parameter_at, procedure_actual, procedure_fits, result_in, standard_actual, value_fits, with_actual}
-use Rattle.sim_scope.specs.Calls.{alone, applied, attribute, attribute_by_value, attribute_found, attribute_of_type, attribute_of_value, bound, declared_alone, declared_applied, element_of, formal_alone, formal_applied, found_as, is_barred, is_inside, misfitting_or, parameter_count, procedure_alone, resulting, standard_applied, typed_if, used, used_or_barred}
+use Rattle.sim_scope.specs.Actuals.{actual, array_actual, as_value, misfitting, more, parameter_at, passed_procedure, procedure_actual, standard_actual, value_fits, with_actual}
+use Rattle.sim_scope.specs.Calls.{alone, applied, attribute, attribute_by_value, attribute_count, attribute_found, attribute_in, attribute_missing, attribute_of_type, attribute_of_value, bound, declared_alone, declared_applied, element_of, formal_alone, formal_applied, found_as, in_its_match, is_barred, is_inside, is_undotted, misfitting_or, missing, parameter_count, procedure_alone, remote, remote_as, remote_in, resulting, standard_applied, typed_if, used, used_or_barred}
 use Rattle.sim_scope.specs.Found.{Event, Broken, Typed, Uses}
 use Rattle.sim_scope.specs.Judged.{Judged, gives, next, telling}
+use Rattle.sim_scope.specs.Levels.{class_block, has_classes}
 use Rattle.sim_scope.specs.Operators.{common_type, is_same, operands_fit}
 use Rattle.sim_scope.specs.Outcomes.{arms_fit, breaks, call_of, called, fitted, has, in_common, in_parentheses, is_stream, one, parenthesized, procedure_called, side, side_of, signature_called, standard_called, three, two, type_in, type_wanted, types_fit, value_of, valued, varies}
-use Rattle.sim_scope.specs.Scopes.{binding, entry_of, formals_of}
-use Rattle.sim_scope.specs.Standard.{signature, sysin_attribute, sysout_attribute, text_attribute, undeclared}
+use Rattle.sim_scope.specs.Scopes.{binding, entry_of, formals_of, is_passed_over}
+use Rattle.sim_scope.specs.Standard.{is_standard_class, signature, sysin_attribute, sysout_attribute, text_attribute, undeclared}
 use Rattle.sim_scope.specs.Tables.{Tables}
 use Rattle.sim_tree.specs.declared.expr.Identifier.{Identifier}
 use Rattle.sim_tree.specs.declared.operator.Operator.{Operator}
@@ -124,6 +125,8 @@ call_silent token n (Some (entry.Constant ty)) = silent_none
 call_silent token n (Some (entry.Array e d)) = silent_none
 call_silent token n (Some (entry.Class b)) = silent_none
 call_silent token n (Some (entry.Unspecified w)) = silent_none
+call_silent token n (Some (entry.Attribute name None result)) = silent_none
+call_silent token n (Some (entry.Attribute name (Some ty) result)) = silent_break token r.WrongNumber
 
 standard_silent : (token : ℕ) (name : Standard) → Silent (standard_called token name).events
 unfolding gives breaks telling
@@ -223,9 +226,9 @@ one_types wanted i x = go x.ty
     go None = typing_silent i [] silent_none
     go (Some a) = same (is_same a wanted)
 
-pub three_types : (i : ℕ) (x y z : Side) → Typing i (three i x y z).events
+pub three_types : (s : Tables) (i : ℕ) (x y z : Side) → Typing i (three s i x y z).events
 unfolding three has breaks telling gives
-three_types i x y z = go x.ty y.ty z.ty
+three_types s i x y z = go x.ty y.ty z.ty
   where
     common : (o : Option SimType) → Typing i (in_common i z o).events
     common None = typing_silent i (Broken z.first.0 r.WrongType ∷ []) (silent_break z.first.0 r.WrongType)
@@ -235,11 +238,11 @@ three_types i x y z = go x.ty y.ty z.ty
     test true o = common o
     test false o = typing_silent i (Broken x.first.0 r.WrongType ∷ []) (silent_break x.first.0 r.WrongType)
 
-    go : (a b c : Option SimType) → Typing i (arms_fit i x y z a b c).events
+    go : (a b c : Option SimType) → Typing i (arms_fit s i x y z a b c).events
     go None b c = typing_silent i [] silent_none
     go (Some a) None c = typing_silent i [] silent_none
     go (Some a) (Some b) None = typing_silent i [] silent_none
-    go (Some a) (Some b) (Some c) = test (is_same a t.Boolean) (common_type b c)
+    go (Some a) (Some b) (Some c) = test (is_same a t.Boolean) (common_type s b c)
 
 -- ---- identifiers
 
@@ -252,7 +255,7 @@ bound_uses s x name = go (binding s name.token.0 name.name)
     barred d false = using_one name.token.0 d
 
     go : (o : Option Denotation) → Using name.token.0 (found_as s x name.token.0 name.name o).events
-    go None = using_silent name.token.0 (Broken name.token.0 (undeclared name.name) ∷ []) (silent_break name.token.0 (undeclared name.name))
+    go None = using_silent name.token.0 (Broken name.token.0 (missing (is_passed_over s name.token.0 name.name) name.name) ∷ []) (silent_break name.token.0 (missing (is_passed_over s name.token.0 name.name) name.name))
     go (Some d) = barred d (is_barred s x name.token.0 d)
 
 attribute_uses_found : (x : Identifier) (o : Option Standard) → Using x.token.0 (attribute_found x o).events
@@ -260,30 +263,47 @@ unfolding telling
 attribute_uses_found x None = using_silent x.token.0 (Broken x.token.0 (undeclared x.name) ∷ []) (silent_break x.token.0 (undeclared x.name))
 attribute_uses_found x (Some name) = using_one x.token.0 (denotation.Standard name)
 
-attribute_uses_type : (x : Identifier) (first : ℕ) (ty : Option SimType) → Using x.token.0 (attribute_of_type x first ty).events
+remote_uses : (s : Tables) (e : Extent) (x : Identifier) (class : _) → Using x.token.0 (remote s e x class).events
+unfolding remote telling gives
+remote_uses s e x class = go (class_block s class)
+  where
+    barred : (block : ℕ) (d : Denotation) (b c : Bool) → Using x.token.0 (if b then telling (Broken x.token.0 r.ClassWithClasses) None else used_or_barred x.token.0 d c).events
+    barred block d true c = using_silent x.token.0 (Broken x.token.0 r.ClassWithClasses ∷ []) (silent_break x.token.0 r.ClassWithClasses)
+    barred block d false true = using_silent x.token.0 (Broken x.token.0 r.BoundDependsOnItsBlock ∷ []) (silent_break x.token.0 r.BoundDependsOnItsBlock)
+    barred block d false false = using_one x.token.0 d
+
+    found_in : (block : ℕ) (o : Option Denotation) → Using x.token.0 (remote_as s e x block o).events
+    found_in block None = using_silent x.token.0 (Broken x.token.0 (attribute_missing s block x) ∷ []) (silent_break x.token.0 (attribute_missing s block x))
+    found_in block (Some d) = barred block d (has_classes s block) (is_barred s e x.token.0 d)
+
+    go : (o : Option ℕ) → Using x.token.0 (remote_in s e x o).events
+    go None = using_silent x.token.0 [] silent_none
+    go (Some block) = found_in block (attribute_in s x.token.0 block x.name)
+
+attribute_uses_type : (s : Tables) (e : Extent) (x : Identifier) (first : ℕ) (ty : Option SimType) → Using x.token.0 (attribute_of_type s e x first ty).events
 unfolding telling gives
-attribute_uses_type x first (Some t.Text) = attribute_uses_found x (text_attribute x.name)
-attribute_uses_type x first None = using_silent x.token.0 [] silent_none
-attribute_uses_type x first (Some (t.Ref class)) = using_silent x.token.0 [] silent_none
-attribute_uses_type x first (Some t.NoneType) = attribute_uses_found x None
-attribute_uses_type x first (Some t.Integer) = using_silent x.token.0 (Broken first r.WrongType ∷ []) (silent_break first r.WrongType)
-attribute_uses_type x first (Some t.Boolean) = using_silent x.token.0 (Broken first r.WrongType ∷ []) (silent_break first r.WrongType)
-attribute_uses_type x first (Some t.Character) = using_silent x.token.0 (Broken first r.WrongType ∷ []) (silent_break first r.WrongType)
+attribute_uses_type s e x first (Some t.Text) = attribute_uses_found x (text_attribute x.name)
+attribute_uses_type s e x first None = using_silent x.token.0 [] silent_none
+attribute_uses_type s e x first (Some (t.Ref class)) = remote_uses s e x class
+attribute_uses_type s e x first (Some t.NoneType) = attribute_uses_found x None
+attribute_uses_type s e x first (Some t.Integer) = using_silent x.token.0 (Broken first r.WrongType ∷ []) (silent_break first r.WrongType)
+attribute_uses_type s e x first (Some t.Boolean) = using_silent x.token.0 (Broken first r.WrongType ∷ []) (silent_break first r.WrongType)
+attribute_uses_type s e x first (Some t.Character) = using_silent x.token.0 (Broken first r.WrongType ∷ []) (silent_break first r.WrongType)
 
 silent_then_using : (i : ℕ) (xs ys : List Event) → Silent xs → Using i ys → Using i (xs ++ ys)
 unfolding Silent Using
 silent_then_using i xs ys h j k t = let a = told_both k t xs ys in let b = h k t in let c = j k t in omega (arith, a, b, c)
 
-attribute_uses_value : (s : Tables) (x : Identifier) (first : ℕ) (o : Outcome) → Using x.token.0 (attribute_by_value s x first o).events
+attribute_uses_value : (s : Tables) (e : Extent) (x : Identifier) (first : ℕ) (o : Outcome) → Using x.token.0 (attribute_by_value s e x first o).events
 unfolding attribute_by_value next attribute_of_value
-attribute_uses_value s x first o =
-    silent_then_using x.token.0 (side s first o).events (attribute_of_value x (side s first o).value).events (side_silent s first o) (attribute_uses_type x (side s first o).value.first.0 (side s first o).value.ty)
+attribute_uses_value s e x first o =
+    silent_then_using x.token.0 (side s first o).events (attribute_of_value s e x (side s first o).value).events (side_silent s first o) (attribute_uses_type s e x (side s first o).value.first.0 (side s first o).value.ty)
 
-pub attribute_uses : (s : Tables) (x : Identifier) (first : ℕ) (o : Outcome) → Using x.token.0 (attribute s x first o).events
+pub attribute_uses : (s : Tables) (e : Extent) (x : Identifier) (first : ℕ) (o : Outcome) → Using x.token.0 (attribute s e x first o).events
 unfolding attribute
-attribute_uses s x first (is.Standard found.Sysin token) = attribute_uses_found x (sysin_attribute x.name)
-attribute_uses s x first (is.Standard found.Sysout token) = attribute_uses_found x (sysout_attribute x.name)
-attribute_uses s x first o = attribute_uses_value s x first o
+attribute_uses s e x first (is.Standard found.Sysin token) = attribute_uses_found x (sysin_attribute x.name)
+attribute_uses s e x first (is.Standard found.Sysout token) = attribute_uses_found x (sysout_attribute x.name)
+attribute_uses s e x first o = attribute_uses_value s e x first o
 
 -- ---- alone, and with actuals
 
@@ -320,16 +340,21 @@ module _ (s : Tables) (naming : ℕ) (x : Identifier) where
   declared_types d (Some (entry.Variable ty)) = typing_one naming ty
   declared_types d (Some (entry.Constant ty)) = typing_one naming ty
   declared_types d (Some (entry.Array e n)) = no_types
-  declared_types d (Some (entry.Procedure result block)) = if_typed naming result (procedure_alone d x (is_inside s x.token.0 block))
+  declared_types d (Some (entry.Procedure result block)) = if_typed naming result (procedure_alone d x (is_undotted naming x && is_inside s x.token.0 block))
   declared_types d (Some (entry.Class block)) = no_types
-  declared_types d (Some (entry.Virtual result own)) = if_typed naming result (procedure_alone d x false)
+  declared_types d (Some (entry.Virtual result own)) = if_typed naming result (procedure_alone d x (is_undotted naming x && in_its_match s x))
   declared_types d (Some (entry.Formal f)) = formal_types f f.ty (procedure_alone d x false)
   declared_types d (Some (entry.Unspecified w)) = no_types
+  declared_types d (Some (entry.Attribute name parameter result)) = if_typed naming result (procedure_alone d x false)
 
   alone_types : (d : Denotation) → Typing naming (alone s naming x d).events
-  unfolding alone
+  unfolding alone gives
   alone_types (denotation.Declared d) = declared_types d (entry_of s d)
-  alone_types (denotation.Standard name) = if_typed naming (signature name).result (is.Standard name x.token)
+  alone_types (denotation.Standard name) = go (is_standard_class name)
+    where
+      go : (b : Bool) → Typing naming (if b then gives is.Class else typed_if naming (signature name).result (is.Standard name x.token)).events
+      go true = no_types
+      go false = if_typed naming (signature name).result (is.Standard name x.token)
 
   misfit_types : (m : Option Fault) (j : Judged Outcome) → Typing naming j.events → Typing naming (misfitting_or m j).events
   unfolding breaks telling
@@ -373,14 +398,16 @@ module _ (s : Tables) (naming : ℕ) (x : Identifier) where
   declared_applied_types token (Some (entry.Constant ty)) n a = broken_types token r.WrongKind
   declared_applied_types token (Some (entry.Class block)) n a = broken_types token r.WrongKind
   declared_applied_types token (Some (entry.Unspecified w)) n a = broken_types token r.WrongKind
+  declared_applied_types token (Some (entry.Attribute name parameter result)) n a = if_types (nat_eq (attribute_count parameter) a.count) (resulting naming a.misfit result) token r.WrongNumber (result_types a.misfit result)
 
   standard_applied_types : (token : ℕ) (name : Standard) (g : Signature) (a : Actuals) → Typing naming (standard_applied naming token name g a).events
   unfolding breaks telling
-  standard_applied_types token name g a = go (is_stream name)
+  standard_applied_types token name g a = go (is_stream name) (is_standard_class name)
     where
-      go : (b : Bool) → Typing naming (if b then breaks token r.StandardNameLeftOut else if nat_eq (parameter_count g) a.count then resulting naming a.misfit g.result else breaks token r.WrongNumber).events
-      go true = broken_types token r.StandardNameLeftOut
-      go false = if_types (nat_eq (parameter_count g) a.count) (resulting naming a.misfit g.result) token r.WrongNumber (result_types a.misfit g.result)
+      go : (b c : Bool) → Typing naming (if b then breaks token r.StandardNameLeftOut else if c then breaks token r.WrongKind else if nat_eq (parameter_count g) a.count then resulting naming a.misfit g.result else breaks token r.WrongNumber).events
+      go true c = broken_types token r.StandardNameLeftOut
+      go false true = broken_types token r.WrongKind
+      go false false = if_types (nat_eq (parameter_count g) a.count) (resulting naming a.misfit g.result) token r.WrongNumber (result_types a.misfit g.result)
 
   applied_types : (token : ℕ) (d : Denotation) (a : Actuals) → Typing naming (applied s naming token d a).events
   unfolding applied
@@ -402,7 +429,7 @@ module _ (s : Tables) (naming : ℕ) (x : Identifier) where
 module _ (s : Tables) (first : ℕ) where
   as_value_silent : (p : Parameter) (o : Outcome) → Silent (as_value s first p o).events
   unfolding as_value gives
-  as_value_silent p o = silent_next (valued s first o) (λ v. gives (value_fits first p (type_in v))) (valued_silent s first o) silent_none
+  as_value_silent p o = silent_next (valued s first o) (λ v. gives (value_fits s first p (type_in v))) (valued_silent s first o) silent_none
 
   array_silent : (p : Parameter) (o : Outcome) (ty : SimType) → Silent (array_actual s first p o ty).events
   unfolding gives
@@ -417,7 +444,7 @@ module _ (s : Tables) (first : ℕ) where
   procedure_silent (parameter.Formal f) o d = go f.kind
     where
       go : (k : FormalKind)
-          → Silent (elim k as (λ z. Judged Actual) [ shape.Simple ↦ as_value s first (parameter.Formal f) o | shape.Array ↦ gives (misfitting first r.WrongType) | shape.Procedure ↦ gives (procedure_fits first f (result_in (entry_of s d))) ]).events
+          → Silent (elim k as (λ z. Judged Actual) [ shape.Simple ↦ as_value s first (parameter.Formal f) o | shape.Array ↦ gives (misfitting first r.WrongType) | shape.Procedure ↦ gives (passed_procedure s first f (entry_of s d)) ]).events
       go shape.Simple = as_value_silent (parameter.Formal f) o
       go shape.Array = silent_none
       go shape.Procedure = silent_none

@@ -19,7 +19,7 @@ use Rattle.sim_meaning.specs.Constants.{TextConstant, expression_constants, expr
 use Rattle.sim_sound.specs.Typed.{Simply}
 use Rattle.sim_agree.specs.Facts.{Tabled}
 use Rattle.sim_agree.specs.Places.{PlacedExpression, PlacedExpressions}
-use Rattle.sim_agree.specs.Plain.{PlainExpression, PlainExpressions, PlainLiteral}
+use Rattle.sim_agree.specs.Plain.{PlainExpression, PlainExpressions, PlainLiteral, PlainName}
 use Rattle.sim_allowed.proofs.Actuals.{AllKnown, Known, actuals_are}
 use Rattle.sim_allowed.proofs.Calls.{OperandIs, parentheses_mean, side_means}
 use Rattle.sim_allowed.proofs.Meant.{Means}
@@ -77,11 +77,11 @@ module _ (s : Source) (known : Tabled s) (from : Option ℕ) (x : Extent) (k : �
   conditional : (i : ℕ) (c a b : Expression) → Known s from x c → Known s from x a → Known s from x b → Known s from x (syntax.If i c a b)
   unfolding judge next
   conditional i c a b h j l said =
-      let parts = next_says s (judge_side s.tables x c) (λ w. next (judge_side s.tables x a) (λ y. next (judge_side s.tables x b) (λ z. three i w y z))) said in
+      let parts = next_says s (judge_side s.tables x c) (λ w. next (judge_side s.tables x a) (λ y. next (judge_side s.tables x b) (λ z. three s.tables i w y z))) said in
       let w = (judge_side s.tables x c).value in
-      let more = next_says s (judge_side s.tables x a) (λ y. next (judge_side s.tables x b) (λ z. three i w y z)) parts.1 in
+      let more = next_says s (judge_side s.tables x a) (λ y. next (judge_side s.tables x b) (λ z. three s.tables i w y z)) parts.1 in
       let y = (judge_side s.tables x a).value in
-      let last = next_says s (judge_side s.tables x b) (λ z. three i w y z) more.1 in
+      let last = next_says s (judge_side s.tables x b) (λ z. three s.tables i w y z) more.1 in
       three_means s from i c a b w y (judge_side s.tables x b).value (operand c h parts.0) (operand a j more.0) (operand b l last.0) last.1
 
   negation : (i : ℕ) (a : Expression) → Known s from x a → Known s from x (syntax.Not i a)
@@ -102,9 +102,9 @@ module _ (s : Source) (known : Tabled s) (from : Option ℕ) (x : Extent) (k : �
       let parts = next_says s (judge s.tables x a) (in_parentheses s.tables (first_of a)) said in
       parentheses_mean s known from a i (first_of a) (judge s.tables x a).value (h parts.0) parts.1
 
-  named : (name : _) (es : Expressions) → PlacedExpression s.tables k (syntax.Named name es) → AllKnown s from x es → Known s from x (syntax.Named name es)
+  named : (name : Identifier) (es : Expressions) → PlainName name → PlacedExpression s.tables k (syntax.Named name es) → AllKnown s from x es → Known s from x (syntax.Named name es)
   unfolding judge next actuals gives
-  named name es placed all said =
+  named name es plain placed all said =
       let parts = next_says s (bound s.tables x name) (λ d. next (actuals s.tables x d no_actuals es) (used s.tables name.token.0 name d)) said in
       let d = (bound s.tables x name).value in
       let more = next_says s (actuals s.tables x d no_actuals es) (used s.tables name.token.0 name d) parts.1 in
@@ -116,30 +116,30 @@ module _ (s : Source) (known : Tabled s) (from : Option ℕ) (x : Extent) (k : �
       go : (es : Expressions) → AllKnown s from x es → AllSay s (actuals s.tables x (bound s.tables x name).value no_actuals es).events
           → AllSay s (used s.tables name.token.0 name (bound s.tables x name).value (actuals s.tables x (bound s.tables x name).value no_actuals es).value).events
           → Means true s from (syntax.Named name es) (used s.tables name.token.0 name (bound s.tables x name).value (actuals s.tables x (bound s.tables x name).value no_actuals es).value).value
-      go NoMore all first last = named_alone s known from name x k sight placed.0 (bound s.tables x name).value bound_to last
+      go NoMore all first last = named_alone s known from name x k sight placed.0 plain (bound s.tables x name).value bound_to last
       go (Then e es) all first last =
-          named_with s known from name x k sight placed.0 e es (bound s.tables x name).value bound_to (actuals s.tables x (bound s.tables x name).value no_actuals (Then e es)).value
+          named_with s known from name x k sight placed.0 plain e es (bound s.tables x name).value bound_to (actuals s.tables x (bound s.tables x name).value no_actuals (Then e es)).value
           (actuals_are s known from x (bound s.tables x name).value (Then e es) all no_actuals first) last
 
   behind_dot : (i : ℕ) (a : Expression) (name : Identifier) (es : Expressions) → Known s from x a → AllKnown s from x es → Known s from x (syntax.Dot i a name es)
   unfolding judge next actuals gives
   behind_dot i a name es h all said =
-      let parts = next_says s (next (judge s.tables x a) (attribute s.tables name (first_of a))) (λ d. next (actuals s.tables x d no_actuals es) (used s.tables i name d)) said in
-      let inner = next_says s (judge s.tables x a) (attribute s.tables name (first_of a)) parts.0 in
+      let parts = next_says s (next (judge s.tables x a) (attribute s.tables x name (first_of a))) (λ d. next (actuals s.tables x d no_actuals es) (used s.tables i name d)) said in
+      let inner = next_says s (judge s.tables x a) (attribute s.tables x name (first_of a)) parts.0 in
       let o = (judge s.tables x a).value in
-      let d = (attribute s.tables name (first_of a) o).value in
-      let b = attribute_is s known from a name (first_of a) o (h inner.0) inner.1 in
+      let d = (attribute s.tables x name (first_of a) o).value in
+      let b = attribute_is s known from a x name (first_of a) o (h inner.0) inner.1 in
       let more = next_says s (actuals s.tables x d no_actuals es) (used s.tables i name d) parts.1 in
       go b es all more.0 more.1
     where
-      go : AttributeIs s from a name (attribute s.tables name (first_of a) (judge s.tables x a).value).value → (es : Expressions) → AllKnown s from x es
-          → AllSay s (actuals s.tables x (attribute s.tables name (first_of a) (judge s.tables x a).value).value no_actuals es).events
-          → AllSay s (used s.tables i name (attribute s.tables name (first_of a) (judge s.tables x a).value).value (actuals s.tables x (attribute s.tables name (first_of a) (judge s.tables x a).value).value no_actuals es).value).events
-          → Means true s from (syntax.Dot i a name es) (used s.tables i name (attribute s.tables name (first_of a) (judge s.tables x a).value).value (actuals s.tables x (attribute s.tables name (first_of a) (judge s.tables x a).value).value no_actuals es).value).value
-      go b NoMore all first last = dot_alone s known from a name i (attribute s.tables name (first_of a) (judge s.tables x a).value).value b last
+      go : AttributeIs s from a name (attribute s.tables x name (first_of a) (judge s.tables x a).value).value → (es : Expressions) → AllKnown s from x es
+          → AllSay s (actuals s.tables x (attribute s.tables x name (first_of a) (judge s.tables x a).value).value no_actuals es).events
+          → AllSay s (used s.tables i name (attribute s.tables x name (first_of a) (judge s.tables x a).value).value (actuals s.tables x (attribute s.tables x name (first_of a) (judge s.tables x a).value).value no_actuals es).value).events
+          → Means true s from (syntax.Dot i a name es) (used s.tables i name (attribute s.tables x name (first_of a) (judge s.tables x a).value).value (actuals s.tables x (attribute s.tables x name (first_of a) (judge s.tables x a).value).value no_actuals es).value).value
+      go b NoMore all first last = dot_alone s known from a x name i (attribute s.tables x name (first_of a) (judge s.tables x a).value).value b last
       go b (Then e es) all first last =
-          dot_with s known from a name i (attribute s.tables name (first_of a) (judge s.tables x a).value).value b e es (actuals s.tables x (attribute s.tables name (first_of a) (judge s.tables x a).value).value no_actuals (Then e es)).value
-          (actuals_are s known from x (attribute s.tables name (first_of a) (judge s.tables x a).value).value (Then e es) all no_actuals first) last
+          dot_with s known from a x name i (attribute s.tables x name (first_of a) (judge s.tables x a).value).value b e es (actuals s.tables x (attribute s.tables x name (first_of a) (judge s.tables x a).value).value no_actuals (Then e es)).value
+          (actuals_are s known from x (attribute s.tables x name (first_of a) (judge s.tables x a).value).value (Then e es) all no_actuals first) last
 
   literal : (i : ℕ) (l : Literal) → PlainLiteral l → AllThere s (expression_constants (syntax.Constant l i)) → Known s from x (syntax.Constant l i)
   unfolding judge
@@ -160,7 +160,7 @@ module _ (s : Source) (known : Tabled s) (from : Option ℕ) (x : Extent) (k : �
         let h = both_there s (expression_constants a) (expressions_constants es) there in
         behind_dot i a name es (expression_known a p.0 l.0 h.0) (expressions_known es p.1 l.1 h.1)
     expression_known (syntax.Constant literal' i) p l there = literal i literal' p there
-    expression_known (syntax.Named name es) p l there = named name es l (expressions_known es p l.1 there)
+    expression_known (syntax.Named name es) p l there = named name es p.0 l (expressions_known es p.1 l.1 there)
     expression_known (syntax.Parentheses i a) p l there = in_brackets i a (expression_known a p l there)
     expression_known (syntax.Member m i a class) p l there = absurd p
     expression_known (syntax.Qua i a class) p l there = absurd p

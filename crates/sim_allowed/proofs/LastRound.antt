@@ -9,7 +9,7 @@ use Rattle.sim_scope.specs.declared.types.SimType.{SimType}
 use Rattle.sim_scope.specs.Found.{Broken, Event, Findings, Typed, Uses, after, found, unknown}
 use Rattle.sim_scope.specs.Least.{IsLeast, faults, least, nothing}
 use Rattle.sim_scope.specs.Runs.{run}
-use Rattle.sim_scope.specs.Scopes.{joined}
+use Rattle.sim_scope.specs.Access.{joined}
 use Rattle.sim_scope.specs.Source.{Source, denoted, type_at}
 use Rattle.sim_scope.proofs.Kept.{set_here, set_other}
 use Rattle.sim_scope.proofs.Leasts.{least_law}

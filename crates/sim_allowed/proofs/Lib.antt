@@ -17,4 +17,5 @@ pub mod ToldProgram
 pub mod ToldStatements
 pub mod LastRound
 pub mod Whole
+pub mod Completed
 pub mod Allowed

@@ -1,11 +1,15 @@
 -- The standard names, as the rules and as the meaning have them.
-use Rattle.std.proofs.Common.{◌≡◌, ℕ, Bool, true, false, List, [], ◌∷◌, Option, Some, None, refl, subst, if◌then◌else◌}
+use Rattle.std.proofs.Common.{◌≡◌, ℕ, Bool, true, false, List, [], ◌∷◌, Option, Some, None, refl, sym, ◌∙◌, subst, if◌then◌else◌}
+use Rattle.std.proofs.lemmas.Bool.{false≢true}
+use Rattle.std.specs.Prelude.{◌||◌, codes}
+use Rattle.std.specs.List.{list_any}
 use Rattle.std.specs.Str.{bytes_eq}
 use Rattle.sim_scope.specs.declared.standard.Signature.{Signature}
 use Rattle.sim_scope.specs.declared.standard.Standard.{Standard as Found}
 use Rattle.sim_scope.specs.declared.standard.Standard.TheVariants as found
 use Rattle.sim_scope.specs.declared.types.SimType.{SimType}
-use Rattle.sim_scope.specs.Standard.{Entries, attributes_of_sysin, attributes_of_sysout, attributes_of_texts, entry_named, names_alone, signature, standard_name, sysin_attribute, sysout_attribute, text_attribute}
+use Rattle.sim_scope.specs.ClassNames.{is_name_of_classes, names_of_classes, names_of_simulation}
+use Rattle.sim_scope.specs.Standard.{Entries, attributes_of_sysin, attributes_of_sysout, attributes_of_texts, entry_named, is_standard_class, names_alone, signature, standard_name, sysin_attribute, sysout_attribute, text_attribute}
 use Rattle.sim_values.specs.declared.kind.Kind.{Kind}
 use Rattle.sim_values.specs.declared.kind.Kind.TheVariants as kind
 use Rattle.sim_values.specs.Standard.{row_of}
@@ -31,7 +35,7 @@ abbrev pub given_by : Option SimType → Option Holds
 given_by None = None
 given_by (Some ty) = Some (Simply (kind_of_type ty))
 
--- a name that is no attribute of texts
+-- a name that is no attribute of texts, and none of classes
 abbrev pub NoAttribute : Found → Type 0
 NoAttribute found.TextConstant = ⊥
 NoAttribute found.TextStart = ⊥
@@ -46,6 +50,11 @@ NoAttribute found.TextSub = ⊥
 NoAttribute found.TextStrip = ⊥
 NoAttribute found.TextGetint = ⊥
 NoAttribute found.TextPutint = ⊥
+NoAttribute found.Detach = ⊥
+NoAttribute found.Call = ⊥
+NoAttribute found.Resume = ⊥
+NoAttribute found.Simset = ⊥
+NoAttribute found.Simulation = ⊥
 NoAttribute _ = Unit {0}
 
 -- an attribute of texts
@@ -65,10 +74,15 @@ OfTexts found.TextGetint = Unit {0}
 OfTexts found.TextPutint = Unit {0}
 OfTexts _ = ⊥
 
--- a procedure that is no attribute of texts
+-- a procedure that is no attribute of texts, and none of classes
 abbrev pub IsProcedure : Found → Type 0
 IsProcedure found.Sysin = ⊥
 IsProcedure found.Sysout = ⊥
+IsProcedure found.Detach = ⊥
+IsProcedure found.Call = ⊥
+IsProcedure found.Resume = ⊥
+IsProcedure found.Simset = ⊥
+IsProcedure found.Simulation = ⊥
 IsProcedure name = NoAttribute name
 
 abbrev Every : (Found → Type 0) → Entries → Type 0
@@ -83,9 +97,42 @@ found_every P name k (x ∷ xs) all e = go (λ h. found_every P name k xs all.1 
     go deep true e = let same : x.1 ≡ k = cc in subst P same all.0
     go deep false e = deep e
 
-pub alone_name : (name : List ℕ) (k : Found) → standard_name name ≡ Some k → NoAttribute k
-unfolding standard_name
-alone_name name k e = found_every NoAttribute name k names_alone (tt, (tt, (tt, (tt, (tt, (tt, (tt, (tt, (tt, (tt, (tt, (tt, (tt, (tt, (tt, (tt, (tt, (tt, (tt, (tt, (tt, (tt, (tt, (tt, (tt, (tt, (tt, (tt, (tt, (tt, (tt, (tt, (tt, (tt, (tt, tt))))))))))))))))))))))))))))))))))) e
+-- the same where only the names that are spelt so count
+abbrev EverySpelt : (Found → Type 0) → List ℕ → Entries → Type 0
+EverySpelt P name [] = Unit {0}
+EverySpelt P name (e ∷ es) = (bytes_eq name e.0 ≡ true → P e.1) × EverySpelt P name es
+
+found_spelt : (P : Found → Type 0) (name : List ℕ) (k : Found) (es : Entries) → EverySpelt P name es → entry_named name es ≡ Some k → P k
+found_spelt P name k [] all e = absurd (cc)
+found_spelt P name k (x ∷ xs) all e = go (λ h. found_spelt P name k xs all.1 h) (bytes_eq name x.0) refl e
+  where
+    go : (entry_named name xs ≡ Some k → P k) → (b : Bool) → bytes_eq name x.0 ≡ b → (if b then Some x.1 else entry_named name xs) ≡ Some k → P k
+    go deep true is e = let same : x.1 ≡ k = cc in subst P same (all.0 is)
+    go deep false is e = deep e
+
+-- a name that is none of a list
+abbrev NoneIs : List ℕ → List (List ℕ) → Type 0
+NoneIs name [] = Unit {0}
+NoneIs name (x ∷ xs) = (bytes_eq name x ≡ false) × NoneIs name xs
+
+either : (a b : Bool) → (a || b) ≡ false → (a ≡ false) × (b ≡ false)
+either true b e = absurd (false≢true (sym e))
+either false b e = (refl, e)
+
+none_is : (name : List ℕ) (xs : List (List ℕ)) → list_any (bytes_eq name) xs ≡ false → NoneIs name xs
+none_is name [] e = tt
+none_is name (x ∷ xs) e = let b = either (bytes_eq name x) (list_any (bytes_eq name) xs) e in (b.0, none_is name xs b.1)
+
+not_both : (P : Type 0) (b : Bool) → b ≡ false → b ≡ true → P
+not_both P b e f = absurd (false≢true (sym e ∙ f))
+
+pub alone_name : (name : List ℕ) (k : Found) → is_name_of_classes name ≡ false → standard_name name ≡ Some k → NoAttribute k
+unfolding standard_name is_name_of_classes
+alone_name name k plain e =
+    let both = either (list_any (bytes_eq name) names_of_classes) (list_any (bytes_eq name) names_of_simulation) plain in
+    let classes = none_is name names_of_classes both.0 in
+    let simulation = none_is name names_of_simulation both.1 in
+    found_spelt NoAttribute name k names_alone (λ h. tt, (λ h. tt, (λ h. tt, (λ h. tt, (λ h. tt, (λ h. tt, (λ h. tt, (λ h. tt, (λ h. tt, (λ h. tt, (λ h. tt, (λ h. tt, (λ h. tt, (λ h. tt, (λ h. tt, (λ h. tt, (λ h. tt, (λ h. tt, (λ h. tt, (λ h. tt, (λ h. tt, (λ h. tt, (λ h. tt, (λ h. tt, (λ h. tt, (λ h. tt, (λ h. tt, (λ h. tt, (λ h. tt, (λ h. tt, (λ h. tt, (λ h. tt, (λ h. tt, (λ h. tt, (λ h. tt, (λ h. not_both ⊥ (bytes_eq name (codes "detach")) classes.0 h, (λ h. not_both ⊥ (bytes_eq name (codes "call")) classes.1.0 h, (λ h. not_both ⊥ (bytes_eq name (codes "resume")) classes.1.1.0 h, (λ h. not_both ⊥ (bytes_eq name (codes "simset")) classes.1.1.1.0 h, (λ h. not_both ⊥ (bytes_eq name (codes "simulation")) simulation.1.1.1.1.1.0 h, tt)))))))))))))))))))))))))))))))))))))))) e
 
 pub text_name : (name : List ℕ) (k : Found) → text_attribute name ≡ Some k → OfTexts k
 unfolding text_attribute
@@ -150,6 +197,11 @@ standard_gives found.TextGetint p Operands a = absurd p
 standard_gives found.TextPutint p Operands a = absurd p
 standard_gives found.Sysin p Operands a = absurd p
 standard_gives found.Sysout p Operands a = absurd p
+standard_gives found.Detach p Operands a = absurd p
+standard_gives found.Call p Operands a = absurd p
+standard_gives found.Resume p Operands a = absurd p
+standard_gives found.Simset p Operands a = absurd p
+standard_gives found.Simulation p Operands a = absurd p
 
 -- what an attribute of texts gives
 pub attribute_gives : (name : Found) → OfTexts name → (Object : Type 0) → Object → (Operands : List Kind → Type 0) → Operands (kinds_of (signature name)) → AttributeGives (procedure_named name) Object Operands (given_by (signature name).result)
@@ -220,6 +272,11 @@ standard_left found.More = refl
 standard_left found.Length = refl
 standard_left found.Sysin = refl
 standard_left found.Sysout = refl
+standard_left found.Detach = refl
+standard_left found.Call = refl
+standard_left found.Resume = refl
+standard_left found.Simset = refl
+standard_left found.Simulation = refl
 
 pub standard_proper : (name : Found) → ProperResult (signature name).result
 unfolding signature
@@ -271,3 +328,27 @@ standard_proper found.More = tt
 standard_proper found.Length = tt
 standard_proper found.Sysin = tt
 standard_proper found.Sysout = tt
+standard_proper found.Detach = tt
+standard_proper found.Call = tt
+standard_proper found.Resume = tt
+standard_proper found.Simset = tt
+standard_proper found.Simulation = tt
+
+-- a procedure and an attribute of texts are no classes
+pub procedure_no_class : (name : Found) → IsProcedure name → is_standard_class name ≡ false
+unfolding is_standard_class
+procedure_no_class found.Simset p = absurd p
+procedure_no_class found.Simulation p = absurd p
+procedure_no_class _ p = refl
+
+pub alone_no_class : (name : Found) → NoAttribute name → is_standard_class name ≡ false
+unfolding is_standard_class
+alone_no_class found.Simset p = absurd p
+alone_no_class found.Simulation p = absurd p
+alone_no_class _ p = refl
+
+pub attribute_no_class : (name : Found) → OfTexts name → is_standard_class name ≡ false
+unfolding is_standard_class
+attribute_no_class found.Simset p = absurd p
+attribute_no_class found.Simulation p = absurd p
+attribute_no_class _ p = refl

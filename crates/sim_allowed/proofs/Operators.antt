@@ -8,9 +8,10 @@ use Rattle.sim_scope.specs.declared.outcome.Side.{Side}
 use Rattle.sim_scope.specs.declared.types.SimType.{SimType}
 use Rattle.sim_scope.specs.declared.types.SimType.TheVariants as t
 use Rattle.sim_scope.specs.Judged.{telling}
-use Rattle.sim_scope.specs.Operators.{alike, both_are, common_type, is_same, operands_fit, ordered}
+use Rattle.sim_scope.specs.Operators.{alike, both_are, common_type, is_same, misfit_of, operands_fit, ordered, wrong_type_unless}
 use Rattle.sim_scope.specs.Outcomes.{arms_fit, breaks, fitted, has, in_common, one, three, two, type_wanted, types_fit}
 use Rattle.sim_scope.specs.Source.{Source, type_at}
+use Rattle.sim_scope.specs.Tables.{Tables}
 use Rattle.sim_tree.specs.declared.expr.Multiplication.TheVariants as multiplication
 use Rattle.sim_tree.specs.declared.expr.Relation.{Relation}
 use Rattle.sim_tree.specs.declared.expr.Relation.TheVariants as relation
@@ -38,6 +39,54 @@ same_type t.Text t.Text p e = refl
 same_type a (t.Ref c) p e = absurd p
 same_type a t.NoneType p e = absurd p
 same_type a b p e = absurd (false≢true e)
+
+pub same_type_of : (a b : SimType) → ProperType a → is_same a b ≡ true → a ≡ b
+same_type_of t.Integer t.Integer p e = refl
+same_type_of t.Boolean t.Boolean p e = refl
+same_type_of t.Character t.Character p e = refl
+same_type_of t.Text t.Text p e = refl
+same_type_of (t.Ref c) b p e = absurd p
+same_type_of t.NoneType b p e = absurd p
+same_type_of a b p e = absurd (false≢true e)
+
+-- a value that goes to a place of a type has that type, where one of the two is no reference
+same_unless : (a b : SimType) → wrong_type_unless (is_same a b) ≡ None → is_same a b ≡ true
+same_unless a b e = go (is_same a b) refl e
+  where
+    go : (c : Bool) → is_same a b ≡ c → wrong_type_unless c ≡ None → is_same a b ≡ true
+    go true is e = is
+    go false is e = absurd (cc)
+
+never_wrong : Some r.WrongType ≡ None → ⊥
+never_wrong e = cc
+
+pub no_misfit : (s : Tables) (a b : SimType) → ProperType b → misfit_of s a b ≡ None → a ≡ b
+unfolding misfit_of
+no_misfit s t.Integer b p e = same_type t.Integer b p (same_unless t.Integer b e)
+no_misfit s t.Boolean b p e = same_type t.Boolean b p (same_unless t.Boolean b e)
+no_misfit s t.Character b p e = same_type t.Character b p (same_unless t.Character b e)
+no_misfit s t.Text b p e = same_type t.Text b p (same_unless t.Text b e)
+no_misfit s (t.Ref c) t.Integer p e = absurd (never_wrong e)
+no_misfit s (t.Ref c) t.Boolean p e = absurd (never_wrong e)
+no_misfit s (t.Ref c) t.Character p e = absurd (never_wrong e)
+no_misfit s (t.Ref c) t.Text p e = absurd (never_wrong e)
+no_misfit s (t.Ref c) (t.Ref d) p e = absurd p
+no_misfit s (t.Ref c) t.NoneType p e = absurd p
+no_misfit s t.NoneType t.Integer p e = absurd (never_wrong e)
+no_misfit s t.NoneType t.Boolean p e = absurd (never_wrong e)
+no_misfit s t.NoneType t.Character p e = absurd (never_wrong e)
+no_misfit s t.NoneType t.Text p e = absurd (never_wrong e)
+no_misfit s t.NoneType (t.Ref d) p e = absurd p
+no_misfit s t.NoneType t.NoneType p e = absurd p
+
+pub no_misfit_of : (s : Tables) (a b : SimType) → ProperType a → misfit_of s a b ≡ None → b ≡ a
+unfolding misfit_of
+no_misfit_of s t.Integer b p e = sym (same_type_of t.Integer b p (same_unless t.Integer b e))
+no_misfit_of s t.Boolean b p e = sym (same_type_of t.Boolean b p (same_unless t.Boolean b e))
+no_misfit_of s t.Character b p e = sym (same_type_of t.Character b p (same_unless t.Character b e))
+no_misfit_of s t.Text b p e = sym (same_type_of t.Text b p (same_unless t.Text b e))
+no_misfit_of s (t.Ref c) b p e = absurd p
+no_misfit_of s t.NoneType b p e = absurd p
 
 -- what fits
 abbrev Fits : Operator → (a b : SimType) → Fit → Type 0
@@ -155,46 +204,47 @@ unfolding is_text own_result stream_of
 signed_means s from g i a x p said = one_is s from t.Integer i a (syntax.Signed g i a) x tt p refl refl refl (λ v. (refl, v)) said
 
 -- a conditional expression
-common_same : (a b ty : SimType) → ProperType a → ProperType b → common_type a b ≡ Some ty → (a ≡ b) × (a ≡ ty)
-common_same t.Integer b ty p q e = go (is_same t.Integer b) refl e
+common_same : (s : Tables) (a b ty : SimType) → ProperType a → ProperType b → common_type s a b ≡ Some ty → (a ≡ b) × (a ≡ ty)
+unfolding common_type
+common_same s t.Integer b ty p q e = go (is_same t.Integer b) refl e
   where
     go : (x : Bool) → is_same t.Integer b ≡ x → (if x then Some t.Integer else None) ≡ Some ty → (t.Integer ≡ b) × (t.Integer ≡ ty)
     go true x e = (same_type t.Integer b q x, cc)
     go false x e = absurd (cc)
-common_same t.Boolean b ty p q e = go (is_same t.Boolean b) refl e
+common_same s t.Boolean b ty p q e = go (is_same t.Boolean b) refl e
   where
     go : (x : Bool) → is_same t.Boolean b ≡ x → (if x then Some t.Boolean else None) ≡ Some ty → (t.Boolean ≡ b) × (t.Boolean ≡ ty)
     go true x e = (same_type t.Boolean b q x, cc)
     go false x e = absurd (cc)
-common_same t.Character b ty p q e = go (is_same t.Character b) refl e
+common_same s t.Character b ty p q e = go (is_same t.Character b) refl e
   where
     go : (x : Bool) → is_same t.Character b ≡ x → (if x then Some t.Character else None) ≡ Some ty → (t.Character ≡ b) × (t.Character ≡ ty)
     go true x e = (same_type t.Character b q x, cc)
     go false x e = absurd (cc)
-common_same t.Text b ty p q e = go (is_same t.Text b) refl e
+common_same s t.Text b ty p q e = go (is_same t.Text b) refl e
   where
     go : (x : Bool) → is_same t.Text b ≡ x → (if x then Some t.Text else None) ≡ Some ty → (t.Text ≡ b) × (t.Text ≡ ty)
     go true x e = (same_type t.Text b q x, cc)
     go false x e = absurd (cc)
-common_same (t.Ref d) b ty p q e = absurd p
-common_same t.NoneType b ty p q e = absurd p
+common_same s (t.Ref d) b ty p q e = absurd p
+common_same s t.NoneType b ty p q e = absurd p
 
 pub three_means : (s : Source) (from : Option ℕ) (i : ℕ) (c a b : Expression) (x y z : Side) → OperandIs s from c x → OperandIs s from a y → OperandIs s from b z
-    → AllSay s (three i x y z).events → Means true s from (syntax.If i c a b) (three i x y z).value
+    → AllSay s (three s.tables i x y z).events → Means true s from (syntax.If i c a b) (three s.tables i x y z).value
 unfolding three has telling breaks is_text own_result stream_of
 three_means s from i c a b x y z p q w said =
-    subst (λ k. Means true s from (syntax.If i c a b) (arms_fit i x y z k y.ty z.ty).value) (sym p.is)
-    (subst (λ k. Means true s from (syntax.If i c a b) (arms_fit i x y z (Some p.ty) k z.ty).value) (sym q.is)
-    (subst (λ k. Means true s from (syntax.If i c a b) (arms_fit i x y z (Some p.ty) (Some q.ty) k).value) (sym w.is)
+    subst (λ k. Means true s from (syntax.If i c a b) (arms_fit s.tables i x y z k y.ty z.ty).value) (sym p.is)
+    (subst (λ k. Means true s from (syntax.If i c a b) (arms_fit s.tables i x y z (Some p.ty) k z.ty).value) (sym q.is)
+    (subst (λ k. Means true s from (syntax.If i c a b) (arms_fit s.tables i x y z (Some p.ty) (Some q.ty) k).value) (sym w.is)
     (go (is_same p.ty t.Boolean) refl
-    (subst (λ k. AllSay s (arms_fit i x y z (Some p.ty) (Some q.ty) k).events) w.is
-    (subst (λ k. AllSay s (arms_fit i x y z (Some p.ty) k z.ty).events) q.is
-    (subst (λ k. AllSay s (arms_fit i x y z k y.ty z.ty).events) p.is said))))))
+    (subst (λ k. AllSay s (arms_fit s.tables i x y z (Some p.ty) (Some q.ty) k).events) w.is
+    (subst (λ k. AllSay s (arms_fit s.tables i x y z (Some p.ty) k z.ty).events) q.is
+    (subst (λ k. AllSay s (arms_fit s.tables i x y z k y.ty z.ty).events) p.is said))))))
   where
-    arms : ExprIs s from c (Simply kind.Boolean) → (o : Option SimType) → common_type q.ty w.ty ≡ o → AllSay s (in_common i z o).events → Means true s from (syntax.If i c a b) (in_common i z o).value
+    arms : ExprIs s from c (Simply kind.Boolean) → (o : Option SimType) → common_type s.tables q.ty w.ty ≡ o → AllSay s (in_common i z o).events → Means true s from (syntax.If i c a b) (in_common i z o).value
     arms condition None e said = absurd said.0
     arms condition (Some ty) e said =
-        let both = common_same q.ty w.ty ty q.value.proper w.value.proper e in (
+        let both = common_same s.tables q.ty w.ty ty q.value.proper w.value.proper e in (
           record {
             proper = subst ProperType both.1 q.value.proper;
             texts = ap is_text_type said.0;
@@ -208,7 +258,7 @@ three_means s from i c a b x y z p q w said =
           refl,
         )
 
-    go : (k : Bool) → is_same p.ty t.Boolean ≡ k → AllSay s (if k then in_common i z (common_type q.ty w.ty) else breaks x.first.0 r.WrongType).events
-        → Means true s from (syntax.If i c a b) (if k then in_common i z (common_type q.ty w.ty) else breaks x.first.0 r.WrongType).value
-    go true same said = arms (subst (λ k. ExprIs s from c (Simply (kind_of_type k))) (same_type p.ty t.Boolean tt same) p.value.value) (common_type q.ty w.ty) refl said
+    go : (k : Bool) → is_same p.ty t.Boolean ≡ k → AllSay s (if k then in_common i z (common_type s.tables q.ty w.ty) else breaks x.first.0 r.WrongType).events
+        → Means true s from (syntax.If i c a b) (if k then in_common i z (common_type s.tables q.ty w.ty) else breaks x.first.0 r.WrongType).value
+    go true same said = arms (subst (λ k. ExprIs s from c (Simply (kind_of_type k))) (same_type p.ty t.Boolean tt same) p.value.value) (common_type s.tables q.ty w.ty) refl said
     go false same said = absurd said.0

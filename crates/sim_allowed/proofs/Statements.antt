@@ -2,6 +2,7 @@
 use Rattle.std.proofs.Common.{◌≡◌, ℕ, Bool, true, false, List, [], ◌∷◌, ◌++◌, Option, Some, None, refl, sym, ap, ◌∙◌, subst, if◌then◌else◌}
 use Rattle.std.proofs.lemmas.Bool.{false≢true}
 use Rattle.sim_base.specs.declared.numbering.DeclNo.{DeclNo}
+use Rattle.sim_base.specs.declared.rule.Rule.{Rule}
 use Rattle.sim_base.specs.declared.rule.Rule.TheVariants as r
 use Rattle.sim_scope.specs.declared.outcome.Extent.{Extent}
 use Rattle.sim_scope.specs.declared.outcome.Extent.TheVariants as extent
@@ -25,12 +26,12 @@ use Rattle.sim_scope.specs.Calls.{bound, is_barred}
 use Rattle.sim_scope.specs.Expressions.{judge, judge_side}
 use Rattle.sim_scope.specs.Found.{Broken, Typed}
 use Rattle.sim_scope.specs.Judged.{gives, next, telling}
-use Rattle.sim_scope.specs.Operators.{is_same}
+use Rattle.sim_scope.specs.Operators.{is_same, misfit_of}
 use Rattle.sim_scope.specs.Outcomes.{called}
 use Rattle.sim_scope.specs.Runs.{each}
 use Rattle.sim_scope.specs.Scopes.{binding, entry_of}
 use Rattle.sim_scope.specs.Source.{Source, block_of, denoted}
-use Rattle.sim_scope.specs.Statements.{assignment_events, call_alone, call_events, control_events, controlled, element_events, entry_controlled, first_step, first_value, formal_controlled, integer_from, judging, moded_controlled, needs, required, simple, stands, starts, taken_by, type_needed, type_taken, variable_controlled}
+use Rattle.sim_scope.specs.Statements.{assignment_events, call_alone, call_events, control_events, controlled, element_events, entry_controlled, first_step, first_value, formal_controlled, integer_from, judging, moded_controlled, needs, required, simple, stands, starts, taken_by, told_unless, type_needed, type_taken, variable_controlled}
 use Rattle.sim_scope.specs.Walk.{block_events, statement_events, statements_events}
 use Rattle.sim_tree.specs.declared.expr.Identifier.{Identifier}
 use Rattle.sim_tree.specs.declared.stmt.Assignment.{Assignment}
@@ -50,7 +51,7 @@ use Rattle.sim_allowed.proofs.Assigned.{TargetsKnown, lefts_are}
 use Rattle.sim_allowed.proofs.Calls.{called_means}
 use Rattle.sim_allowed.proofs.Expressions.{AllThere, both_there, expression_known, operand}
 use Rattle.sim_allowed.proofs.Meant.{CallsFor, Means}
-use Rattle.sim_allowed.proofs.Operators.{same_type}
+use Rattle.sim_allowed.proofs.Operators.{no_misfit_of, same_type}
 use Rattle.sim_allowed.proofs.Said.{AllSay, both_say, next_says}
 use Rattle.sim_allowed.proofs.Uses.{BoundIs, NotConstant, Sight, bound_is, formal_type, names_left, never_procedure, never_untyped, simple_held}
 
@@ -184,6 +185,7 @@ module _ (s : Source) (known : Tabled s) (k : ℕ) (sight : Sight s (Some k) ext
               ap (λ z. formal_holds f.mode z f.ty) kinds ∙ ap (λ z. formal_holds f.mode shape.Simple z) types
               ∙ simple_held f.mode ty (subst (λ z. ProperFormal f.mode shape.Simple z) types (subst (λ z. ProperFormal f.mode z f.ty) kinds p))
       entry_is (entry.Unspecified w) there p around said = absurd p
+      entry_is (entry.Attribute name parameter result) there p around said = absurd p
       entry_is (entry.Constant ty) there p around said = absurd said.0
       entry_is (entry.Array element n) there p around said = absurd said.0
       entry_is (entry.Procedure result j) there p around said = absurd said.0
@@ -210,18 +212,18 @@ module _ (s : Source) (known : Tabled s) (k : ℕ) (sight : Sight s (Some k) ext
 
   -- ---- elements
 
-  taken : (a : SimType) → ProperType a → (x : Side) (b : SimType) → x.ty ≡ Some b → AllSay s (taken_by (Some a) x).events → b ≡ a
+  taken : (a : SimType) → ProperType a → (x : Side) (b : SimType) → x.ty ≡ Some b → AllSay s (taken_by s.tables (Some a) x).events → b ≡ a
   unfolding taken_by wrong telling
-  taken a p x b is said = go (is_same b a) refl (subst (λ z. AllSay s (type_taken (Some a) x z).events) is said)
+  taken a p x b is said = go (misfit_of s.tables a b) refl (subst (λ z. AllSay s (type_taken s.tables (Some a) x z).events) is said)
     where
-      go : (m : Bool) → is_same b a ≡ m → AllSay s (if m then fine else wrong x.first.0 r.WrongType).events → b ≡ a
-      go true same said = same_type b a p same
-      go false same said = absurd said.0
+      go : (m : Option Rule) → misfit_of s.tables a b ≡ m → AllSay s (told_unless x.first.0 m).events → b ≡ a
+      go None same said = no_misfit_of s.tables a b p same
+      go (Some rule) same said = absurd said.0
 
   value_is : (a : SimType) → ProperType a → (e : Expression) → Known s (Some k) extent.Statement e → AllSay s (first_value s.tables (Some a) e) → ExprIs s (Some k) e (Simply (kind_of_type a))
   unfolding first_value
   value_is a p e h said =
-      let parts = next_says s (judge_side s.tables extent.Statement e) (taken_by (Some a)) said in
+      let parts = next_says s (judge_side s.tables extent.Statement e) (taken_by s.tables (Some a)) said in
       let v = operand s known (Some k) extent.Statement k sight e h parts.0 in
       subst (λ z. ExprIs s (Some k) e (Simply (kind_of_type z))) (taken a p (judge_side s.tables extent.Statement e).value v.ty v.is parts.1) v.value.value
 

@@ -113,8 +113,8 @@ module _ (s : Tables) (x : Extent) where
   unfolding judge next
   if_tells i c a b h j g l =
       let w = (judge_side s x c).value in let y = (judge_side s x a).value in let z = (judge_side s x b).value in
-      let last = three_types i w y z in
-      if_covers i (judge_side s x c).events (judge_side s x a).events (judge_side s x b).events (three i w y z).events l (named b l) (named a (named b l)) (named c (named a (named b l)))
+      let last = three_types s i w y z in
+      if_covers i (judge_side s x c).events (judge_side s x a).events (judge_side s x b).events (three s i w y z).events l (named b l) (named a (named b l)) (named c (named a (named b l)))
       (side_tells c h (named a (named b l))) (side_tells a j (named b l)) (side_tells b g l) last
 
   not_tells : (i : ℕ) (a : Expression) → Tells a → Tells (syntax.Not i a)
@@ -141,9 +141,9 @@ module _ (s : Tables) (x : Extent) where
   dot_tells : (i : ℕ) (b : Expression) (name : Identifier) (es : Expressions) → Tells b → TellsAll es → Tells (syntax.Dot i b name es)
   unfolding judge next
   dot_tells i b name es g h l =
-      let o = (judge s x b).value in let d = (attribute s name (first_of b) o).value in let a = (actuals s x d no_actuals es).value in
-      covers_dot i name.token.0 (judge s x b).events (attribute s name (first_of b) o).events (actuals s x d no_actuals es).events (used s i name d a).events l (all_named es l) (named b (i ∷ name.token.0 ∷ all_named es l))
-      (g (i ∷ name.token.0 ∷ all_named es l)) (attribute_uses s name (first_of b) o) (h d no_actuals l) (used_types s i name d a)
+      let o = (judge s x b).value in let d = (attribute s x name (first_of b) o).value in let a = (actuals s x d no_actuals es).value in
+      covers_dot i name.token.0 (judge s x b).events (attribute s x name (first_of b) o).events (actuals s x d no_actuals es).events (used s i name d a).events l (all_named es l) (named b (i ∷ name.token.0 ∷ all_named es l))
+      (g (i ∷ name.token.0 ∷ all_named es l)) (attribute_uses s x name (first_of b) o) (h d no_actuals l) (used_types s i name d a)
 
   all_tell : (e : Expression) (es : Expressions) → Tells e → TellsAll es → TellsAll (Then e es)
   unfolding actuals next
@@ -162,7 +162,7 @@ module _ (s : Tables) (x : Extent) where
     expression_tells (syntax.Signed g i a) p = signed_tells g i a (expression_tells a p)
     expression_tells (syntax.Dot i a name es) p = dot_tells i a name es (expression_tells a p.0) (expressions_tell es p.1)
     expression_tells (syntax.Constant literal i) p = λ l. covers_typing i (has i (literal_type literal)).events l (has_types i (literal_type literal))
-    expression_tells (syntax.Named name es) p = named_tells name es (expressions_tell es p)
+    expression_tells (syntax.Named name es) p = named_tells name es (expressions_tell es p.1)
     expression_tells (syntax.Parentheses i a) p = parentheses_tell i a (expression_tells a p)
     expression_tells (syntax.Member m i a class) p = absurd p
     expression_tells (syntax.Qua i a class) p = absurd p

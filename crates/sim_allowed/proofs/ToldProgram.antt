@@ -225,7 +225,7 @@ unfolding lefts gives next
 sides_fill s first v e [] p q a l = fills_then (judge_side s extent.Statement e).events [] l (in_expression e l) (side_fills s extent.Statement e p l) silent_none
 sides_fill s first v e (x ∷ xs) p q a l =
     let this : LeftSide = record { sign = x.sign; token = x.token; target = e } in
-    let b = with_left this.sign v a (left_side s first this).value in
+    let b = with_left s this.sign v a (left_side s first this).value in
     fills_apart (judge_side s extent.Statement (last_value x.value xs)).events (left_side s first this).events (lefts s first v b (left_sides x.value xs)).events l (in_expression x.value (in_each in_side xs l)) (in_expression e (in_expression x.value (in_each in_side xs l)))
     (left_fills s first this p (in_expression x.value (in_each in_side xs l))) (sides_fill s first v x.value xs q.0 q.1 b l)
 

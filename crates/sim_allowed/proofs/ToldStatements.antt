@@ -1,7 +1,8 @@
 -- What the statements and declarations of a program tell of a token is told once.
-use Rattle.std.proofs.Common.{◌≡◌, ◌≤◌, ◌<◌, ◌+◌, ℕ, Bool, true, false, List, [], ◌∷◌, ◌++◌, Option, Some, None, refl, arith, if◌then◌else◌}
+use Rattle.std.proofs.Common.{Bool, List, None, Option, Some, [], arith, false, if◌then◌else◌, refl, subst, sym, true, ℕ, ◌++◌, ◌+◌, ◌<◌, ◌∷◌, ◌≡◌, ◌≤◌}
 use Rattle.std.proofs.lemmas.Bool.Decides.{nat_tests}
 use Rattle.std.specs.Prelude.{nat_eq}
+use Rattle.sim_base.specs.declared.rule.Rule.{Rule}
 use Rattle.sim_base.specs.declared.rule.Rule.TheVariants as r
 use Rattle.sim_scope.specs.declared.outcome.Extent.TheVariants as extent
 use Rattle.sim_scope.specs.declared.outcome.Side.{Side}
@@ -21,12 +22,12 @@ use Rattle.sim_scope.specs.Calls.{bound}
 use Rattle.sim_scope.specs.Expressions.{judge_side}
 use Rattle.sim_scope.specs.Found.{Broken, Event, Typed}
 use Rattle.sim_scope.specs.Judged.{gives, next, telling}
-use Rattle.sim_scope.specs.Operators.{is_same}
+use Rattle.sim_scope.specs.Operators.{is_same, misfit_of}
 use Rattle.sim_scope.specs.Runs.{each}
 use Rattle.sim_scope.specs.Scopes.{entry_of}
-use Rattle.sim_scope.specs.Statements.{array_events, constant_token, constant_type, control_events, controlled, element_events, entry_controlled, first_step, first_value, formal_controlled, has_type, integer_from, judging, moded_controlled, not_simple, pair_events, required, simple, starts, taken_by, type_taken, value_fits, value_type, variable_controlled, variable_events}
+use Rattle.sim_scope.specs.Statements.{array_events, constant_token, constant_type, control_events, controlled, element_events, entry_controlled, first_step, first_value, formal_controlled, has_type, integer_from, judging, moded_controlled, not_simple, pair_events, program_prefix_events, required, simple, starts, taken_by, told_unless, type_taken, value_fits, value_type, variable_controlled, variable_events}
 use Rattle.sim_scope.specs.Tables.{Tables}
-use Rattle.sim_scope.specs.Walk.{block_events, declaration_events, declarations_events, program_events, statement_events, statements_events, whole_events}
+use Rattle.sim_scope.specs.Walk.{begin_of, block_events, declaration_events, declarations_events, program_events, statement_events, statements_events, whole_events}
 use Rattle.sim_tree.specs.declared.expr.Identifier.{Identifier}
 use Rattle.sim_tree.specs.declared.stmt.Assignment.{Assignment}
 use Rattle.sim_tree.specs.declared.stmt.Constant.{Constant}
@@ -72,6 +73,7 @@ entry_types sign token None = typing_silent token [] silent_none
 entry_types sign token (Some (entry.Variable ty)) = variable_types sign token ty
 entry_types sign token (Some (entry.Formal f)) = formal_types sign token f.mode f.kind f.ty
 entry_types sign token (Some (entry.Unspecified w)) = typing_silent token [] silent_none
+entry_types sign token (Some (entry.Attribute name parameter result)) = not_simple_types token
 entry_types sign token (Some (entry.Constant ty)) = not_simple_types token
 entry_types sign token (Some (entry.Array e n)) = not_simple_types token
 entry_types sign token (Some (entry.Procedure result b)) = not_simple_types token
@@ -94,18 +96,18 @@ controlled_fills s sign x l =
     let o = (bound s extent.Statement x).value in
     using_and_typing x.token.0 (bound s extent.Statement x).events (simple s sign x.token.0 o).events l (bound_uses s extent.Statement x) (simple_types s sign x.token.0 o)
 
-taken_silent : (a : Option SimType) (x : Side) → Silent (taken_by a x).events
+taken_silent : (s : Tables) (a : Option SimType) (x : Side) → Silent (taken_by s a x).events
 unfolding taken_by fine wrong telling gives
-taken_silent a x = go a x.ty
+taken_silent s a x = go a x.ty
   where
-    same : (b : Bool) → Silent (if b then fine else wrong x.first.0 r.WrongType).events
-    same true = silent_none
-    same false = silent_break x.first.0 r.WrongType
+    told : (o : Option Rule) → Silent (told_unless x.first.0 o).events
+    told None = silent_none
+    told (Some rule) = silent_break x.first.0 rule
 
-    go : (a b : Option SimType) → Silent (type_taken a x b).events
+    go : (a b : Option SimType) → Silent (type_taken s a x b).events
     go None b = silent_none
     go (Some a) None = silent_none
-    go (Some a) (Some b) = same (is_same b a)
+    go (Some a) (Some b) = told (misfit_of s a b)
 
 started_silent : (a : Option SimType) (x : Side) → Silent (starts a x).events
 unfolding starts fine wrong telling gives
@@ -123,7 +125,7 @@ started_silent a x = go a x.ty
 
 value_fills : (s : Tables) (a : Option SimType) (e : Expression) → PlainExpression e → (l : List Spot) → Fills (first_value s a e) l (in_expression e l)
 unfolding first_value next
-value_fills s a e p l = fills_then (judge_side s extent.Statement e).events (taken_by a (judge_side s extent.Statement e).value).events l (in_expression e l) (side_fills s extent.Statement e p l) (taken_silent a (judge_side s extent.Statement e).value)
+value_fills s a e p l = fills_then (judge_side s extent.Statement e).events (taken_by s a (judge_side s extent.Statement e).value).events l (in_expression e l) (side_fills s extent.Statement e p l) (taken_silent s a (judge_side s extent.Statement e).value)
 
 step_fills : (s : Tables) (a : Option SimType) (e : Expression) → PlainExpression e → (l : List Spot) → Fills (first_step s a e) l (in_expression e l)
 unfolding first_step next
@@ -253,8 +255,8 @@ module _ (s : Tables) where
       (fills_then (statements_events v Inside ss) [] u (in_statements ss u) (statements_fill ss p.1 u) silent_none)))
 
   pub program_fills : (p : Program) → Plain p → Fills (program_events (judging s) p) [] (in_block p.block [])
-  unfolding judging program_events
-  program_fills p plain = whole_fills p.block plain.block []
+  unfolding judging program_events program_prefix_events
+  program_fills p plain = subst (λ z. Fills (program_prefix_events s z (begin_of p.block) ++ whole_events (judging s) p.block) [] (in_block p.block [])) (sym plain.prefix) (whole_fills p.block plain.block [])
 
 -- ---- each token stands once
 

@@ -2,7 +2,7 @@
 use Rattle.std.proofs.Common.{◌≡◌, ℕ, suc, ◌+◌, Bool, true, false, List, [], ◌⊎◌, inl, inr, length, Option, Some, None, refl, sym, ap, ◌∙◌, subst, arith, if◌then◌else◌}
 use Rattle.std.proofs.lemmas.Bool.{false≢true}
 use Rattle.std.proofs.lemmas.Bool.Decides.{nat_tests}
-use Rattle.std.specs.Prelude.{nat_eq}
+use Rattle.std.specs.Prelude.{nat_eq, ◌&&◌}
 use Rattle.sim_base.specs.declared.numbering.DeclNo.{DeclNo}
 use Rattle.sim_base.specs.declared.numbering.TokenNo.{TokenNo}
 use Rattle.sim_base.specs.declared.rule.Rule.TheVariants as r
@@ -26,13 +26,15 @@ use Rattle.sim_scope.specs.declared.types.Mode.TheVariants as mode
 use Rattle.sim_scope.specs.declared.types.SimType.{SimType}
 use Rattle.sim_scope.specs.declared.types.SimType.TheVariants as t
 use Rattle.sim_scope.specs.Actuals.{formal_or_none, no_actuals, of_formal_procedure, parameter_at, parameter_of}
-use Rattle.sim_scope.specs.Calls.{alone, applied, attribute, attribute_by_value, attribute_found, attribute_of_type, attribute_of_value, bound, declared_alone, declared_applied, element_of, formal_alone, found_as, is_barred, is_inside, misfitting_or, parameter_count, procedure_alone, resulting, standard_applied, typed_if, used, used_or_barred}
+use Rattle.sim_scope.specs.Calls.{alone, applied, attribute, attribute_by_value, attribute_found, attribute_of_type, attribute_of_value, bound, declared_alone, declared_applied, element_of, formal_alone, found_as, is_barred, is_inside, is_undotted, misfitting_or, parameter_count, procedure_alone, resulting, standard_applied, typed_if, used, used_or_barred}
+use Rattle.sim_scope.specs.ClassNames.{is_name_of_classes}
 use Rattle.sim_scope.specs.Found.{Typed}
 use Rattle.sim_scope.specs.Judged.{Judged, gives, next, telling}
 use Rattle.sim_scope.specs.Outcomes.{breaks, call_of, is_stream, side, varies}
-use Rattle.sim_scope.specs.Scopes.{binding, block_at, declaration_from, declared_or_standard, entry_of, formals_of}
+use Rattle.sim_scope.specs.Access.{block_at}
+use Rattle.sim_scope.specs.Scopes.{binding, entry_of, formals_of}
 use Rattle.sim_scope.specs.Source.{Source, block_of, denoted, type_at}
-use Rattle.sim_scope.specs.Standard.{signature, standard_name, sysin_attribute, sysout_attribute, text_attribute}
+use Rattle.sim_scope.specs.Standard.{is_standard_class, signature, sysin_attribute, sysout_attribute, text_attribute}
 use Rattle.sim_tree.specs.declared.expr.Identifier.{Identifier}
 use Rattle.sim_tree.specs.Syntax.{Expression, Expressions, NoMore, Then}
 use Rattle.sim_tree.specs.Syntax as syntax
@@ -45,11 +47,12 @@ use Rattle.sim_meaning.specs.Statements.{denoted_leaves}
 use Rattle.sim_meaning.specs.Texts.{kind_of_type}
 use Rattle.sim_sound.specs.Typed.{ActualsFit, AreIntegers, AreOf, ArrayOf, BehindGives, DeclaredGives, DotGives, ExprIs, Holds, HeldNames, LeftDeclared, LeftDenoted, LeftHeld, LeftIs, NamedGives, Sees, Simply, formal_holds}
 use Rattle.sim_agree.specs.Facts.{ProperEntry, ProperFormal, ProperResult, ProperType, Tabled}
+use Rattle.sim_agree.proofs.WithoutClasses.{standard_is}
 use Rattle.sim_allowed.proofs.Actuals.{AllActuals, AllFit, all_formals, all_integers, all_operands, size}
 use Rattle.sim_allowed.proofs.Calls.{call_means, declared_call, side_means, standard_call}
 use Rattle.sim_allowed.proofs.Headings.{heading}
 use Rattle.sim_allowed.proofs.Meant.{CallsFor, Means, TypeThere, ValueIs, Varies}
-use Rattle.sim_allowed.proofs.Names.{IsProcedure, NoAttribute, OfTexts, alone_name, attribute_gives, given_by, kinds_of, parameter_kinds, standard_gives, standard_left, standard_proper, sysin_name, sysout_name, text_name}
+use Rattle.sim_allowed.proofs.Names.{IsProcedure, NoAttribute, OfTexts, alone_name, alone_no_class, attribute_gives, attribute_no_class, given_by, kinds_of, parameter_kinds, procedure_no_class, standard_gives, standard_left, standard_proper, sysin_name, sysout_name, text_name}
 use Rattle.sim_allowed.proofs.Said.{AllSay, next_says}
 
 -- ---- what an identifier denotes
@@ -73,15 +76,9 @@ bound_is s x name said = go (binding s.tables name.token.0 name.name) refl said
     go None e said = absurd said.0
     go (Some d) e said = barred d e (is_barred s.tables x name.token.0 d) refl said
 
--- a standard name that is found alone is no attribute of texts
-pub bound_name : (s : Source) (token : ℕ) (name : List ℕ) (k : Standard) → binding s.tables token name ≡ Some (denotation.Standard k) → NoAttribute k
-unfolding binding
-bound_name s token name k e = go (declaration_from s.tables (block_at s.tables token) name) (standard_name name) refl e
-  where
-    go : (d : Option DeclNo) (o : Option Standard) → standard_name name ≡ o → declared_or_standard d o ≡ Some (denotation.Standard k) → NoAttribute k
-    go (Some d) o is e = absurd (cc)
-    go None None is e = absurd (cc)
-    go None (Some j) is e = let same : j ≡ k = cc in alone_name name k (is ∙ ap Some same)
+-- a standard name that is found alone is no attribute of texts, and none of classes
+pub bound_name : (s : Source) (token : ℕ) (name : List ℕ) (k : Standard) → is_name_of_classes name ≡ false → binding s.tables token name ≡ Some (denotation.Standard k) → NoAttribute k
+bound_name s token name k plain e = alone_name name k plain (standard_is s.tables token name k e)
 
 -- ---- types of what is named
 
@@ -112,6 +109,11 @@ no_stream _ e = refl
 is_procedure : (name : Standard) → NoAttribute name → is_stream name ≡ false → IsProcedure name
 is_procedure found.Sysin a e = absurd (false≢true (sym e))
 is_procedure found.Sysout a e = absurd (false≢true (sym e))
+is_procedure found.Detach a e = absurd a
+is_procedure found.Call a e = absurd a
+is_procedure found.Resume a e = absurd a
+is_procedure found.Simset a e = absurd a
+is_procedure found.Simulation a e = absurd a
 is_procedure name a e = a
 
 stream_result : (name : Standard) → is_stream name ≡ true → (signature name).result ≡ None
@@ -124,7 +126,7 @@ no_parameters : (first second : Option SimType) → first ≡ None → parameter
 no_parameters None second e = refl
 no_parameters (Some a) second e = absurd (cc)
 
-module _ (s : Source) (from : Option ℕ) (e : Expression) (name : Standard) (naming : ℕ) (texts : is_text s e ≡ is_text_type (type_at s naming)) (stream : stream_of s e ≡ stream_named name) (unowned : own_result s e ≡ None) where
+module _ (s : Source) (from : Option ℕ) (e : Expression) (name : Standard) (naming : ℕ) (texts : is_text s e ≡ is_text_type (type_at s naming)) (stream : stream_of s e ≡ stream_named name) (unowned : own_result s e ≡ None) (no_class : is_standard_class name ≡ false) where
   type_there : (o : Outcome) → AllSay s (typed_if naming (signature name).result o).events → is_stream name ≡ false → TypeThere s e (signature name).result
   type_there o said other = typed_there s e naming (signature name).result o texts (stream ∙ no_stream name other) (standard_proper name) said
 
@@ -134,13 +136,19 @@ module _ (s : Source) (from : Option ℕ) (e : Expression) (name : Standard) (na
 
   -- without any
   pub standard_without : (token : TokenNo) → (is_stream name ≡ false → AreOf s from NoMore (kinds_of (signature name)) → CallsFor s from e (given_by (signature name).result))
-      → AllSay s (typed_if naming (signature name).result (is.Standard name token)).events → Means true s from e (typed_if naming (signature name).result (is.Standard name token)).value
-  standard_without token calls said = subst (λ z. Means true s from e z) (sym (typed_is naming (signature name).result (is.Standard name token))) (record {
-    calls = λ other none. calls other (subst (λ ks. AreOf s from NoMore ks) (sym (no_parameters (signature name).first (signature name).second none)) tt);
-    typed = type_in (is_stream name) refl (is.Standard name token) said;
-    stream = stream;
-    unowned = unowned;
-  })
+      → AllSay s (if is_standard_class name then gives is.Class else typed_if naming (signature name).result (is.Standard name token)).events
+      → Means true s from e (if is_standard_class name then gives is.Class else typed_if naming (signature name).result (is.Standard name token)).value
+  standard_without token calls said =
+      subst (λ b. Means true s from e (if b then gives is.Class else typed_if naming (signature name).result (is.Standard name token)).value) (sym no_class)
+      (typed (subst (λ b. AllSay s (if b then gives is.Class else typed_if naming (signature name).result (is.Standard name token)).events) no_class said))
+    where
+      typed : AllSay s (typed_if naming (signature name).result (is.Standard name token)).events → Means true s from e (typed_if naming (signature name).result (is.Standard name token)).value
+      typed said = subst (λ z. Means true s from e z) (sym (typed_is naming (signature name).result (is.Standard name token))) (record {
+        calls = λ other none. calls other (subst (λ ks. AreOf s from NoMore ks) (sym (no_parameters (signature name).first (signature name).second none)) tt);
+        typed = type_in (is_stream name) refl (is.Standard name token) said;
+        stream = stream;
+        unowned = unowned;
+      })
 
   -- with operands
   pub standard_with : (es : Expressions) → (is_stream name ≡ false → AreOf s from es (kinds_of (signature name)) → CallsFor s from e (given_by (signature name).result))
@@ -159,10 +167,15 @@ module _ (s : Source) (from : Option ℕ) (e : Expression) (name : Standard) (na
       counted other true same said = result other (grind (arith, nat_tests)) a.misfit refl said
       counted other false same said = absurd said.0
 
-      go : (b : Bool) → is_stream name ≡ b → AllSay s (if b then breaks token r.StandardNameLeftOut else if nat_eq (parameter_count (signature name)) a.count then resulting naming a.misfit (signature name).result else breaks token r.WrongNumber).events
-          → Means true s from e (if b then breaks token r.StandardNameLeftOut else if nat_eq (parameter_count (signature name)) a.count then resulting naming a.misfit (signature name).result else breaks token r.WrongNumber).value
+      tested : is_stream name ≡ false → (c : Bool) → AllSay s (if c then breaks token r.WrongKind else if nat_eq (parameter_count (signature name)) a.count then resulting naming a.misfit (signature name).result else breaks token r.WrongNumber).events
+          → Means true s from e (if c then breaks token r.WrongKind else if nat_eq (parameter_count (signature name)) a.count then resulting naming a.misfit (signature name).result else breaks token r.WrongNumber).value
+      tested other true said = absurd said.0
+      tested other false said = counted other (nat_eq (parameter_count (signature name)) a.count) refl said
+
+      go : (b : Bool) → is_stream name ≡ b → AllSay s (if b then breaks token r.StandardNameLeftOut else if is_standard_class name then breaks token r.WrongKind else if nat_eq (parameter_count (signature name)) a.count then resulting naming a.misfit (signature name).result else breaks token r.WrongNumber).events
+          → Means true s from e (if b then breaks token r.StandardNameLeftOut else if is_standard_class name then breaks token r.WrongKind else if nat_eq (parameter_count (signature name)) a.count then resulting naming a.misfit (signature name).result else breaks token r.WrongNumber).value
       go true is said = absurd said.0
-      go false is said = counted is (nat_eq (parameter_count (signature name)) a.count) refl said
+      go false is said = tested is (is_standard_class name) said
 
 -- ---- declared identifiers
 
@@ -198,6 +211,9 @@ module _ (s : Source) (known : Tabled s) (from : Option ℕ) (x : Identifier) (e
 
   value_there : (ty : SimType) → ProperType ty → type_at s x.token.0 ≡ Some ty → ExprIs s from This (Simply (kind_of_type ty)) → ValueIs s from This ty
   value_there ty p said v = record { proper = p; texts = texts_are ∙ ap is_text_type said; stream = no_stream_is; value = v }
+
+same_token : (n : ℕ) → nat_eq n n ≡ true
+same_token n = grind (arith, nat_tests)
 
 -- ---- formal parameters
 
@@ -286,7 +302,7 @@ module _ (s : Source) (known : Tabled s) (x : Identifier) (d : DeclNo) (says : d
       value_there s known from x NoMore d says ty p said.0 (names_value s known from x NoMore d says (entry.Constant ty) there (Simply (kind_of_type ty)) (c.value, c.is, ap Simply c.of_type))
   alone_means from (entry.Array element dimensions) there p sees said = (p, names_value s known from x NoMore d says (entry.Array element dimensions) there (ArrayOf (kind_of_type element)) (refl, sees tt))
   alone_means from (entry.Procedure result k) there p sees said =
-      subst (λ z. Means true s from Alone z) (sym (typed_is x.token.0 result (procedure_alone d x (is_inside s.tables x.token.0 k)))) (record {
+      subst (λ z. Means true s from Alone z) (sym (typed_is x.token.0 result (procedure_alone d x (is_undotted x.token.0 x && is_inside s.tables x.token.0 k)))) (record {
         name = x;
         is = refl;
         at = refl;
@@ -294,14 +310,15 @@ module _ (s : Source) (known : Tabled s) (x : Identifier) (d : DeclNo) (says : d
         result = result;
         block = k;
         declared = there;
-        typed = typed_there s Alone x.token.0 result (procedure_alone d x (is_inside s.tables x.token.0 k)) (texts_are s known from x NoMore d says) (no_stream_is s known from x NoMore d says) p said;
-        inside = refl;
+        typed = typed_there s Alone x.token.0 result (procedure_alone d x (is_undotted x.token.0 x && is_inside s.tables x.token.0 k)) (texts_are s known from x NoMore d says) (no_stream_is s known from x NoMore d says) p said;
+        inside = ap (λ z. z && is_inside s.tables x.token.0 k) (same_token x.token.0);
         sees = sees tt;
       })
   alone_means from (entry.Class k) there p sees said = absurd p
   alone_means from (entry.Virtual result own) there p sees said = absurd p
   alone_means from (entry.Formal f) there p sees said = formal_means from f there p (sees tt) (procedure_alone d x false) said
   alone_means from (entry.Unspecified w) there p sees said = absurd p
+  alone_means from (entry.Attribute name parameter result) there p sees said = absurd p
 
 -- ---- with actuals
 
@@ -388,6 +405,7 @@ module _ (s : Source) (known : Tabled s) (x : Identifier) (first : Expression) (
   with_means from fits (entry.Class k) there p sees said = absurd p
   with_means from fits (entry.Virtual result own) there p sees said = absurd p
   with_means from fits (entry.Unspecified w) there p sees said = absurd p
+  with_means from fits (entry.Attribute name parameter result) there p sees said = absurd p
   with_means from fits (entry.Formal f) there p sees said = formal_with from fits f there p (sees tt) said
 
 -- ---- an identifier, with what stands behind it
@@ -402,7 +420,7 @@ declared_owner : (s : Source) (x : Identifier) (name : Standard) → denoted s x
 unfolding own_result
 declared_owner s x name says = ap (own_block_denoted s x.token.0) says
 
-module _ (s : Source) (known : Tabled s) (from : Option ℕ) (x : Identifier) (e : Extent) (k : ℕ) (sight : Sight s from e k) (placed : block_at s.tables x.token.0 ≡ Some k) where
+module _ (s : Source) (known : Tabled s) (from : Option ℕ) (x : Identifier) (e : Extent) (k : ℕ) (sight : Sight s from e k) (placed : block_at s.tables x.token.0 ≡ Some k) (plain : is_name_of_classes x.name ≡ false) where
   declared_sees : (d : DeclNo) (b : Entry) → binding s.tables x.token.0 x.name ≡ Some (denotation.Declared d) → is_barred s.tables e x.token.0 (denotation.Declared d) ≡ false → entry_of s.tables d ≡ Some b → NotConstant b → Sees s.tables from (block_of s d)
   declared_sees d b binds open_to there constant = sight x.token.0 x.name d b placed binds open_to there constant
 
@@ -417,8 +435,9 @@ module _ (s : Source) (known : Tabled s) (from : Option ℕ) (x : Identifier) (e
           subst (λ z. Means true s from (syntax.Named x NoMore) (declared_alone s.tables x.token.0 x d z).value) (sym t.1)
           (alone_means s known x d says from t.0 t.1 (known.proper d t.0 t.1) (declared_sees d t.0 binds open_to t.1) (subst (λ z. AllSay s (declared_alone s.tables x.token.0 x d z).events) t.1 said))
       go (denotation.Standard name) says binds open_to said =
-          standard_without s from (syntax.Named x NoMore) name x.token.0 refl (ap stream_denoted says) (declared_owner s x name says) x.token
-          (λ other are. standard_call s from x NoMore name says (is_procedure name (bound_name s x.token.0 x.name name binds) other) are) said
+          let alone = bound_name s x.token.0 x.name name plain binds in
+          standard_without s from (syntax.Named x NoMore) name x.token.0 refl (ap stream_denoted says) (declared_owner s x name says) (alone_no_class name alone) x.token
+          (λ other are. standard_call s from x NoMore name says (is_procedure name alone other) are) said
 
   -- with actuals
   pub named_with : (first : Expression) (rest : Expressions) (o : Option Denotation) → BoundIs s e x o → (a : Actuals) → AllActuals s from o (Then first rest) no_actuals a → AllSay s (used s.tables x.token.0 x o a).events
@@ -447,8 +466,9 @@ module _ (s : Source) (known : Tabled s) (from : Option ℕ) (x : Identifier) (e
           (with_means s known x first rest d says a (from_zero a.count (suc (size rest)) all.count) from fits t.0 t.1 (known.proper d t.0 t.1) (declared_sees d t.0 binds open_to t.1)
           (subst (λ z. AllSay s (declared_applied x.token.0 x.token.0 z (length (formals_of s.tables d)) a).events) t.1 said))
       go (denotation.Standard name) says binds open_to fits said =
-          standard_with s from (syntax.Named x (Then first rest)) name x.token.0 refl (ap stream_denoted says) refl (Then first rest)
-          (λ other are. standard_call s from x (Then first rest) name says (is_procedure name (bound_name s x.token.0 x.name name binds) other) are) a (from_zero a.count (suc (size rest)) all.count) fits x.token.0 said
+          let alone = bound_name s x.token.0 x.name name plain binds in
+          standard_with s from (syntax.Named x (Then first rest)) name x.token.0 refl (ap stream_denoted says) refl (alone_no_class name alone) (Then first rest)
+          (λ other are. standard_call s from x (Then first rest) name says (is_procedure name alone other) are) a (from_zero a.count (suc (size rest)) all.count) fits x.token.0 said
 
 -- ---- attributes behind a dot
 
@@ -462,21 +482,31 @@ pub record AttributeIs (s : Source) (from : Option ℕ) (a : Expression) (x : Id
 procedure_none : (name : Standard) → IsProcedure name → stream_named name ≡ None
 procedure_none found.Sysin p = absurd p
 procedure_none found.Sysout p = absurd p
+procedure_none found.Detach p = absurd p
+procedure_none found.Call p = absurd p
+procedure_none found.Resume p = absurd p
+procedure_none found.Simset p = absurd p
+procedure_none found.Simulation p = absurd p
 procedure_none _ p = refl
 
 attribute_none : (name : Standard) → OfTexts name → stream_named name ≡ None
 attribute_none found.Sysin p = absurd p
 attribute_none found.Sysout p = absurd p
+attribute_none found.Detach p = absurd p
+attribute_none found.Call p = absurd p
+attribute_none found.Resume p = absurd p
+attribute_none found.Simset p = absurd p
+attribute_none found.Simulation p = absurd p
 attribute_none _ p = refl
 
-module _ (s : Source) (known : Tabled s) (from : Option ℕ) (a : Expression) (x : Identifier) where
+module _ (s : Source) (known : Tabled s) (from : Option ℕ) (a : Expression) (e : Extent) (x : Identifier) where
   found_attribute : (P : Standard → Type 0) → ((name : Standard) → P name → ((image : ℕ) × (stream_of s a ≡ Some image) × IsProcedure name) ⊎ ((stream_of s a ≡ None) × OfTexts name × ExprIs s from a (Simply kind.Text)))
       → (o : Option Standard) → ((name : Standard) → o ≡ Some name → P name) → AllSay s (attribute_found x o).events → AttributeIs s from a x (attribute_found x o).value
   unfolding telling
   found_attribute P of_which None all said = absurd said.0
   found_attribute P of_which (Some name) all said = record { name = name; is = refl; says = said.0; of_which = of_which name (all name refl) }
 
-  of_text : (first : ℕ) (ty : SimType) → ValueIs s from a ty → AllSay s (attribute_of_type x first (Some ty)).events → AttributeIs s from a x (attribute_of_type x first (Some ty)).value
+  of_text : (first : ℕ) (ty : SimType) → ValueIs s from a ty → AllSay s (attribute_of_type s.tables e x first (Some ty)).events → AttributeIs s from a x (attribute_of_type s.tables e x first (Some ty)).value
   unfolding telling gives
   of_text first t.Text v said = found_attribute OfTexts (λ name p. inr (v.stream, p, v.value)) (text_attribute x.name) (λ name e. text_name x.name name e) said
   of_text first t.Integer v said = absurd said.0
@@ -485,18 +515,18 @@ module _ (s : Source) (known : Tabled s) (from : Option ℕ) (a : Expression) (x
   of_text first (t.Ref d) v said = absurd v.proper
   of_text first t.NoneType v said = absurd v.proper
 
-  by_value : (first : ℕ) (o : Outcome) → Means true s from a o → AllSay s (attribute_by_value s.tables x first o).events → AttributeIs s from a x (attribute_by_value s.tables x first o).value
+  by_value : (first : ℕ) (o : Outcome) → Means true s from a o → AllSay s (attribute_by_value s.tables e x first o).events → AttributeIs s from a x (attribute_by_value s.tables e x first o).value
   unfolding attribute_by_value next attribute_of_value
   by_value first o m said =
-      let parts = next_says s (side s.tables first o) (attribute_of_value x) said in
+      let parts = next_says s (side s.tables first o) (attribute_of_value s.tables e x) said in
       let v = side_means s known from a first o m parts.0 in
       let y = (side s.tables first o).value in
-      subst (λ z. AttributeIs s from a x (attribute_of_type x y.first.0 z).value) (sym v.is) (of_text y.first.0 v.ty v.value (subst (λ z. AllSay s (attribute_of_type x y.first.0 z).events) v.is parts.1))
+      subst (λ z. AttributeIs s from a x (attribute_of_type s.tables e x y.first.0 z).value) (sym v.is) (of_text y.first.0 v.ty v.value (subst (λ z. AllSay s (attribute_of_type s.tables e x y.first.0 z).events) v.is parts.1))
 
   of_stream : (image : ℕ) → stream_of s a ≡ Some image → (name : Standard) → IsProcedure name → ((image : ℕ) × (stream_of s a ≡ Some image) × IsProcedure name) ⊎ ((stream_of s a ≡ None) × OfTexts name × ExprIs s from a (Simply kind.Text))
   of_stream image e name p = inl (image, e, p)
 
-  pub attribute_is : (first : ℕ) (o : Outcome) → Means true s from a o → AllSay s (attribute s.tables x first o).events → AttributeIs s from a x (attribute s.tables x first o).value
+  pub attribute_is : (first : ℕ) (o : Outcome) → Means true s from a o → AllSay s (attribute s.tables e x first o).events → AttributeIs s from a x (attribute s.tables e x first o).value
   unfolding attribute
   attribute_is first (is.Standard found.Sysin token) m said = found_attribute IsProcedure (of_stream 0 m.stream) (sysin_attribute x.name) (λ name e. sysin_name x.name name e) said
   attribute_is first (is.Standard found.Sysout token) m said = found_attribute IsProcedure (of_stream 1 m.stream) (sysout_attribute x.name) (λ name e. sysout_name x.name name e) said
@@ -523,6 +553,13 @@ module _ (s : Source) (known : Tabled s) (from : Option ℕ) (a : Expression) (x
             subst (λ z. BehindGives z (procedure_named b.name) (ExprIs s from a (Simply kind.Text)) (λ ks. AreOf s from es ks) (given_by (signature b.name).result)) (sym y.0)
             (attribute_gives b.name y.1 (ExprIs s from a (Simply kind.Text)) y.2 (λ ks. AreOf s from es ks) are)
 
+    dot_no_class : is_standard_class b.name ≡ false
+    dot_no_class = go b.of_which
+      where
+        go : ((image : ℕ) × (stream_of s a ≡ Some image) × IsProcedure b.name) ⊎ ((stream_of s a ≡ None) × OfTexts b.name × ExprIs s from a (Simply kind.Text)) → is_standard_class b.name ≡ false
+        go (inl y) = procedure_no_class b.name y.2
+        go (inr y) = attribute_no_class b.name y.1
+
     dot_none : stream_named b.name ≡ None
     dot_none = go b.of_which
       where
@@ -534,7 +571,7 @@ module _ (s : Source) (known : Tabled s) (from : Option ℕ) (a : Expression) (x
     unfolding used alone is_text stream_of own_result
     dot_alone said =
         subst (λ z. Means true s from (syntax.Dot i a x NoMore) (used s.tables i x z no_actuals).value) (sym b.is)
-        (standard_without s from (syntax.Dot i a x NoMore) b.name i refl (sym dot_none) refl x.token (λ other are. dot_call NoMore are) (subst (λ z. AllSay s (used s.tables i x z no_actuals).events) b.is said))
+        (standard_without s from (syntax.Dot i a x NoMore) b.name i refl (sym dot_none) refl dot_no_class x.token (λ other are. dot_call NoMore are) (subst (λ z. AllSay s (used s.tables i x z no_actuals).events) b.is said))
 
     pub dot_with : (first : Expression) (rest : Expressions) (y : Actuals) → AllActuals s from o (Then first rest) no_actuals y → AllSay s (used s.tables i x o y).events → Means true s from (syntax.Dot i a x (Then first rest)) (used s.tables i x o y).value
     unfolding used applied is_text stream_of own_result
@@ -542,7 +579,7 @@ module _ (s : Source) (known : Tabled s) (from : Option ℕ) (a : Expression) (x
         subst (λ z. Means true s from (syntax.Dot i a x (Then first rest)) (used s.tables i x z y).value) (sym b.is)
         (subst (λ z. Means true s from (syntax.Dot i a x (Then first rest)) (if z then alone s.tables i x (denotation.Standard b.name) else if y.typed then applied s.tables i x.token.0 (denotation.Standard b.name) y else gives is.Refused).value) (sym counted)
         (subst (λ z. Means true s from (syntax.Dot i a x (Then first rest)) (if z then applied s.tables i x.token.0 (denotation.Standard b.name) y else gives is.Refused).value) (sym typed)
-        (standard_with s from (syntax.Dot i a x (Then first rest)) b.name i refl (sym dot_none) refl (Then first rest) (λ other are. dot_call (Then first rest) are) y (from_zero y.count (suc (size rest)) all.count) (λ h. subst (λ z. AllFit s from z 0 (Then first rest)) b.is (all.fits h).1) x.token.0
+        (standard_with s from (syntax.Dot i a x (Then first rest)) b.name i refl (sym dot_none) refl dot_no_class (Then first rest) (λ other are. dot_call (Then first rest) are) y (from_zero y.count (suc (size rest)) all.count) (λ h. subst (λ z. AllFit s from z 0 (Then first rest)) b.is (all.fits h).1) x.token.0
         (subst (λ z. AllSay s (if z then applied s.tables i x.token.0 (denotation.Standard b.name) y else gives is.Refused).events) typed
         (subst (λ z. AllSay s (if z then alone s.tables i x (denotation.Standard b.name) else if y.typed then applied s.tables i x.token.0 (denotation.Standard b.name) y else gives is.Refused).events) counted
         (subst (λ z. AllSay s (used s.tables i x z y).events) b.is said))))))

@@ -1,5 +1,6 @@
 -- An allowed program is typed.
-use Rattle.std.proofs.Common.{◌≡◌, ℕ, Bool, true, false, List, [], ◌∷◌, Option, Some, None, refl, ap, ◌∙◌, subst, if◌then◌else◌}
+use Rattle.std.proofs.lemmas.Option.{slice_get_within}
+use Rattle.std.proofs.Common.{◌≡◌, ◌<◌, length, arith, ℕ, Bool, true, false, List, [], ◌∷◌, Option, Some, None, refl, ap, ◌∙◌, subst, if◌then◌else◌}
 use Rattle.std.proofs.lemmas.Bool.{false≢true}
 use Rattle.std.specs.Prelude.{slice_get}
 use Rattle.sim_base.specs.declared.numbering.DeclNo.{DeclNo}
@@ -27,7 +28,7 @@ use Rattle.sim_values.specs.declared.kind.Kind.{Kind}
 use Rattle.sim_values.specs.Plain.{Plain as Value, kind_of}
 use Rattle.sim_meaning.specs.Constants.{declaration_constants, declarations_constants, value_constants, variables_constants}
 use Rattle.sim_meaning.specs.Entries.{numbers_of}
-use Rattle.sim_meaning.specs.Texts.{BlockText, ClassText, ConnectionText, PrefixedText, ProcedureText, Text, constant_value, kind_named, kind_of_type, text}
+use Rattle.sim_meaning.specs.Texts.{BlockText, ClassText, ConnectionText, PrefixedText, ProcedureText, Text, constant_value, kind_named, kind_of_type, program_texts, text}
 use Rattle.sim_sound.specs.Typed.{Among, BlockTyped, NoFormal, NoFormals, SomeName, TextTyped, Typed, first, later}
 use Rattle.sim_agree.specs.ConstantAt.{Lists, OneOf, at_first, further, head, tail}
 use Rattle.sim_agree.specs.Facts.{ConstantIs, Tabled}
@@ -108,8 +109,15 @@ module _ (s : Source) (of : TablesOf s) (plain : Plain s.program) (filled : Fill
   agrees : TablesAgree s
   agrees = tables_agree s of plain order
 
+  some_block : 0 < length s.tables.blocks
+  unfolding text
+  some_block =
+      let within : 0 < length (program_texts s.program.prefix s.program.block) = slice_get_within (program_texts s.program.prefix s.program.block) 0 (BlockText agrees.begin agrees.declarations agrees.statements) agrees.starts in
+      let same : length s.tables.blocks ≡ length (program_texts s.program.prefix s.program.block) = agrees.as_many in omega (arith, within, same)
+
   tabled : Tabled s
   tabled = record {
+    some_block = some_block;
     there = agrees.there;
     proper = agrees.proper;
     headings = λ d result k e. (let p = agrees.procedures d result k e in (agrees.bodies k p.given p.heading p.body p.is).formals);

@@ -4,7 +4,8 @@ use Rattle.std.proofs.lemmas.Bool.{cases_eq}
 use Rattle.std.specs.Prelude.{◌==◌, slice_get, if◌then◌else◌}
 use Rattle.sim_base.specs.declared.numbering.DeclNo.{DeclNo}
 use Rattle.sim_scope.specs.declared.scopes.Declaration.{Declaration as Row}
-use Rattle.sim_scope.specs.Scopes.{encloser, entry_of}
+use Rattle.sim_scope.specs.Access.{encloser}
+use Rattle.sim_scope.specs.Scopes.{entry_of}
 use Rattle.sim_scope.specs.Source.{Source, block_of}
 use Rattle.sim_scope.specs.Tables.{BlockOf, Tables}
 use Rattle.sim_tree.specs.declared.stmt.Constant.{Constant}

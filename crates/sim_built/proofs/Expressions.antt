@@ -155,7 +155,9 @@ module _ (s : Source) (ok : Typed s) (laid : Laid s) (t : ℕ) (from : Option �
   declared_built d es Indices Subscripts Actuals Built (Some (entry.Virtual r k)) None e f g a = absurd a
   declared_built d es Indices Subscripts Actuals Built (Some (entry.Virtual r k)) (Some h) e f g a = absurd a
   declared_built d es Indices Subscripts Actuals Built (Some (entry.Unspecified w)) None e f g a = absurd a
+  declared_built d es Indices Subscripts Actuals Built (Some (entry.Attribute name parameter result)) None e f g a = absurd a
   declared_built d es Indices Subscripts Actuals Built (Some (entry.Unspecified w)) (Some h) e f g a = absurd a
+  declared_built d es Indices Subscripts Actuals Built (Some (entry.Attribute name parameter result)) (Some h) e f g a = absurd a
 
   -- ---- standard names
 
@@ -215,6 +217,7 @@ module _ (s : Source) (ok : Typed s) (laid : Laid s) (t : ℕ) (from : Option �
   declared_place_built d es Indices Subscripts Actuals (Some (entry.Class k)) x e b f a = absurd (cc)
   declared_place_built d es Indices Subscripts Actuals (Some (entry.Virtual r k)) x e b f a = absurd (cc)
   declared_place_built d es Indices Subscripts Actuals (Some (entry.Unspecified w)) x e b f a = absurd (cc)
+  declared_place_built d es Indices Subscripts Actuals (Some (entry.Attribute name parameter result)) x e b f a = absurd (cc)
 
   named_place_built : (y : Option Denotation) (es : Expressions) (Indices Subscripts : Type 0) (Operands : List Kind → Type 0) (Actuals : List Formal → Type 0) (x : Kind) → is_variable_denoted s y es ≡ true → (Indices → Subscripts) → NamedGives s from y es Indices Operands Actuals (Some (Simply x)) → NamedPlaceBuilt s t y es Subscripts
   named_place_built None es Indices Subscripts Operands Actuals x b f a = absurd a
@@ -256,7 +259,7 @@ module _ (s : Source) (ok : Typed s) (laid : Laid s) (t : ℕ) (from : Option �
     is_built (syntax.Constant literal i) h p x = literal_built i literal h p x
     is_built (syntax.Named name es) h p x = (
       named_gives s from (denoted s name.token.0) es (AreIntegers s from es) (λ ks. AreOf s from es ks) (λ fs. ActualsFit s from es fs) (Some h) x,
-      named_built (denoted s name.token.0) es (AreIntegers s from es) (λ fs. ActualsFit s from es fs) (λ fs. ActualsBuilt s t es fs) (AreBuilt s t es) (Some h) (λ y. integers_built es p y) (λ ks y. are_built es ks p y) (λ fs y. actuals_built es fs p y) x,
+      named_built (denoted s name.token.0) es (AreIntegers s from es) (λ fs. ActualsFit s from es fs) (λ fs. ActualsBuilt s t es fs) (AreBuilt s t es) (Some h) (λ y. integers_built es p.1 y) (λ ks y. are_built es ks p.1 y) (λ fs y. actuals_built es fs p.1 y) x,
     )
     is_built (syntax.Parentheses i a) h p x = is_built a h p x
     is_built (syntax.Member m i a c) h p x = absurd x
@@ -265,7 +268,7 @@ module _ (s : Source) (ok : Typed s) (laid : Laid s) (t : ℕ) (from : Option �
     is_built (syntax.New i c es) h p x = absurd x
 
     pub place_built : (e : Expression) → PlainExpression e → is_variable s e ≡ true → ExprIs s from e (Simply kind.Text) → PlaceBuilt s t e
-    place_built (syntax.Named name es) p b x = named_place_built (denoted s name.token.0) es (AreIntegers s from es) (AreBuilt s t es) (λ ks. AreOf s from es ks) (λ fs. ActualsFit s from es fs) kind.Text (variable_form s (syntax.Named name es) b) (λ y. integers_built es p y) x
+    place_built (syntax.Named name es) p b x = named_place_built (denoted s name.token.0) es (AreIntegers s from es) (AreBuilt s t es) (λ ks. AreOf s from es ks) (λ fs. ActualsFit s from es fs) kind.Text (variable_form s (syntax.Named name es) b) (λ y. integers_built es p.1 y) x
     place_built (syntax.Dot i a name es) p b x = stream_built (stream_of s a) (denoted s name.token.0) (variable_form s (syntax.Dot i a name es) b)
     place_built (syntax.If i c a d) p b x = absurd (variable_form s (syntax.If i c a d) b)
     place_built (syntax.Binary op i a d) p b x = absurd (variable_form s (syntax.Binary op i a d) b)

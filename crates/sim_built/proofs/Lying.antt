@@ -32,6 +32,7 @@ not_special kind.Procedure p = refl
 not_special kind.Class p = absurd p
 not_special kind.Prefixed p = absurd p
 not_special kind.Connection p = absurd p
+not_special (kind.StandardClass which) p = absurd p
 
 both_given : (given : Option TypeName) (result : Option SimType) → named_kind given ≡ result_kind result → has_result given ≡ has_type result
 both_given None None e = refl

@@ -11,7 +11,8 @@ use Rattle.sim_scope.specs.declared.types.Mode.{Mode}
 use Rattle.sim_scope.specs.declared.types.Mode.TheVariants as mode
 use Rattle.sim_scope.specs.declared.types.SimType.{SimType}
 use Rattle.sim_scope.specs.Assignments.{last_value, left_sides}
-use Rattle.sim_scope.specs.Scopes.{encloser, entry_of}
+use Rattle.sim_scope.specs.Access.{encloser}
+use Rattle.sim_scope.specs.Scopes.{entry_of}
 use Rattle.sim_scope.specs.Source.{Source, block_around, block_of, denoted, line_at}
 use Rattle.sim_tree.specs.declared.stmt.Assignment.{Assignment}
 use Rattle.sim_tree.specs.declared.stmt.Assignment.TheVariants as assignment
@@ -95,7 +96,9 @@ module _ (s : Source) (ok : Typed s) (laid : Laid s) (t : ℕ) (x : Text) (there
   declared_left d NoMore line (Some (entry.Virtual r o)) k p e a = absurd a
   declared_left d (Then y ys) line (Some (entry.Virtual r o)) k p e a = absurd a
   declared_left d NoMore line (Some (entry.Unspecified w)) k p e a = absurd a
+  declared_left d NoMore line (Some (entry.Attribute name parameter result)) k p e a = absurd a
   declared_left d (Then y ys) line (Some (entry.Unspecified w)) k p e a = absurd a
+  declared_left d (Then y ys) line (Some (entry.Attribute name parameter result)) k p e a = absurd a
 
   named_left : (y : Option Denotation) (es : Expressions) (line : ℕ) (k : Kind) → PlainExpressions es → LeftDenoted s t y es (AreIntegers s (Some t) es) k → LeftBuilt s t (stored_named s y es line)
   named_left None es line k p a = absurd a
@@ -103,7 +106,7 @@ module _ (s : Source) (ok : Typed s) (laid : Laid s) (t : ℕ) (x : Text) (there
   named_left (Some (denotation.Standard n)) es line k p a = absurd a
 
   variable_side : (e : Expression) (k : Kind) → PlainExpression e → LeftIs s t e k → LeftBuilt s t (stored_left s e)
-  variable_side (syntax.Named name es) k p a = named_left (denoted s name.token.0) es (line_at s name.token.0) k p a
+  variable_side (syntax.Named name es) k p a = named_left (denoted s name.token.0) es (line_at s name.token.0) k p.1 a
   variable_side (syntax.If i c b d) k p a = absurd a
   variable_side (syntax.Binary op i b d) k p a = absurd a
   variable_side (syntax.Not i b) k p a = absurd a
@@ -132,6 +135,7 @@ module _ (s : Source) (ok : Typed s) (laid : Laid s) (t : ℕ) (x : Text) (there
   own_entry token block d (Some (entry.Class b)) kind e o a = absurd (cc)
   own_entry token block d (Some (entry.Virtual r b)) kind e o a = absurd (cc)
   own_entry token block d (Some (entry.Unspecified w)) kind e o a = absurd (cc)
+  own_entry token block d (Some (entry.Attribute name parameter result)) kind e o a = absurd (cc)
 
   own_denoted : (token block : ℕ) (y : Option Denotation) (kind : Kind) → own_block_denoted s token y ≡ Some block → LeftDenoted s t y NoMore (AreIntegers s (Some t) NoMore) kind → KeyBuilt s t block Result
   own_denoted token block None kind o a = absurd a
@@ -224,6 +228,7 @@ module _ (s : Source) (ok : Typed s) (laid : Laid s) (t : ℕ) (x : Text) (there
   alone_declared d line (Some (entry.Class b)) k e a = absurd a
   alone_declared d line (Some (entry.Virtual r o)) k e a = absurd a
   alone_declared d line (Some (entry.Unspecified w)) k e a = absurd a
+  alone_declared d line (Some (entry.Attribute name parameter result)) k e a = absurd a
 
   alone_named : (y : Option Denotation) (line : ℕ) (k : Kind) → LeftDenoted s t y NoMore (AreIntegers s (Some t) NoMore) k → InOneCell (stored_named s y NoMore line)
   alone_named None line k a = absurd a
@@ -249,7 +254,7 @@ module _ (s : Source) (ok : Typed s) (laid : Laid s) (t : ℕ) (x : Text) (there
   call_built (syntax.Named name es) p a = (
     a.2 ∙ sym (named_gives s (Some t) (denoted s name.token.0) es (AreIntegers s (Some t) es) (λ ks. AreOf s (Some t) es ks) (λ fs. ActualsFit s (Some t) es fs) a.0 a.1),
     named_built s ok laid t (Some t) (λ u b. around u b) (denoted s name.token.0) es (AreIntegers s (Some t) es) (λ fs. ActualsFit s (Some t) es fs) (λ fs. ActualsBuilt s t es fs) (AreBuilt s t es) a.0
-        (λ y. integers_built s ok laid t (Some t) (λ u b. around u b) es p y) (λ ks y. are_built s ok laid t (Some t) (λ u b. around u b) es ks p y) (λ fs y. actuals_built s ok laid t (Some t) (λ u b. around u b) es fs p y) a.1,
+        (λ y. integers_built s ok laid t (Some t) (λ u b. around u b) es p.1 y) (λ ks y. are_built s ok laid t (Some t) (λ u b. around u b) es ks p.1 y) (λ fs y. actuals_built s ok laid t (Some t) (λ u b. around u b) es fs p.1 y) a.1,
   )
   call_built (syntax.Dot i b name es) p a = (
     a.2 ∙ sym (dot_gives s (denoted s name.token.0) (stream_of s b) (ExprIs s (Some t) b (Simply kind.Text)) (λ ks. AreOf s (Some t) es ks) a.0 a.1),

@@ -55,10 +55,10 @@ abbrev pub CheckedCompiles : Command → List Token → Tree → Checked → Com
 CheckedCompiles command tokens tree (Refused fault) compiled = compiled ≡ Rejected fault.rule (token_line tokens fault.token.0)
 CheckedCompiles command tokens tree (Allowed tables uses types) compiled = BoundCompiles command (source_with tree tables uses types) compiled
 
--- A form that is not built: for both commands what needs classes, for `run` also a parameter by name and a procedure as a parameter.
+-- A form that is not built: for `run` what needs classes, a parameter by name and a procedure as a parameter. `check` knows all forms.
 abbrev pub lacks_form : Command → List Token → Program → Bool
 lacks_form Run tokens p = needs_from false tokens || passes_code p
-lacks_form Check tokens p = needs_from false tokens
+lacks_form Check tokens p = false
 
 -- a source with such a form is rejected before the static rules are asked
 abbrev pub TreeCompilesIf : (lacks : Bool) → Command → List Token → Tree → Compiled → Type 0

@@ -31,8 +31,8 @@ pub enum Refusal {
     Memory,
 }
 
-/// The program of a source, which breaks no rule; or the rule that it breaks first, with the line. To run, it must not have a parameter by
-/// name or a procedure as a parameter.
+/// The program of a source, which breaks no rule; or the rule that it breaks first, with the line. To run, it must not have a class, a parameter
+/// by name or a procedure as a parameter.
 pub fn bind(alloc: Global, command: Command, source: &[u8]) -> Result<Bound, Refusal>
     requires { length source.now < 2 ^ 32 - 1 }
     ensures { Answers (λ bound. IsProgram command source.now (source_of bound)) (SourceRejects command source.now) result }
@@ -85,14 +85,14 @@ fn line_at(tokens: &[Token], token: TokenNo) -> Line
     }
 }
 
-// Whether a tree of these tokens has a form that is not built.
+// Whether a tree of these tokens has a form that is not built: for `run` classes, parameters by name and procedures as parameters.
 #[tactic(auto, unfolding(sim_static::specs::NeedsClasses::NeedsClasses, sim_static::specs::CodeParameters::PassesCode))]
 fn lacks_form(command: Command, tokens: &[Token], tree: &sim_tree::Program) -> bool
     ensures { result ≡ lacks_form command tokens.now (program_syntax tree.now) }
 {
     match command {
         Command::Run => needs_classes(tokens) || passes_code(tree),
-        Command::Check => needs_classes(tokens),
+        Command::Check => false,
     }
 }
 

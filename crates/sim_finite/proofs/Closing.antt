@@ -109,6 +109,7 @@ module _ (s : Source) (m : Instances) (i n : ℕ) (some : 1 ≤ n) where
     declared_place_small d (Some (entry.Virtual result own)) es = some
     declared_place_small d (Some (entry.Formal f)) es = formal_place_small d f.mode f.kind es
     declared_place_small d (Some (entry.Unspecified w)) es = some
+    declared_place_small d (Some (entry.Attribute name parameter result)) es = some
 
     named_place_small : (x : Option Denotation) (es : Expressions) → term_weight (named_place s m i line x es terms) ≤ n
     named_place_small None es = some
@@ -135,6 +136,7 @@ module _ (s : Source) (m : Instances) (i n : ℕ) (some : 1 ≤ n) where
       declared_small d (Some (entry.Virtual result own)) es = some
       declared_small d (Some (entry.Formal f)) es = formal_small d f.mode f.kind es
       declared_small d (Some (entry.Unspecified w)) es = some
+      declared_small d (Some (entry.Attribute name parameter result)) es = some
 
       named_small : (x : Option Denotation) (es : Expressions) → term_weight (named_term s m i line x es terms actuals) ≤ n
       named_small None es = some

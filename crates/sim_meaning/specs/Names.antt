@@ -56,6 +56,11 @@ procedure_named found.More = Some name.More
 procedure_named found.Length = Some name.Length
 procedure_named found.Sysin = None
 procedure_named found.Sysout = None
+procedure_named found.Detach = None
+procedure_named found.Call = None
+procedure_named found.Resume = None
+procedure_named found.Simset = None
+procedure_named found.Simulation = None
 
 -- `sysin` and `sysout`, by the numbers of their images
 abbrev pub stream_named : Found → Option ℕ

@@ -87,6 +87,7 @@ text s k = slice_get (program_texts s.program.prefix s.program.block) k
 abbrev pub is_class_kind : BlockKind → Bool
 is_class_kind kind_of_block.Class = true
 is_class_kind kind_of_block.Prefixed = true
+is_class_kind (kind_of_block.StandardClass which) = true
 is_class_kind _ = false
 
 abbrev pub has_class_in : Option BlockOf → List BlockOf → Bool

@@ -294,7 +294,7 @@ expr_step (Expr-F.True i) = record { known = λ bare full clean. tt }
 expr_step (Expr-F.False i) = record { known = λ bare full clean. tt }
 expr_step (Expr-F.NoObject i) = record { known = λ bare full clean. absurd (no clean.0) }
 expr_step (Expr-F.Notext i) = record { known = λ bare full clean. tt }
-expr_step (Expr-F.Named x v) = record { known = λ bare full clean. actuals v.items full clean.1 }
+expr_step (Expr-F.Named x v) = record { known = λ bare full clean. (clean.0, actuals v.items full clean.1) }
 expr_step (Expr-F.This i x) = record { known = λ bare full clean. absurd (no clean.0) }
 expr_step (Expr-F.New i x v) = record { known = λ bare full clean. absurd (no clean.0) }
 expr_step (Expr-F.Parentheses i a) = record { known = λ bare full clean. valued a.value.1 full.0 full.1 clean.1.0 }

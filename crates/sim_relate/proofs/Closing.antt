@@ -167,6 +167,7 @@ module _ (s : Source) (code : CodeOf) (m : Instances) (inst : ℕ) (site : Site)
   declared_at d line n (Some (entry.Class block)) es Inner Actuals terms actuals f counts g p q is a = absurd a
   declared_at d line n (Some (entry.Virtual result own)) es Inner Actuals terms actuals f counts g p q is a = absurd a
   declared_at d line n (Some (entry.Unspecified written)) es Inner Actuals terms actuals f counts g p q is a = absurd a
+  declared_at d line n (Some (entry.Attribute name parameter result)) es Inner Actuals terms actuals f counts g p q is a = absurd a
   declared_at d line n None es Inner Actuals terms actuals f counts g p q is a = absurd a
 
   -- ---- standard names
@@ -248,6 +249,7 @@ module _ (s : Source) (code : CodeOf) (m : Instances) (inst : ℕ) (site : Site)
   declared_place_at d line n (Some (entry.Class block)) es Inner terms f counts p q a = absurd a
   declared_place_at d line n (Some (entry.Virtual result own)) es Inner terms f counts p q a = absurd a
   declared_place_at d line n (Some (entry.Unspecified written)) es Inner terms f counts p q a = absurd a
+  declared_place_at d line n (Some (entry.Attribute name parameter result)) es Inner terms f counts p q a = absurd a
   declared_place_at d line n None es Inner terms f counts p q a = absurd a
 
   named_place_at : (u : Option Denotation) (line n : ℕ) (es : Expressions) (Inner : ℕ → ℕ → Type 0) (terms : Terms) → ((p q : ℕ) → Inner p q → TermsAt s code m inst site (suc n) terms p q) → operands es ≡ count terms → (p q : ℕ) → NamedPlaceAt s code site n line u es Inner p q → ReadAt n (named_place s m inst line u es terms) p q

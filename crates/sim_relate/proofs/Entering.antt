@@ -3,7 +3,7 @@ use Rattle.std.proofs.Common.{◌≡◌, ◌<◌, ◌≤◌, ◌+◌, ℕ, zero,
 use Rattle.std.proofs.lemmas.List.{length-map}
 use Rattle.std.proofs.lemmas.Option.{slice_get_within}
 use Rattle.std.specs.Prelude.{if◌then◌else◌, pos, slice_get}
-use Rattle.sim_scope.specs.Scopes.{around, encloser}
+use Rattle.sim_scope.specs.Access.{around, encloser}
 use Rattle.sim_scope.specs.Source.{Source}
 use Rattle.sim_scope.specs.Tables.{BlockOf as ScopeOf}
 use Rattle.sim_tree.specs.Syntax.{Begin, Block, Prefix}

@@ -4,7 +4,7 @@ use Rattle.std.proofs.lemmas.Option.{slice_get_within}
 use Rattle.std.specs.Prelude.{◌==◌, if◌then◌else◌, nat_lt, pos, slice_get}
 use Rattle.sim_base.specs.declared.limits.Limits.{Limits}
 use Rattle.sim_chains.specs.Components.{NoObject}
-use Rattle.sim_scope.specs.Scopes.{encloser}
+use Rattle.sim_scope.specs.Access.{encloser}
 use Rattle.sim_scope.specs.Source.{Source, line_at}
 use Rattle.sim_tree.specs.declared.stmt.TypeName.{TypeName}
 use Rattle.sim_tree.specs.Syntax.{Declarations, Heading, Statement, Statements}

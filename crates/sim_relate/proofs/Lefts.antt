@@ -132,6 +132,7 @@ module _ (s : Source) (code : CodeOf) (m : Instances) (inst t : ℕ) (b : BlockO
   left_declared d es line (Some (entry.Class block)) = tt
   left_declared d es line (Some (entry.Virtual result own)) = tt
   left_declared d es line (Some (entry.Unspecified written)) = tt
+  left_declared d es line (Some (entry.Attribute name parameter result)) = tt
   left_declared d es line None = tt
 
   left_named : (x : Option Denotation) (es : Expressions) (line : ℕ) → LeftFits (stored_named s x es line) (named_left s m inst line x es)

@@ -1,7 +1,7 @@
 -- What code finds by a level from an instance outward is the instance of the text that is meant.
 use Rattle.std.proofs.Common.{◌≡◌, ◌≢◌, ℕ, zero, suc, ◌<◌, ◌≤◌, List, Option, Some, Bool, true, false, refl, ap, ◌∙◌, subst, arith}
 use Rattle.std.specs.Prelude.{◌==◌, if◌then◌else◌}
-use Rattle.sim_scope.specs.Scopes.{encloser}
+use Rattle.sim_scope.specs.Access.{encloser}
 use Rattle.sim_scope.specs.Source.{Source, level_of}
 use Rattle.sim_code.specs.Instances.{Instance, at_level, found_at, level_within, live, outward}
 use Rattle.sim_meaning.specs.Pending.{Held, Instances}

@@ -1,7 +1,7 @@
 -- Which states of the machine stand for which states of a program.
 use Rattle.std.proofs.Common.{◌≡◌, ◌<◌, ◌≤◌, ◌*◌, ℕ, suc, zero, Bool, true, false, List, [], ◌∷◌, length, map, Option, Some, None}
 use Rattle.std.specs.Prelude.{⊤, pos, slice_get}
-use Rattle.sim_scope.specs.Scopes.{encloser}
+use Rattle.sim_scope.specs.Access.{encloser}
 use Rattle.sim_scope.specs.Source.{Source, level_of}
 use Rattle.sim_tree.specs.declared.stmt.TypeName.{TypeName}
 use Rattle.sim_tree.specs.Syntax.{Also, Element, Expression, NoStatement, Statement, Statements}

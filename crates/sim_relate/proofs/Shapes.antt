@@ -63,6 +63,7 @@ module _ (s : Source) (m : Instances) (i : ℕ) where
   declared_leaves line d (Some (entry.Class block)) es terms actuals = λ ks. refl
   declared_leaves line d (Some (entry.Virtual result own)) es terms actuals = λ ks. refl
   declared_leaves line d (Some (entry.Unspecified written)) es terms actuals = λ ks. refl
+  declared_leaves line d (Some (entry.Attribute name parameter result)) es terms actuals = λ ks. refl
   declared_leaves line d None es terms actuals = λ ks. refl
 
   name_leaves : (is : Bool) (on : Option Standard) (name : Standard) (image line : ℕ) (terms : Terms) → Leaves (name_term is on name image line terms)

@@ -4,7 +4,7 @@ use Rattle.std.proofs.lemmas.Bool.{cases_eq}
 use Rattle.std.proofs.lemmas.List.{length-set}
 use Rattle.std.specs.Prelude.{◌==◌, ◌&&◌, not, if◌then◌else◌, map, nat_lt, slice_get, slice_set}
 use Rattle.sim_chains.specs.Components.{Standing}
-use Rattle.sim_scope.specs.Scopes.{encloser}
+use Rattle.sim_scope.specs.Access.{encloser}
 use Rattle.sim_scope.specs.Source.{Source, level_of}
 use Rattle.sim_code.specs.Code.{BlockOf, CodeOf}
 use Rattle.sim_code.specs.Instances.{Instance, at_level, cells_in as cells_of_live, cells_put, ends_in, entered, found_at, given, given_in, is_given_at_end, is_live, is_live_in, kept_at, kept_further, kept_on, level_within, live, outward, unless_given, with_instance}

@@ -1,5 +1,5 @@
 -- The least of the rules that declarations break.
-use Rattle.std.proofs.Common.{◌≡◌, ℕ, Bool, true, false, if◌then◌else◌, not, List, [], ◌∷◌, ◌++◌, length, Option, Some, None, refl, sym, ap, ◌∙◌, subst}
+use Rattle.std.proofs.Common.{◌≡◌, ◌+◌, ℕ, Bool, true, false, if◌then◌else◌, not, List, [], ◌∷◌, ◌++◌, length, Option, Some, None, refl, sym, ap, ◌∙◌, subst}
 use Rattle.std.specs.Prelude.{◌&&◌, nat_eq, nat_lt, slice_get}
 use Rattle.std.specs.List.{list_any}
 use Rattle.std.specs.Str.{bytes_eq}
@@ -11,19 +11,21 @@ use Rattle.sim_tree.specs.declared.expr.Identifier.{Identifier}
 use Rattle.sim_tree.specs.Syntax.{Program}
 use Rattle.sim_scope.specs.declared.found.Fault.{Fault}
 use Rattle.sim_scope.specs.declared.scopes.Declaration.{Declaration}
+use Rattle.sim_scope.specs.declared.standard.Attribute.{Attribute}
 use Rattle.sim_scope.specs.declared.types.Entry.{Entry}
 use Rattle.sim_scope.specs.declared.types.Entry.TheVariants as entry
 use Rattle.sim_scope.specs.declared.types.FormalKind.{FormalKind}
 use Rattle.sim_scope.specs.declared.types.Mode.{Mode}
 use Rattle.sim_scope.specs.declared.types.SimType.{SimType}
+use Rattle.sim_scope.specs.declared.types.StandardClass.{StandardClass}
 use Rattle.sim_scope.specs.declared.types.WrittenMode.{WrittenMode}
-use Rattle.sim_scope.specs.Breaks.{all_breaks, breaks, broken_by, declaration_breaks, inner_breaks, inner_breaks_in, inner_breaks_of, mode_breaks, mode_breaks_of, row_breaks, specification_breaks, specification_breaks_of, where_true, heading_breaks, written_breaks}
-use Rattle.sim_scope.specs.Building.{BuildingOf, Mark, Opens, Closes, Declares, DeclaresProcedure, DeclaresClass, Parameter, Moded, Specified, Headed, Inner, Breaks, block_around, broken, broken_if, closed, closed_at, counted, counted_in, declared, declared_at, declared_inside, declared_new, entered, formal, found_in, headed, in_class, inner, inner_at, inner_in, is_by_name, is_procedure, level_in, marked, mode_allowed, moded, moded_as, most_levels, specified, specified_as, token_in, unspecified_at, unspecified_in, with_entry, with_mode}
+use Rattle.sim_scope.specs.Breaks.{again_breaks, all_breaks, at, breaks, counting_breaks, broken_by, declaration_breaks, inner_breaks, inner_breaks_in, inner_breaks_of, mode_breaks, mode_breaks_of, row_breaks, specification_breaks, specification_breaks_of, where_true, heading_breaks, written_breaks}
+use Rattle.sim_scope.specs.Building.{Breaks, Brings, BuildingOf, Closes, Declares, DeclaresClass, DeclaresProcedure, Headed, Inner, Mark, Moded, Opens, Parameter, Prefixes, Protects, Provides, Qualifies, Specified, added, block_around, brings, brings_at, broken, broken_if, changed, changed_row, closed, closed_at, counted, counted_in, declared, declared_again, declared_at, declared_inside, declared_new, declared_twice, entered, first_brought, formal, found_in, guards, guards_at, headed, holding_class, in_class, inner, inner_at, inner_in, is_by_name, is_match, is_procedure, level_in, marked, match_known, matched, mode_allowed, moded, moded_as, most_declarations, most_levels, name_of, place_of, prefixed_by, provided_alone, provided_in, provides, provides_in, qualified, specified, specified_as, token_in, unspecified_at, unspecified_in, with_entry, with_mode}
 use Rattle.sim_scope.specs.Declare.{declared_by, declaring, empty}
-use Rattle.sim_scope.specs.Found.{fault}
 use Rattle.sim_scope.specs.Least.{IsLeast}
 use Rattle.sim_scope.specs.Runs.{run}
 use Rattle.sim_scope.specs.Scopes.{declared_in, entry_of}
+use Rattle.sim_scope.specs.Standard.{attribute_name}
 use Rattle.sim_scope.specs.Tables.{BlockOf}
 use Rattle.sim_scope.specs.Walk.{program_events}
 use Rattle.sim_scope.proofs.Leasts.{noted, noted-least}
@@ -38,19 +40,40 @@ unfolding noted
 if-broken true b token rule = refl
 if-broken false b token rule = refl
 
-declaring-row : (b : BuildingOf) (x : Identifier) (e : Entry) (block : ℕ) (o : Option BlockOf) → (declared_at b x e block o).least ≡ noted b.least (row_breaks b x o)
+added-least : (b : BuildingOf) (x : Identifier) (e : Entry) (block : ℕ) (listed : Bool) → (added b x e block listed).least ≡ noted b.least (counting_breaks b x)
+unfolding noted
+added-least b x e block listed = if-broken (nat_eq b.own most_declarations) _ x.token.0 r.TooManyDeclarations
+
+again-least : (b : BuildingOf) (x : Identifier) (e : Entry) (block : ℕ) (o : Option DeclNo) → (declared_again b x e block o).least ≡ noted b.least (again_breaks b x e o)
+unfolding noted
+again-least b x e block None = refl
+again-least b x e block (Some d) = go (is_match e (entry_of b.tables d))
+  where
+    go : (c : Bool) → (if c then matched b x e block d else declared_twice b x (Some d)).least ≡ noted b.least (if c then counting_breaks b x else at x.token.0 r.DeclaredTwice)
+    go true = added-least (match_known b d) x e block false
+    go false = refl
+
+declaring-row : (b : BuildingOf) (x : Identifier) (e : Entry) (block : ℕ) (o : Option BlockOf) → (declared_at b x e block o).least ≡ noted b.least (row_breaks b x e o)
 unfolding noted
 declaring-row b x e block None = refl
 declaring-row b x e block (Some row) = go (list_any (bytes_eq x.name) row.names)
   where
-    go : (c : Bool) → (if c then broken (record b { latest = declared_in (Some row) x.name }) x.token.0 r.DeclaredTwice else declared_new b x e block row).least ≡ noted b.least (if c then fault x.token.0 r.DeclaredTwice ∷ [] else where_true (nat_eq (length b.tables.declarations) 65535) x.token.0 r.TooManyDeclarations)
-    go true = refl
-    go false = if-broken (nat_eq (length b.tables.declarations) 65535) _ x.token.0 r.TooManyDeclarations
+    go : (c : Bool) → (if c then declared_again b x e block (declared_in (Some row) x.name) else declared_new b x e block row).least ≡ noted b.least (if c then again_breaks b x e (declared_in (Some row) x.name) else counting_breaks b x)
+    go true = again-least b x e block (declared_in (Some row) x.name)
+    go false = if-broken (nat_eq b.own most_declarations) _ x.token.0 r.TooManyDeclarations
 
-declaring-least : (b : BuildingOf) (x : Identifier) (e : Entry) (o : Option ℕ) → (declared_inside b x e o).least ≡ noted b.least (declaration_breaks b x o)
+declaring-least : (b : BuildingOf) (x : Identifier) (e : Entry) (o : Option ℕ) → (declared_inside b x e o).least ≡ noted b.least (declaration_breaks b x e o)
 unfolding noted
 declaring-least b x e None = refl
 declaring-least b x e (Some block) = declaring-row b x e block (slice_get b.tables.blocks block)
+
+changed-row : (b : BuildingOf) (change : BlockOf → BlockOf) (block : ℕ) (o : Option BlockOf) → (changed_row b change block o).least ≡ b.least
+changed-row b change block None = refl
+changed-row b change block (Some row) = refl
+
+changed-least : (b : BuildingOf) (change : BlockOf → BlockOf) (o : Option ℕ) → (changed b change o).least ≡ b.least
+changed-least b change None = refl
+changed-least b change (Some block) = changed-row b change block (slice_get b.tables.blocks block)
 
 counted-row : (b : BuildingOf) (block : ℕ) (o : Option BlockOf) → (counted b block o).least ≡ b.least
 counted-row b block None = refl
@@ -132,17 +155,62 @@ unfolding noted
 inner-least b token None = refl
 inner-least b token (Some block) = inner-row b token block (slice_get b.tables.blocks block)
 
+if-same : (c : Bool) (b n : BuildingOf) → n.least ≡ b.least → (if c then b else n).least ≡ b.least
+if-same true b n e = refl
+if-same false b n e = e
+
+qualified-least : (b : BuildingOf) (class : Identifier) (o : Option DeclNo) → (qualified b class o).least ≡ b.least
+qualified-least b class None = refl
+qualified-least b class (Some d) = refl
+
+brings-row : (b : BuildingOf) (which : StandardClass) (token block : ℕ) (o : Option BlockOf) → (brings_at b which token block o).least ≡ b.least
+brings-row b which token block None = refl
+brings-row b which token block (Some row) = if-same (list_any (bytes_eq (name_of which)) row.brought_names) b _ refl
+
+brings-least : (b : BuildingOf) (which : StandardClass) (token : ℕ) (o : Option ℕ) → (brings b which token o).least ≡ b.least
+brings-least b which token None = refl
+brings-least b which token (Some block) = brings-row b which token block (slice_get b.tables.blocks block)
+
+alone-row : (b : BuildingOf) (name : Attribute) (token : ℕ) (first : Option DeclNo) (block : ℕ) (o : Option BlockOf) → (provided_alone b name token first block o).least ≡ b.least
+alone-row b name token first block None = refl
+alone-row b name token first block (Some row) = if-same (list_any (bytes_eq (attribute_name name)) row.brought_names) b _ refl
+
+provided-row : (b : BuildingOf) (name : Attribute) (token : ℕ) (first : Option DeclNo) (block : ℕ) (o : Option BlockOf) → (provided_in b name token first block o).least ≡ b.least
+provided-row b name token first block None = refl
+provided-row b name token first block (Some row) = if-same (list_any (bytes_eq (attribute_name name)) row.names) b _ refl
+
+provides-at : (b : BuildingOf) (which : Option StandardClass) (name : Attribute) (token block : ℕ) (first : Option DeclNo) → (provides_in b which name token block first).least ≡ b.least
+provides-at b None name token block first = alone-row b name token first block (slice_get b.tables.blocks block)
+provides-at b (Some which) name token block first = provided-row b name token first (block + 1 + place_of which) (slice_get b.tables.blocks (block + 1 + place_of which))
+
+provides-least : (b : BuildingOf) (which : Option StandardClass) (name : Attribute) (token : ℕ) (o : Option ℕ) → (provides b which name token o).least ≡ b.least
+provides-least b which name token None = refl
+provides-least b which name token (Some block) = provides-at b which name token block (first_brought (slice_get b.tables.blocks block))
+
+guards-row : (b : BuildingOf) (hides keeps : Bool) (x : Identifier) (block : ℕ) (o : Option BlockOf) → (guards_at b hides keeps x block o).least ≡ b.least
+guards-row b hides keeps x block None = refl
+guards-row b hides keeps x block (Some row) = refl
+
+guards-least : (b : BuildingOf) (hides keeps : Bool) (x : Identifier) (o : Option ℕ) → (guards b hides keeps x o).least ≡ b.least
+guards-least b hides keeps x None = refl
+guards-least b hides keeps x (Some block) = guards-row b hides keeps x block (slice_get b.tables.blocks block)
+
 marked-least : (b : BuildingOf) (m : Mark) → (marked b m).least ≡ noted b.least (breaks b m)
 unfolding marked breaks noted
 marked-least b (Opens k text first) = if-broken (nat_lt most_levels (level_in k (block_around b.tables b.current))) _ text r.TooManyLevels
 marked-least b (Closes end) = closed-least b end b.current
 marked-least b (Declares x e) = declaring-least b x e b.current
-marked-least b (DeclaresProcedure x result) = declaring-least b x _ b.current
-marked-least b (DeclaresClass x) = declaring-least b x _ b.current
+marked-least b (DeclaresProcedure x result) = declaring-least b x (entry.Procedure result (length b.tables.blocks)) b.current
+marked-least b (DeclaresClass x) = changed-least (declared b x (entry.Class (length b.tables.blocks))) holding_class b.current ∙ declaring-least b x (entry.Class (length b.tables.blocks)) b.current
 marked-least b (Parameter x) = counted-least (declared b x (entry.Unspecified None)) (declared b x (entry.Unspecified None)).current ∙ declaring-least b x (entry.Unspecified None) b.current
 marked-least b (Moded x m) = moded-least b x.token m (found_in b.tables b.current x.name)
-marked-least b (Specified x k ty) = specified-least b x.token k ty (found_in b.tables b.current x.name)
+marked-least b (Specified x k ty) = let d = found_in b.tables b.current x.name in specified-least (record b { latest = d }) x.token k ty d
 marked-least b (Headed x) = headed-least b x.token (unspecified_at b.tables (found_in b.tables b.current x.name))
+marked-least b (Qualifies class) = qualified-least b class b.latest
+marked-least b (Prefixes class) = changed-least b (prefixed_by class) b.current
+marked-least b (Brings which token) = brings-least b which token b.current
+marked-least b (Provides which name token) = provides-least b which name token b.current
+marked-least b (Protects hides keeps x) = guards-least b hides keeps x b.current
 marked-least b (Inner token) = inner-least b token b.current
 marked-least b (Breaks token rule) = refl
 

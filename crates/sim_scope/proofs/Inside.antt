@@ -1,5 +1,5 @@
 -- The block of a token is the innermost one whose text has it.
-use Rattle.std.proofs.Common.{◌≡◌, ◌<◌, ◌≤◌, ◌+◌, ◌-◌, ◌⊎◌, inl, inr, ℕ, zero, suc, Bool, true, false, List, [], ◌∷◌, ◌++◌, length, Option, Some, None, refl, sym, ap, ◌∙◌, subst, arith}
+use Rattle.std.proofs.Common.{◌≡◌, ◌<◌, ◌≤◌, ◌+◌, ◌⊎◌, inl, inr, ℕ, zero, suc, Bool, true, false, List, [], ◌∷◌, ◌++◌, length, Option, Some, None, refl, sym, ap, ◌∙◌, subst, arith}
 use Rattle.std.specs.Prelude.{nat_eq, replicate, slice_get}
 use Rattle.std.proofs.lemmas.Bool.Decides.{nat_tests}
 
@@ -266,4 +266,81 @@ finished s t n k x current places end at now row new other short a = record {
       where
         go : Open t x.2 b ⊎ (i < h.0.1) → Open s current b ⊎ (i < h.0.1)
         go (inl p) = inl (under now (subst (λ o. Open s o b) (sym (ap out row)) (back b p)))
+        go (inr p) = inr p
+
+-- A block without text stands inside another one. It is never open.
+pub brought : (s t : Shapes) (n : ℕ) (current : Option ℕ) (places : List (Option ℕ)) (k : ℕ) → k < n → t n ≡ Some (0, 0, Some k) → ((b : ℕ) → nat_eq b n ≡ false → t b ≡ s b) → Inside s n current places → Inside t (n + 1) current places
+brought s t n current places k le new other a = record {
+  nested = λ b j is. nested b j (nat_eq b n) refl is;
+  known = λ b x is. known b x (nat_eq b n) refl is;
+  total = λ b lt. total b (nat_eq b n) refl lt;
+  within = λ j is. (let lt : j < n = a.within j is in omega arith);
+  firsts = λ b x is. firsts b x (nat_eq b n) refl is;
+  ends = λ b x is. ends b x (nat_eq b n) refl is;
+  placed = λ i place is. placed_as s t current current i (λ b h. to i b (nat_eq b n) refl h) (λ b h. from i b (nat_eq b n) refl h) place (a.placed i place is);
+}
+  where
+    same_out : (b : ℕ) → b < n → out (s b) ≡ out (t b)
+    same_out b lt = ap out (sym (other b (let P : nat_eq b n ≡ false = grind (arith, nat_tests) in P)))
+
+    nested : (b j : ℕ) (c : Bool) → nat_eq b n ≡ c → out (t b) ≡ Some j → j < b
+    nested b j true e is =
+        let same : b ≡ n = grind (arith, nat_tests) in
+        let j_is : k ≡ j = some-same k j (sym (ap out (ap t same ∙ new)) ∙ is) in omega arith
+    nested b j false e is = a.nested b j (sym (ap out (other b e)) ∙ is)
+
+    up : (c : ℕ) → Open s current c → Open t current c
+    up c h = open_same s t n a.nested same_out current c a.within h
+
+    down : (c : ℕ) → Open t current c → Open s current c
+    down c h = open_same t s n (λ b j is. nested b j (nat_eq b n) refl is) (λ b lt. sym (same_out b lt)) current c a.within h
+
+    -- the row of the new block
+    row : (b : ℕ) (x : Shape) → nat_eq b n ≡ true → t b ≡ Some x → x ≡ (0, 0, Some k)
+    row b x e is = let same : b ≡ n = grind (arith, nat_tests) in some-same x (0, 0, Some k) (sym is ∙ ap t same ∙ new)
+
+    known : (b : ℕ) (x : Shape) (c : Bool) → nat_eq b n ≡ c → t b ≡ Some x → b < n + 1
+    known b x true e is = let same : b ≡ n = grind (arith, nat_tests) in omega arith
+    known b x false e is = let lt : b < n = a.known b x (sym (other b e) ∙ is) in omega arith
+
+    total : (b : ℕ) (c : Bool) → nat_eq b n ≡ c → b < n + 1 → (x : Shape) × (t b ≡ Some x)
+    total b true e lt = let same : b ≡ n = grind (arith, nat_tests) in ((0, 0, Some k), ap t same ∙ new)
+    total b false e lt =
+        let differ : b < n = grind (arith, nat_tests) in
+        let old = a.total b differ in (old.0, other b e ∙ old.1)
+
+    firsts : (b : ℕ) (x : Shape) (c : Bool) → nat_eq b n ≡ c → t b ≡ Some x → x.0 ≤ length places
+    firsts b x true e is = let same : x.0 ≡ 0 = ap (λ (y : Shape). y.0) (row b x e is) in omega arith
+    firsts b x false e is = a.firsts b x (sym (other b e) ∙ is)
+
+    ends : (b : ℕ) (x : Shape) (c : Bool) → nat_eq b n ≡ c → t b ≡ Some x → Open t current b ⊎ (x.1 ≤ length places)
+    ends b x true e is = inr (let same : x.1 ≡ 0 = ap (λ (y : Shape). y.1) (row b x e is) in omega arith)
+    ends b x false e is = go (a.ends b x (sym (other b e) ∙ is))
+      where
+        go : Open s current b ⊎ (x.1 ≤ length places) → Open t current b ⊎ (x.1 ≤ length places)
+        go (inl h) = inl (up b h)
+        go (inr h) = inr h
+
+    to : (i b : ℕ) (c : Bool) → nat_eq b n ≡ c → In s current i b → In t current i b
+    to i b true e h =
+        let same : b ≡ n = grind (arith, nat_tests) in
+        let lt : b < n = a.known b h.0 h.1 in absurd (omega arith)
+    to i b false e h = (h.0, other b e ∙ h.1, h.2, go h.3)
+      where
+        go : Open s current b ⊎ (i < h.0.1) → Open t current b ⊎ (i < h.0.1)
+        go (inl p) = inl (up b p)
+        go (inr p) = inr p
+
+    from : (i b : ℕ) (c : Bool) → nat_eq b n ≡ c → In t current i b → In s current i b
+    from i b true e h = absurd (go h.3)
+      where
+        go : Open t current b ⊎ (i < h.0.1) → ⊥
+        go (inl p) =
+            let same : b ≡ n = grind (arith, nat_tests) in
+            let lt : b < n = open_below t (λ c j is. nested c j (nat_eq c n) refl is) n current b a.within p in omega arith
+        go (inr p) = let same : h.0.1 ≡ 0 = ap (λ (y : Shape). y.1) (row b h.0 e h.1) in let lt : i < h.0.1 = p in omega arith
+    from i b false e h = (h.0, sym (other b e) ∙ h.1, h.2, go h.3)
+      where
+        go : Open t current b ⊎ (i < h.0.1) → Open s current b ⊎ (i < h.0.1)
+        go (inl p) = inl (down b p)
         go (inr p) = inr p

@@ -7,6 +7,8 @@ pub mod Inside
 pub mod Kept
 pub mod Places
 pub mod Leasts
-pub mod Outward
 pub mod Rows
 pub mod Declarations
+pub mod Alongs
+pub mod Steps
+pub mod LevelsLeft

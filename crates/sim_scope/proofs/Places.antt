@@ -14,20 +14,23 @@ use Rattle.sim_base.specs.declared.rule.Rule.TheVariants as r
 use Rattle.sim_tree.specs.declared.expr.Identifier.{Identifier}
 use Rattle.sim_tree.specs.Syntax.{Program}
 use Rattle.sim_scope.specs.declared.scopes.Declaration.{Declaration}
+use Rattle.sim_scope.specs.declared.standard.Attribute.{Attribute}
 use Rattle.sim_scope.specs.declared.types.Entry.{Entry}
 use Rattle.sim_scope.specs.declared.types.Entry.TheVariants as entry
 use Rattle.sim_scope.specs.declared.types.FormalKind.{FormalKind}
 use Rattle.sim_scope.specs.declared.types.Mode.{Mode}
 use Rattle.sim_scope.specs.declared.types.SimType.{SimType}
+use Rattle.sim_scope.specs.declared.types.StandardClass.{StandardClass}
 use Rattle.sim_scope.specs.declared.types.WrittenMode.{WrittenMode}
-use Rattle.sim_scope.specs.Building.{BuildingOf, Mark, Opens, Closes, Declares, DeclaresProcedure, DeclaresClass, Parameter, Moded, Specified, Headed, Inner, Breaks, block_around, broken, broken_if, closed, closed_at, counted, counted_in, declared, declared_at, declared_inside, declared_new, entered, formal, found_in, headed, in_class, inner, inner_at, inner_in, is_by_name, is_procedure, level_in, marked, mode_allowed, moded, moded_as, most_levels, owner_of, specified, specified_as, token_in, unspecified_at, unspecified_in, with_entry, with_mode, with_name}
+use Rattle.sim_scope.specs.Building.{Breaks, Brings, BuildingOf, Closes, Declares, DeclaresClass, DeclaresProcedure, Headed, Inner, Mark, Moded, Opens, Parameter, Prefixes, Protects, Provides, Qualifies, Specified, added, block_around, brings, brings_at, brings_new, broken, broken_if, changed, changed_row, class_row, closed, closed_at, counted, counted_in, declared, declared_again, declared_at, declared_inside, entered, first_brought, formal, found_in, guards, guards_at, headed, holding_class, in_class, inner, inner_at, inner_in, is_by_name, is_match, is_procedure, level_in, marked, match_known, mode_allowed, moded, moded_as, most_declarations, most_levels, name_of, owner_of, place_of, prefixed_by, protecting, provided_alone, provided_in, provides, provides_in, qualified, specified, specified_as, token_in, unspecified_at, unspecified_in, with_brought, with_entry, with_mode, with_name}
 use Rattle.sim_scope.specs.Declare.{declared_by, declaring, empty}
 use Rattle.sim_scope.specs.Laws.{HasToken, IsPlace, Rising}
 use Rattle.sim_scope.specs.Runs.{run}
 use Rattle.sim_scope.specs.Scopes.{declared_in, entry_of}
+use Rattle.sim_scope.specs.Standard.{attribute_name}
 use Rattle.sim_scope.specs.Tables.{BlockOf}
 use Rattle.sim_scope.specs.Walk.{program_events}
-use Rattle.sim_scope.proofs.Inside.{Shape, Shapes, In, Inside, Open, PlacedIn, begun, filled, finished, none_open, some-same}
+use Rattle.sim_scope.proofs.Inside.{Shape, Shapes, In, Inside, Open, PlacedIn, begun, brought, filled, finished, none_open, some-same}
 use Rattle.sim_scope.proofs.Kept.{kept_set, more_here, more_other, set_here, set_other}
 
 abbrev shape : Option BlockOf → Option Shape
@@ -61,17 +64,76 @@ module _ (a : BuildingOf) where
     places = places ∙ h.places;
   }
 
+  -- only the blocks, the innermost open one and the places count
+  alike : (b c : BuildingOf) → c.tables.blocks ≡ b.tables.blocks → c.current ≡ b.current → c.tables.places ≡ b.tables.places → Same a b → Same a c
+  alike b c blocks current places h = record {
+    shaped = λ k. ap (λ z. shape (slice_get z k)) blocks ∙ h.shaped k;
+    size = ap length blocks ∙ h.size;
+    current = current ∙ h.current;
+    places = places ∙ h.places;
+  }
+
+  if-same : (c : Bool) (b n : BuildingOf) → Same a b → Same a n → Same a (if c then b else n)
+  if-same true b n h g = h
+  if-same false b n h g = g
+
+  added-same : (b : BuildingOf) (x : Identifier) (e : Entry) (block : ℕ) (listed : Bool) → Same a b → Same a (added b x e block listed)
+  added-same b x e block listed h = if-broken (nat_eq b.own most_declarations) _ x.token.0 r.TooManyDeclarations (alike b _ refl refl refl h)
+
+  again-same : (b : BuildingOf) (x : Identifier) (e : Entry) (block : ℕ) (o : Option DeclNo) → Same a b → Same a (declared_again b x e block o)
+  again-same b x e block None h = alike b _ refl refl refl h
+  again-same b x e block (Some d) h = if-same (is_match e (entry_of b.tables d)) _ _ (added-same (match_known b d) x e block false (alike b _ refl refl refl h)) (alike b _ refl refl refl h)
+
   declared-row : (b : BuildingOf) (x : Identifier) (e : Entry) (block : ℕ) (o : Option BlockOf) → slice_get b.tables.blocks block ≡ o → Same a b → Same a (declared_at b x e block o)
   declared-row b x e block None at h = h
-  declared-row b x e block (Some row) at h = go (list_any (bytes_eq x.name) row.names)
-    where
-      go : (c : Bool) → Same a (if c then broken (record b { latest = declared_in (Some row) x.name }) x.token.0 r.DeclaredTwice else declared_new b x e block row)
-      go true = record { shaped = h.shaped; size = h.size; current = h.current; places = h.places }
-      go false = if-broken (nat_eq (length b.tables.declarations) 65535) _ x.token.0 r.TooManyDeclarations (row-same b _ block row (with_name row x.name (record { 0 = length b.tables.declarations })) at refl refl refl refl h)
+  declared-row b x e block (Some row) at h =
+      let new : BlockOf = with_name row x.name (record { 0 = length b.tables.declarations }) in
+      let c : BuildingOf = record b { tables = record b.tables { blocks = slice_set b.tables.blocks block new } } in
+      if-same (list_any (bytes_eq x.name) row.names) _ _ (again-same b x e block (declared_in (Some row) x.name) h) (added-same c x e block true (row-same b c block row new at refl refl refl refl h))
 
   declared-same : (b : BuildingOf) (x : Identifier) (e : Entry) (o : Option ℕ) → Same a b → Same a (declared_inside b x e o)
   declared-same b x e None h = h
   declared-same b x e (Some block) h = declared-row b x e block (slice_get b.tables.blocks block) refl h
+
+  changed-row : (b : BuildingOf) (change : BlockOf → BlockOf) (block : ℕ) (o : Option BlockOf) → ((row : BlockOf) → shape (Some (change row)) ≡ shape (Some row)) → slice_get b.tables.blocks block ≡ o → Same a b → Same a (changed_row b change block o)
+  changed-row b change block None like at h = h
+  changed-row b change block (Some row) like at h = row-same b _ block row (change row) at (like row) refl refl refl h
+
+  changed-same : (b : BuildingOf) (change : BlockOf → BlockOf) (o : Option ℕ) → ((row : BlockOf) → shape (Some (change row)) ≡ shape (Some row)) → Same a b → Same a (changed b change o)
+  changed-same b change None like h = h
+  changed-same b change (Some block) like h = changed-row b change block (slice_get b.tables.blocks block) like refl h
+
+  qualified-same : (b : BuildingOf) (class : Identifier) (o : Option DeclNo) → Same a b → Same a (qualified b class o)
+  qualified-same b class None h = h
+  qualified-same b class (Some d) h = alike b _ refl refl refl h
+
+  alone-row : (b : BuildingOf) (name : Attribute) (token : ℕ) (first : Option DeclNo) (block : ℕ) (o : Option BlockOf) → slice_get b.tables.blocks block ≡ o → Same a b → Same a (provided_alone b name token first block o)
+  alone-row b name token first block None at h = h
+  alone-row b name token first block (Some row) at h =
+      if-same (list_any (bytes_eq (attribute_name name)) row.brought_names) b _ h
+      (row-same b _ block row (with_brought (attribute_name name) (record { 0 = length b.tables.declarations }) row) at refl refl refl refl h)
+
+  provided-row : (b : BuildingOf) (name : Attribute) (token : ℕ) (first : Option DeclNo) (block : ℕ) (o : Option BlockOf) → slice_get b.tables.blocks block ≡ o → Same a b → Same a (provided_in b name token first block o)
+  provided-row b name token first block None at h = h
+  provided-row b name token first block (Some row) at h =
+      if-same (list_any (bytes_eq (attribute_name name)) row.names) b _ h
+      (row-same b _ block row (with_name row (attribute_name name) (record { 0 = length b.tables.declarations })) at refl refl refl refl h)
+
+  provides-at : (b : BuildingOf) (which : Option StandardClass) (name : Attribute) (token block : ℕ) (first : Option DeclNo) → Same a b → Same a (provides_in b which name token block first)
+  provides-at b None name token block first h = alone-row b name token first block (slice_get b.tables.blocks block) refl h
+  provides-at b (Some which) name token block first h = provided-row b name token first (block + 1 + place_of which) (slice_get b.tables.blocks (block + 1 + place_of which)) refl h
+
+  provides-same : (b : BuildingOf) (which : Option StandardClass) (name : Attribute) (token : ℕ) (o : Option ℕ) → Same a b → Same a (provides b which name token o)
+  provides-same b which name token None h = h
+  provides-same b which name token (Some block) h = provides-at b which name token block (first_brought (slice_get b.tables.blocks block)) h
+
+  guards-row : (b : BuildingOf) (hides keeps : Bool) (x : Identifier) (block : ℕ) (o : Option BlockOf) → slice_get b.tables.blocks block ≡ o → Same a b → Same a (guards_at b hides keeps x block o)
+  guards-row b hides keeps x block None at h = h
+  guards-row b hides keeps x block (Some row) at h = row-same b _ block row (protecting hides keeps x.name row) at refl refl refl refl h
+
+  guards-same : (b : BuildingOf) (hides keeps : Bool) (x : Identifier) (o : Option ℕ) → Same a b → Same a (guards b hides keeps x o)
+  guards-same b hides keeps x None h = h
+  guards-same b hides keeps x (Some block) h = guards-row b hides keeps x block (slice_get b.tables.blocks block) refl h
 
   counted-row : (b : BuildingOf) (block : ℕ) (o : Option BlockOf) → slice_get b.tables.blocks block ≡ o → Same a b → Same a (counted b block o)
   counted-row b block None at h = h
@@ -197,25 +259,70 @@ closes : (b : BuildingOf) (end from : ℕ) (o : Option ℕ) → b.current ≡ o 
 closes b end from None is le a = record { inside = a; reach = le }
 closes b end from (Some block) is le a = end_block b end block (slice_get b.tables.blocks block) from refl is le a
 
+-- A standard class stands behind the block that declares it.
+more_read : (b : BuildingOf) (n : BlockOf) (k from : ℕ) → n.first ≡ 0 → n.end ≡ 0 → n.encloser ≡ Some k → k < length b.tables.blocks → Read b from → Read (record b { tables = record b.tables { blocks = b.tables.blocks ++ n ∷ [] } }) from
+more_read b n k from first end around lt a =
+    let bs : List BlockOf = b.tables.blocks in
+    let row : shapes (bs ++ n ∷ []) (length bs) ≡ Some (0, 0, Some k) =
+    ap shape (more_here bs n) ∙ ap (λ z. let y : Option Shape = Some (z, n.end, n.encloser) in y) first ∙ ap (λ z. let y : Option Shape = Some (0, z, n.encloser) in y) end ∙ ap (λ z. let y : Option Shape = Some (0, 0, z) in y) around in
+    let more : length (bs ++ n ∷ []) ≡ length bs + 1 = length-append bs (n ∷ []) in record {
+      inside = subst (λ z. Inside (shapes (bs ++ n ∷ [])) z b.current b.tables.places) (sym more)
+          (brought (shapes bs) (shapes (bs ++ n ∷ [])) (length bs) b.current b.tables.places k lt row (λ j e. ap shape (more_other bs n j e)) a.inside);
+      reach = a.reach;
+    }
+
+brings_row : (b : BuildingOf) (which : StandardClass) (token block from : ℕ) (o : Option BlockOf) → slice_get b.tables.blocks block ≡ o → Read b from → Read (brings_at b which token block o) from
+brings_row b which token block from None at a = a
+brings_row b which token block from (Some row) at a = go (list_any (bytes_eq (name_of which)) row.brought_names)
+  where
+    d : DeclNo
+    d = record { 0 = length b.tables.declarations }
+
+    new : BlockOf
+    new = with_brought (name_of which) d row
+
+    m : BuildingOf
+    m = record b { tables = record b.tables { blocks = slice_set b.tables.blocks block new } }
+
+    lt : block < length m.tables.blocks
+    lt = subst (λ n. block < n) (sym (length-set b.tables.blocks block new)) (slice_get_within b.tables.blocks block row at)
+
+    made : Read (record m { tables = record m.tables { blocks = m.tables.blocks ++ class_row which block row d ∷ [] } }) from
+    made = more_read m (class_row which block row d) block from refl refl refl lt (read_same b m from (row-same b b m block row new at refl refl refl refl (itself b)) a)
+
+    go : (c : Bool) → Read (if c then b else brings_new b which token block row) from
+    go true = a
+    go false = record { inside = made.inside; reach = made.reach }
+
+brings_read : (b : BuildingOf) (which : StandardClass) (token from : ℕ) (o : Option ℕ) → Read b from → Read (brings b which token o) from
+brings_read b which token from None a = a
+brings_read b which token from (Some block) a = brings_row b which token block from (slice_get b.tables.blocks block) refl a
+
 all_read : (ms : List Mark) (b : BuildingOf) (from : ℕ) → Rising from ms → Read b from → InsideOf (run marked b ms)
 unfolding run marked
 all_read [] b from rise a = a.inside
 all_read (Opens k text first ∷ ms) b from rise a =
     all_read ms _ first rise.1
     (read_if (nat_lt most_levels (level_in k (block_around b.tables b.current))) _ text r.TooManyLevels first
-    (begin_block b (record { kind = k; first = first; end = first; encloser = b.current; level = level_in k (block_around b.tables b.current); owner = owner_of k b.latest; formals = 0; inner = None; names = []; numbers = [] }) from
+    (begin_block b (record { kind = k; first = first; end = first; encloser = b.current; level = level_in k (block_around b.tables b.current); owner = owner_of k b.latest; formals = 0; inner = None; prefix = None; base = None; standard = None; names = []; numbers = []; has_class = false; brought_names = []; brought = []; protected = []; hidden = [] }) from
     (let le : length b.tables.places ≤ from = a.reach in let up : from ≤ first = rise.0 in omega arith) refl refl a.inside))
 all_read (Closes end ∷ ms) b from rise a =
     all_read ms _ end rise.1 (closes b end from b.current refl (let le : length b.tables.places ≤ from = a.reach in let up : from ≤ end = rise.0 in omega arith) a.inside)
 all_read (Declares x e ∷ ms) b from rise a = all_read ms _ from rise (read_same b _ from (declared-same b b x e b.current (itself b)) a)
-all_read (DeclaresProcedure x result ∷ ms) b from rise a = all_read ms _ from rise (read_same b _ from (declared-same b b x _ b.current (itself b)) a)
-all_read (DeclaresClass x ∷ ms) b from rise a = all_read ms _ from rise (read_same b _ from (declared-same b b x _ b.current (itself b)) a)
+all_read (DeclaresProcedure x result ∷ ms) b from rise a = all_read ms _ from rise (read_same b _ from (declared-same b b x (entry.Procedure result (length b.tables.blocks)) b.current (itself b)) a)
+all_read (DeclaresClass x ∷ ms) b from rise a =
+    all_read ms _ from rise (read_same b _ from (changed-same b (declared b x (entry.Class (length b.tables.blocks))) holding_class b.current (λ row. refl) (declared-same b b x (entry.Class (length b.tables.blocks)) b.current (itself b))) a)
 all_read (Parameter x ∷ ms) b from rise a =
     let c : BuildingOf = declared b x (entry.Unspecified None) in
     all_read ms _ from rise (read_same b _ from (counted-same b c c.current (declared-same b b x (entry.Unspecified None) b.current (itself b))) a)
 all_read (Moded x m ∷ ms) b from rise a = all_read ms _ from rise (read_same b _ from (moded-same b b x.token m (found_in b.tables b.current x.name) (itself b)) a)
-all_read (Specified x k ty ∷ ms) b from rise a = all_read ms _ from rise (read_same b _ from (specified-same b b x.token k ty (found_in b.tables b.current x.name) (itself b)) a)
+all_read (Specified x k ty ∷ ms) b from rise a = all_read ms _ from rise (read_same b _ from (specified-same b (record b { latest = found_in b.tables b.current x.name }) x.token k ty (found_in b.tables b.current x.name) (alike b b _ refl refl refl (itself b))) a)
 all_read (Headed x ∷ ms) b from rise a = all_read ms _ from rise (read_same b _ from (headed-same b b x.token (unspecified_at b.tables (found_in b.tables b.current x.name)) (itself b)) a)
+all_read (Qualifies class ∷ ms) b from rise a = all_read ms _ from rise (read_same b _ from (qualified-same b b class b.latest (itself b)) a)
+all_read (Prefixes class ∷ ms) b from rise a = all_read ms _ from rise (read_same b _ from (changed-same b b (prefixed_by class) b.current (λ row. refl) (itself b)) a)
+all_read (Brings which token ∷ ms) b from rise a = all_read ms _ from rise (brings_read b which token from b.current a)
+all_read (Provides which name token ∷ ms) b from rise a = all_read ms _ from rise (read_same b _ from (provides-same b b which name token b.current (itself b)) a)
+all_read (Protects hides keeps x ∷ ms) b from rise a = all_read ms _ from rise (read_same b _ from (guards-same b b hides keeps x b.current (itself b)) a)
 all_read (Inner token ∷ ms) b from rise a = all_read ms _ from rise (read_same b _ from (inner-same b b token b.current (itself b)) a)
 all_read (Breaks token rule ∷ ms) b from rise a = all_read ms _ from rise (read_same b _ from (broken-same b b token rule (itself b)) a)
 

@@ -4,7 +4,6 @@ use Rattle.std.proofs.lemmas.List.{drop_more, drop_all}
 use Rattle.std.specs.Prelude.{slice_index_or}
 use Rattle.std.specs.Str.{bytes_eq}
 use Rattle.sim_scope.specs.declared.standard.Row.{Row}
-use Rattle.sim_scope.specs.declared.standard.Standard.{Standard}
 use Rattle.sim_scope.specs.Standard.{Names, Passes, entry_named, rows}
 
 pub passes_none : (name : List ℕ) (table : List Row) → Passes name table 0

@@ -35,7 +35,7 @@ use Rattle.sim_tree.proofs.ProgramSyntaxLemmas.{syntax-Empty, syntax-Block, synt
 use Rattle.sim_scope.specs.declared.types.Position.{Position}
 use Rattle.sim_scope.specs.declared.types.Position.TheVariants.{ClassBody, ClassStatement, Inside}
 use Rattle.sim_scope.specs.Runs.{run, Runs, each, Leads}
-use Rattle.sim_scope.specs.Walk.{Visit, enclosed, statement_events, statements_events, arms_events, block_events, whole_events, class_events, declarations_events, declaration_events, program_events, begin_of, of_statement, of_branch, of_arm, of_block, of_whole, of_class_body, of_declaration}
+use Rattle.sim_scope.specs.Walk.{Visit, arm_classes, enclosed, statement_events, statements_events, arms_events, block_events, whole_events, class_events, declarations_events, declaration_events, program_events, begin_of, of_statement, of_branch, of_arm, of_block, of_whole, of_class_body, of_declaration}
 
 -- One step after another.
 module _ {S E : Type 0} (step : S → E → S) where
@@ -73,6 +73,11 @@ module _ {S E : Type 0} (step : S → E → S) where
   leads_next f b g h xs i x lead le is one =
       let from : drop i xs ≡ x ∷ drop (i + 1) xs = drop_more xs i x le ∙ ap (λ y. y ∷ drop (i + 1) xs) (sym is) in
       ap (λ z. run step z (each f (drop (i + 1) xs))) one ∙ sym (run-append g (f x) (each f (drop (i + 1) xs))) ∙ ap (λ z. run step g (each f z)) (sym from) ∙ lead
+
+  pub leads_item : {A : Type 0} (f : A → List E) (b g h : S) (xs : List A) (i : ℕ) (d : A) → Leads step f b xs g i → i < length xs → Runs step g h (f (slice_index_or xs i d)) → Leads step f b xs h (i + 1)
+  unfolding Leads Runs
+  leads_item f b g h xs i d lead le one =
+      ap (λ z. run step z (each f (drop (i + 1) xs))) one ∙ sym (run-append g (f (slice_index_or xs i d)) (each f (drop (i + 1) xs))) ∙ ap (λ z. run step g (each f z)) (sym (drop_more xs i d le)) ∙ lead
 
   pub leads_end : {A : Type 0} (f : A → List E) (b g : S) (xs : List A) (i : ℕ) → Leads step f b xs g i → length xs ≤ i → Runs step b g (each f xs)
   unfolding Leads Runs run
@@ -159,7 +164,7 @@ module _ {S E : Type 0} (step : S → E → S) (v : Visit E) where
   each-arms [] = refl
   each-arms (w ∷ ws) = ap (λ z. of_arm v w ++ z) (each-arms ws)
 
-  pub run_inspect_when : (b k m c : S) (p : Position) (x : Stmt) (l : List When) (i : TokenNo) (e : Expr) (a : Vec When Global) (w : Option (Box Stmt Global)) → x ≡ s.InspectWhen i e a w → Runs step b k (v.inspect i.0 (syntax_of e))
+  pub run_inspect_when : (b k m c : S) (p : Position) (x : Stmt) (l : List When) (i : TokenNo) (e : Expr) (a : Vec When Global) (w : Option (Box Stmt Global)) → x ≡ s.InspectWhen i e a w → Runs step b k (v.inspect_when i.0 (syntax_of e) (arm_classes (arms (map arm_syntax a.items))))
       → l ≡ a.items → Runs step k m (each (of_arm v) l) → Runs step m c (of_branch v w) → Runs step b c (of_statement v p x)
   run_inspect_when b k m c p x l i e a w is one same two three =
       runs_as step b c _ _ (events_at p x _ (ap statement_syntax is ∙ syntax-InspectWhen i e a w))

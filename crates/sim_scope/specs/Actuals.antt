@@ -1,9 +1,8 @@
 -- Actual parameters and subscripts: what each is held against, and whether it fits.
-use Rattle.std.specs.Prelude.{ℕ, ◌+◌, zero, suc, Bool, true, false, ◌&&◌, if◌then◌else◌, List, [], ◌∷◌, Option, Some, None}
+use Rattle.std.specs.Prelude.{ℕ, ◌+◌, zero, suc, Bool, true, false, ◌&&◌, if◌then◌else◌, Option, Some, None}
 use Rattle.sim_base.specs.declared.numbering.DeclNo.{DeclNo}
 use Rattle.sim_base.specs.declared.rule.Rule.{Rule}
 use Rattle.sim_base.specs.declared.rule.Rule.TheVariants as r
-use Rattle.sim_scope.specs.declared.found.Fault.{Fault}
 use Rattle.sim_scope.specs.declared.outcome.Actual.{Actual}
 use Rattle.sim_scope.specs.declared.outcome.Actuals.{Actuals}
 use Rattle.sim_scope.specs.declared.outcome.Outcome.{Outcome}
@@ -23,9 +22,10 @@ use Rattle.sim_scope.specs.declared.types.SimType.{SimType}
 use Rattle.sim_scope.specs.declared.types.SimType.TheVariants as t
 use Rattle.sim_scope.specs.Found.{fault, lesser_of}
 use Rattle.sim_scope.specs.Judged.{Judged, gives, next}
-use Rattle.sim_scope.specs.Operators.{is_same}
+use Rattle.sim_scope.specs.Operators.{is_same, misfit_of}
+use Rattle.sim_scope.specs.Levels.{is_in_chain}
 use Rattle.sim_scope.specs.Outcomes.{is_stream, type_in, valued}
-use Rattle.sim_scope.specs.Scopes.{entry_of, formal_of}
+use Rattle.sim_scope.specs.Scopes.{class_formal, entry_of, formal_of}
 use Rattle.sim_scope.specs.Standard.{signature}
 use Rattle.sim_scope.specs.Tables.{Tables}
 
@@ -49,8 +49,15 @@ of_formal_procedure kind.Array = parameter.Subscript
 of_formal_procedure kind.Procedure = parameter.Unspecified
 of_formal_procedure kind.Simple = parameter.Unknown
 
+abbrev pub attribute_parameter : Option SimType → (place : ℕ) → Parameter
+attribute_parameter ty zero = typed_or_none ty
+attribute_parameter ty (suc place) = parameter.Unknown
+
+-- (a class has the parameters of all its levels)
 abbrev pub parameter_of : Tables → DeclNo → (place : ℕ) → Option Entry → Parameter
 parameter_of s d place (Some (entry.Procedure result block)) = formal_or_none (formal_of s d place)
+parameter_of s d place (Some (entry.Class block)) = formal_or_none (class_formal s block place)
+parameter_of s d place (Some (entry.Attribute name ty result)) = attribute_parameter ty place
 parameter_of s d place (Some (entry.Array element dimensions)) = parameter.Subscript
 parameter_of s d place (Some (entry.Virtual result own)) = parameter.Unspecified
 parameter_of s d place (Some (entry.Formal f)) = of_formal_procedure f.kind
@@ -79,35 +86,49 @@ type_matches (Some a) b = is_same a b
 abbrev pub same_or_misfit : (first : ℕ) → Option SimType → SimType → Actual
 same_or_misfit first wanted b = if type_matches wanted b then fitting else misfitting first r.WrongType
 
--- S13: a value, which a simple parameter has of its type, and a subscript as an integer
-abbrev pub value_fits : (first : ℕ) → Parameter → Option SimType → Actual
-value_fits first p None = untyped
-value_fits first parameter.Subscript (Some b) = same_or_misfit first (Some t.Integer) b
-value_fits first (parameter.Formal f) (Some b) = (elim f.kind [ kind.Simple ↦ same_or_misfit first f.ty b | _ ↦ misfitting first r.WrongType ])
-value_fits first _ (Some b) = fitting
+abbrev pub fitting_unless : (first : ℕ) → Option Rule → Actual
+fitting_unless first None = fitting
+fitting_unless first (Some rule) = misfitting first rule
+
+abbrev pub conforming : Tables → (first : ℕ) → Option SimType → SimType → Actual
+conforming s first None b = misfitting first r.WrongType
+conforming s first (Some a) b = fitting_unless first (misfit_of s a b)
+
+-- S13, S16: a value, which a simple parameter has of its type, and a subscript as an integer
+abbrev pub value_fits : Tables → (first : ℕ) → Parameter → Option SimType → Actual
+value_fits s first p None = untyped
+value_fits s first parameter.Subscript (Some b) = same_or_misfit first (Some t.Integer) b
+value_fits s first (parameter.Formal f) (Some b) = (elim f.kind [ kind.Simple ↦ conforming s first f.ty b | _ ↦ misfitting first r.WrongType ])
+value_fits s first _ (Some b) = fitting
 
 unfoldable pub as_value : Tables → (first : ℕ) → Parameter → Outcome → Judged Actual
-as_value s first p o = next (valued s first o) (λ v. gives (value_fits first p (type_in v)))
+as_value s first p o = next (valued s first o) (λ v. gives (value_fits s first p (type_in v)))
 
 -- S13: an array alone, which an array parameter has of its element type
 abbrev pub array_fits : (first : ℕ) → Formal → SimType → Actual
 array_fits first f b = (elim f.kind [ kind.Array ↦ same_or_misfit first f.ty b | _ ↦ misfitting first r.WrongType ])
 
-abbrev pub result_matches : Option SimType → Option SimType → Bool
-result_matches None None = true
-result_matches None (Some b) = false
-result_matches (Some a) None = false
-result_matches (Some a) (Some b) = is_same a b
+-- a reference may be of a subclass
+abbrev pub result_fits : Tables → (wanted given : SimType) → Bool
+result_fits s (t.Ref c) (t.Ref d) = is_in_chain s d c
+result_fits s a b = is_same a b
+
+abbrev pub result_matches : Tables → Option SimType → Option SimType → Bool
+result_matches s None None = true
+result_matches s None (Some b) = false
+result_matches s (Some a) None = false
+result_matches s (Some a) (Some b) = result_fits s a b
 
 abbrev pub result_in : Option Entry → Option SimType
 result_in (Some (entry.Procedure result block)) = result
 result_in (Some (entry.Virtual result own)) = result
 result_in (Some (entry.Formal f)) = f.ty
+result_in (Some (entry.Attribute name parameter result)) = result
 result_in _ = None
 
 -- S13: a procedure alone, which a procedure parameter has with the same result, or without one where it has none
-abbrev pub procedure_fits : (first : ℕ) → Formal → Option SimType → Actual
-procedure_fits first f result = if result_matches f.ty result then fitting else misfitting first r.WrongType
+abbrev pub procedure_fits : Tables → (first : ℕ) → Formal → Option SimType → Actual
+procedure_fits s first f result = if result_matches s f.ty result then fitting else misfitting first r.WrongType
 
 -- S23: in a call of a formal procedure or a virtual, a standard name alone has a value without actuals
 abbrev pub has_value_alone : Signature → Bool
@@ -116,11 +137,25 @@ has_value_alone s = (elim s.first [ Some a ↦ false | None ↦ elim s.result [ 
 abbrev pub unspecified_standard : (first : ℕ) → Signature → Actual
 unspecified_standard first s = if has_value_alone s then fitting else misfitting first r.StandardNameLeftOut
 
+-- S23: nor is an attribute of a standard class passed as a procedure
+abbrev pub passed_procedure : Tables → (first : ℕ) → Formal → Option Entry → Actual
+passed_procedure s first f (Some (entry.Attribute name parameter result)) = misfitting first r.StandardNameLeftOut
+passed_procedure s first f e = procedure_fits s first f (result_in e)
+
+abbrev pub attribute_alone : (first : ℕ) → (parameter result : Option SimType) → Actual
+attribute_alone first None (Some ty) = fitting
+attribute_alone first parameter result = misfitting first r.StandardNameLeftOut
+
+abbrev pub unspecified_procedure : (first : ℕ) → Option Entry → Actual
+unspecified_procedure first (Some (entry.Attribute name parameter result)) = attribute_alone first parameter result
+unspecified_procedure first e = fitting
+
 abbrev pub procedure_actual : Tables → (first : ℕ) → Parameter → Outcome → DeclNo → Judged Actual
 procedure_actual s first (parameter.Formal f) o d =
-    (elim f.kind [ kind.Simple ↦ as_value s first (parameter.Formal f) o | kind.Array ↦ gives (misfitting first r.WrongType) | kind.Procedure ↦ gives (procedure_fits first f (result_in (entry_of s d))) ])
+    (elim f.kind [ kind.Simple ↦ as_value s first (parameter.Formal f) o | kind.Array ↦ gives (misfitting first r.WrongType) | kind.Procedure ↦ gives (passed_procedure s first f (entry_of s d)) ])
 procedure_actual s first parameter.Subscript o d = as_value s first parameter.Subscript o
-procedure_actual s first _ o d = gives fitting
+procedure_actual s first parameter.Unspecified o d = gives (unspecified_procedure first (entry_of s d))
+procedure_actual s first parameter.Unknown o d = gives fitting
 
 -- S23: no standard name is passed as a procedure
 abbrev pub standard_actual : Tables → (first : ℕ) → Parameter → Outcome → Signature → Judged Actual

@@ -1,8 +1,6 @@
 -- Assignments. In `a := b := e` each left side is compared with the last expression. What is judged first does not matter for the answer; so
 -- the last expression is.
 use Rattle.std.specs.Prelude.{ℕ, Bool, true, false, ◌&&◌, if◌then◌else◌, List, [], ◌∷◌, Option, Some, None}
-use Rattle.sim_base.specs.declared.numbering.DeclNo.{DeclNo}
-use Rattle.sim_base.specs.declared.numbering.TokenNo.{TokenNo}
 use Rattle.sim_base.specs.declared.rule.Rule.{Rule}
 use Rattle.sim_base.specs.declared.rule.Rule.TheVariants as r
 use Rattle.sim_tree.specs.declared.stmt.Assignment.{Assignment}
@@ -21,7 +19,7 @@ use Rattle.sim_scope.specs.Actuals.{result_in}
 use Rattle.sim_scope.specs.Expressions.{judge, judge_side}
 use Rattle.sim_scope.specs.Found.{Broken, fault, lesser_of}
 use Rattle.sim_scope.specs.Judged.{Judged, gives, next, telling}
-use Rattle.sim_scope.specs.Operators.{is_same}
+use Rattle.sim_scope.specs.Operators.{misfit_of}
 use Rattle.sim_scope.specs.Outcomes.{called, is_stream, side_of}
 use Rattle.sim_scope.specs.Scopes.{entry_of}
 use Rattle.sim_scope.specs.Standard.{signature}
@@ -131,23 +129,27 @@ takes assignment.Reference (t.Ref d) = true
 takes assignment.Reference t.Text = true
 takes assignment.Reference _ = false
 
--- S13: the sign takes the type of the left side, and the value has the same type
-abbrev pub types_assigned : Assignment → (x v : Side) → Option SimType → Option SimType → Option Fault
-types_assigned sign x v (Some a) (Some b) =
-    if takes sign a then (if is_same b a then None else Some (fault v.first.0 r.WrongType)) else Some (fault x.first.0 r.WrongType)
-types_assigned sign x v _ _ = None
+-- S13: the sign takes the type of the left side, and the value has the same type. S16: or lies on one chain with it.
+abbrev pub fault_unless : (first : ℕ) → Option Rule → Option Fault
+fault_unless first None = None
+fault_unless first (Some rule) = Some (fault first rule)
+
+abbrev pub types_assigned : Tables → Assignment → (x v : Side) → Option SimType → Option SimType → Option Fault
+types_assigned s sign x v (Some a) (Some b) =
+    if takes sign a then fault_unless v.first.0 (misfit_of s a b) else Some (fault x.first.0 r.WrongType)
+types_assigned s sign x v _ _ = None
 
 abbrev pub is_typed : Option SimType → Bool
 is_typed None = false
 is_typed (Some ty) = true
 
 -- one more left side among those so far
-unfoldable pub with_left : Assignment → (v : Side) → LeftSides → (x : Side) → LeftSides
-with_left sign v a x = record { typed = a.typed && is_typed x.ty; misfit = lesser_of a.misfit (types_assigned sign x v x.ty v.ty) }
+unfoldable pub with_left : Tables → Assignment → (v : Side) → LeftSides → (x : Side) → LeftSides
+with_left s sign v a x = record { typed = a.typed && is_typed x.ty; misfit = lesser_of a.misfit (types_assigned s sign x v x.ty v.ty) }
 
 unfoldable pub lefts : Tables → (first : Assignment) → (v : Side) → LeftSides → List LeftSide → Judged LeftSides
 lefts s first v a [] = gives a
-lefts s first v a (l ∷ ls) = next (left_side s first l) (λ x. lefts s first v (with_left l.sign v a x) ls)
+lefts s first v a (l ∷ ls) = next (left_side s first l) (λ x. lefts s first v (with_left s l.sign v a x) ls)
 
 -- the types are compared where all parts have one
 abbrev pub told : Option Fault → Judged Nothing

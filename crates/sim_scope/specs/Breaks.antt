@@ -9,14 +9,16 @@ use Rattle.sim_base.specs.declared.rule.Rule.TheVariants as r
 use Rattle.sim_tree.specs.declared.expr.Identifier.{Identifier}
 use Rattle.sim_tree.specs.Syntax.{Program}
 use Rattle.sim_scope.specs.declared.found.Fault.{Fault}
+use Rattle.sim_scope.specs.declared.types.Entry.{Entry}
+use Rattle.sim_scope.specs.declared.types.Entry.TheVariants as entry
 use Rattle.sim_scope.specs.declared.types.FormalKind.{FormalKind}
 use Rattle.sim_scope.specs.declared.types.Mode.{Mode}
 use Rattle.sim_scope.specs.declared.types.SimType.{SimType}
 use Rattle.sim_scope.specs.declared.types.WrittenMode.{WrittenMode}
-use Rattle.sim_scope.specs.Building.{BuildingOf, Mark, Opens, Closes, Declares, DeclaresProcedure, DeclaresClass, Parameter, Moded, Specified, Headed, Inner, Breaks, block_around, found_in, in_class, is_by_name, is_procedure, level_in, marked, mode_allowed, most_declarations, most_levels, token_in, unspecified_at, unspecified_in}
+use Rattle.sim_scope.specs.Building.{BuildingOf, Mark, Opens, Closes, Declares, DeclaresProcedure, DeclaresClass, Parameter, Moded, Specified, Headed, Qualifies, Prefixes, Brings, Provides, Protects, Inner, Breaks, block_around, found_in, in_class, is_match, is_by_name, is_procedure, level_in, marked, mode_allowed, most_declarations, most_levels, token_in, unspecified_at, unspecified_in}
 use Rattle.sim_scope.specs.Declare.{declaring, empty}
 use Rattle.sim_scope.specs.Found.{fault}
-use Rattle.sim_scope.specs.Scopes.{entry_of}
+use Rattle.sim_scope.specs.Scopes.{declared_in, entry_of}
 use Rattle.sim_scope.specs.Tables.{BlockOf}
 use Rattle.sim_scope.specs.Walk.{program_events}
 
@@ -32,16 +34,21 @@ abbrev pub level_breaks : (text level : ℕ) → List Fault
 level_breaks text level = where_true (nat_lt most_levels level) text r.TooManyLevels
 
 -- S1: an identifier that its block declares already. L3: the declaration past the last one that a program may have.
-abbrev pub row_breaks : BuildingOf → Identifier → Option BlockOf → List Fault
-row_breaks b x None = []
-row_breaks b x (Some row) =
-    if list_any (bytes_eq x.name) row.names
-    then at x.token.0 r.DeclaredTwice
-    else where_true (nat_eq (length b.tables.declarations) most_declarations) x.token.0 r.TooManyDeclarations
+abbrev pub counting_breaks : BuildingOf → Identifier → List Fault
+counting_breaks b x = where_true (nat_eq b.own most_declarations) x.token.0 r.TooManyDeclarations
 
-abbrev pub declaration_breaks : BuildingOf → Identifier → Option ℕ → List Fault
-declaration_breaks b x None = []
-declaration_breaks b x (Some block) = row_breaks b x (slice_get b.tables.blocks block)
+abbrev pub again_breaks : BuildingOf → Identifier → Entry → Option DeclNo → List Fault
+again_breaks b x e None = at x.token.0 r.DeclaredTwice
+again_breaks b x e (Some d) = if is_match e (entry_of b.tables d) then counting_breaks b x else at x.token.0 r.DeclaredTwice
+
+abbrev pub row_breaks : BuildingOf → Identifier → Entry → Option BlockOf → List Fault
+row_breaks b x e None = []
+row_breaks b x e (Some row) =
+    if list_any (bytes_eq x.name) row.names then again_breaks b x e (declared_in (Some row) x.name) else counting_breaks b x
+
+abbrev pub declaration_breaks : BuildingOf → Identifier → Entry → Option ℕ → List Fault
+declaration_breaks b x e None = []
+declaration_breaks b x e (Some block) = row_breaks b x e (slice_get b.tables.blocks block)
 
 -- S5: an identifier of the mode part that is no parameter, or that a mode part names before, or by name in a class
 abbrev pub mode_breaks_of : BuildingOf → TokenNo → Mode → Option (Option WrittenMode) → List Fault
@@ -90,13 +97,18 @@ inner_breaks b token (Some block) = inner_breaks_of token (slice_get b.tables.bl
 unfoldable pub breaks : BuildingOf → Mark → List Fault
 breaks b (Opens k text first) = level_breaks text (level_in k (block_around b.tables b.current))
 breaks b (Closes end) = []
-breaks b (Declares x e) = declaration_breaks b x b.current
-breaks b (DeclaresProcedure x result) = declaration_breaks b x b.current
-breaks b (DeclaresClass x) = declaration_breaks b x b.current
-breaks b (Parameter x) = declaration_breaks b x b.current
+breaks b (Declares x e) = declaration_breaks b x e b.current
+breaks b (DeclaresProcedure x result) = declaration_breaks b x (entry.Procedure result (length b.tables.blocks)) b.current
+breaks b (DeclaresClass x) = declaration_breaks b x (entry.Class (length b.tables.blocks)) b.current
+breaks b (Parameter x) = declaration_breaks b x (entry.Unspecified None) b.current
 breaks b (Moded x m) = mode_breaks b x.token m (found_in b.tables b.current x.name)
 breaks b (Specified x k ty) = specification_breaks b x.token k ty (found_in b.tables b.current x.name)
 breaks b (Headed x) = heading_breaks x.token (unspecified_at b.tables (found_in b.tables b.current x.name))
+breaks b (Qualifies class) = []
+breaks b (Prefixes class) = []
+breaks b (Brings which token) = []
+breaks b (Provides which name token) = []
+breaks b (Protects hides keeps x) = []
 breaks b (Inner token) = inner_breaks b token b.current
 breaks b (Breaks token rule) = at token rule
 

@@ -1,5 +1,5 @@
 -- The first round: block tables, built from a program that is read from left to right.
-use Rattle.std.specs.Prelude.{ℕ, ◌+◌, ◌-◌, Bool, true, false, not, ◌||◌, ◌&&◌, nat_eq, nat_lt, if◌then◌else◌, List, [], ◌∷◌, ◌++◌, length, replicate, Option, Some, None, slice_get, slice_set}
+use Rattle.std.specs.Prelude.{ℕ, ◌+◌, ◌-◌, Bool, true, false, not, ◌||◌, ◌&&◌, nat_eq, nat_lt, if◌then◌else◌, List, [], ◌∷◌, ◌++◌, length, replicate, Option, Some, None, slice_get, slice_set, codes}
 use Rattle.std.specs.List.{list_any}
 use Rattle.std.specs.Str.{bytes_eq}
 use Rattle.sim_base.specs.declared.numbering.DeclNo.{DeclNo}
@@ -9,25 +9,32 @@ use Rattle.sim_base.specs.declared.rule.Rule.TheVariants as r
 use Rattle.sim_tree.specs.declared.expr.Identifier.{Identifier}
 use Rattle.sim_scope.specs.declared.found.Fault.{Fault}
 use Rattle.sim_scope.specs.declared.scopes.Declaration.{Declaration}
+use Rattle.sim_scope.specs.declared.standard.Attribute.{Attribute}
+use Rattle.sim_scope.specs.declared.standard.StandardType.{StandardType}
+use Rattle.sim_scope.specs.declared.standard.StandardType.TheVariants as standard_type
 use Rattle.sim_scope.specs.declared.types.BlockKind.{BlockKind}
 use Rattle.sim_scope.specs.declared.types.BlockKind.TheVariants as kind
 use Rattle.sim_scope.specs.declared.types.Entry.{Entry}
 use Rattle.sim_scope.specs.declared.types.Entry.TheVariants as entry
-use Rattle.sim_scope.specs.declared.types.Formal.{Formal}
 use Rattle.sim_scope.specs.declared.types.FormalKind.{FormalKind}
 use Rattle.sim_scope.specs.declared.types.FormalKind.TheVariants as formal_kind
 use Rattle.sim_scope.specs.declared.types.Mode.{Mode}
 use Rattle.sim_scope.specs.declared.types.Mode.TheVariants as mode
 use Rattle.sim_scope.specs.declared.types.SimType.{SimType}
 use Rattle.sim_scope.specs.declared.types.SimType.TheVariants as t
+use Rattle.sim_scope.specs.declared.types.StandardClass.{StandardClass}
+use Rattle.sim_scope.specs.declared.types.StandardClass.TheVariants as standard_class
 use Rattle.sim_scope.specs.declared.types.WrittenMode.{WrittenMode}
 use Rattle.sim_scope.specs.Found.{fault, lesser}
 use Rattle.sim_scope.specs.Scopes.{declared_in, entry_of, lookup}
+use Rattle.sim_scope.specs.Standard.{attribute_name, parameter_of, result_of}
 use Rattle.sim_scope.specs.Tables.{BlockOf, Tables}
 
--- the tables so far; the innermost block that is open; the declaration of the identifier declared last; the least broken rule
+-- the tables so far; how many identifiers the program itself declares; the innermost block that is open; the declaration of the identifier
+-- that was declared or specified last; the least broken rule
 pub record BuildingOf : Type 0 where
   pub tables : Tables
+  pub own : ℕ
   pub current : Option ℕ
   pub latest : Option DeclNo
   pub least : Option Fault
@@ -48,6 +55,15 @@ pub data Mark : Type 0 where
   Moded : Identifier → Mode → Mark
   Specified : Identifier → FormalKind → Option SimType → Mark
   Headed : Identifier → Mark
+  -- the declaration met last is of references to this class
+  Qualifies : (class : Identifier) → Mark
+  -- the innermost block has this class in front of it
+  Prefixes : (class : Identifier) → Mark
+  -- `simset` or `simulation` in front of the innermost block declares a standard class, and an attribute of one or of its own
+  Brings : StandardClass → (token : ℕ) → Mark
+  Provides : Option StandardClass → Attribute → (token : ℕ) → Mark
+  -- a class hides or protects an attribute, or both
+  Protects : (hides keeps : Bool) → (attribute : Identifier) → Mark
   -- an `inner` in the statement list of a class's body
   Inner : (token : ℕ) → Mark
   -- a rule is broken
@@ -74,6 +90,7 @@ deeper kind.SubBlock level = level + 1
 deeper kind.Procedure level = level + 1
 deeper kind.Class level = level + 1
 deeper kind.Prefixed level = level + 1
+deeper (kind.StandardClass which) level = level + 1
 
 abbrev pub level_in : BlockKind → Option BlockOf → ℕ
 level_in k None = 1
@@ -91,6 +108,7 @@ owner_of kind.Program latest = None
 owner_of kind.SubBlock latest = None
 owner_of kind.Prefixed latest = None
 owner_of kind.Connection latest = None
+owner_of (kind.StandardClass which) latest = None
 
 -- the most levels that blocks may have
 abbrev pub most_levels : ℕ
@@ -108,8 +126,16 @@ opened_at b k text first level = broken_if (nat_lt most_levels level) (record b 
       owner = owner_of k b.latest;
       formals = 0;
       inner = None;
+      prefix = None;
+      base = None;
+      standard = None;
       names = [];
       numbers = [];
+      has_class = false;
+      brought_names = [];
+      brought = [];
+      protected = [];
+      hidden = [];
     } ∷ [];
     places = (placed b.tables b.current first).places;
   };
@@ -139,22 +165,61 @@ most_declarations = 65535
 abbrev pub with_name : BlockOf → List ℕ → DeclNo → BlockOf
 with_name row name number = record row { names = row.names ++ name ∷ []; numbers = row.numbers ++ number ∷ [] }
 
-abbrev pub declared_new : BuildingOf → Identifier → Entry → (block : ℕ) → BlockOf → BuildingOf
-declared_new b x e block row = broken_if (nat_eq (length b.tables.declarations) most_declarations) (record b {
-  tables = record b.tables {
-    blocks = slice_set b.tables.blocks block (with_name row x.name (record { 0 = length b.tables.declarations }));
-    declarations = b.tables.declarations ++ record { name = x.name; token = x.token; block = block; entry = e } ∷ [];
-  };
+-- one more declaration, whose identifier its block lists or not
+abbrev pub row_of : Identifier → Entry → (block : ℕ) → (listed : Bool) → Declaration
+row_of x e block listed = record { name = x.name; token = x.token; block = block; entry = e; listed = listed }
+
+-- one more identifier that the program itself declares
+abbrev pub counting : BuildingOf → Identifier → BuildingOf
+counting b x = broken_if (nat_eq b.own most_declarations) (record b { own = b.own + 1 }) x.token.0 r.TooManyDeclarations
+
+abbrev pub added : BuildingOf → Identifier → Entry → (block : ℕ) → (listed : Bool) → BuildingOf
+added b x e block listed = counting (record b {
+  tables = record b.tables { declarations = b.tables.declarations ++ row_of x e block listed ∷ [] };
   latest = Some (record { 0 = length b.tables.declarations });
-}) x.token.0 r.TooManyDeclarations
+}) x
+
+abbrev pub declared_new : BuildingOf → Identifier → Entry → (block : ℕ) → BlockOf → BuildingOf
+declared_new b x e block row =
+    added (record b { tables = record b.tables { blocks = slice_set b.tables.blocks block (with_name row x.name (record { 0 = length b.tables.declarations })) } }) x e block true
+
+-- The procedure that matches a virtual at the virtual's own level: the identifier goes on to denote the virtual, which knows its match.
+abbrev pub is_match : Entry → Option Entry → Bool
+is_match (entry.Procedure result block) (Some (entry.Virtual wanted None)) = true
+is_match e f = false
+
+abbrev pub matching : Entry → DeclNo → Entry
+matching (entry.Virtual result own) d = entry.Virtual result (Some d)
+matching e d = e
+
+abbrev pub row_matching : Option Declaration → DeclNo → List Declaration → ℕ → List Declaration
+row_matching None d rows i = rows
+row_matching (Some row) d rows i = slice_set rows i (record row { entry = matching row.entry d })
+
+-- the next declaration is the match of a virtual
+abbrev pub match_known : BuildingOf → (virtual : DeclNo) → BuildingOf
+match_known b virtual = record b {
+  tables = record b.tables {
+    declarations = row_matching (slice_get b.tables.declarations virtual.0) (record { 0 = length b.tables.declarations }) b.tables.declarations virtual.0;
+  };
+}
+
+abbrev pub matched : BuildingOf → Identifier → Entry → (block : ℕ) → (virtual : DeclNo) → BuildingOf
+matched b x e block virtual = added (match_known b virtual) x e block false
 
 -- an identifier that its block has already is broken, and leaves the tables as they are
+abbrev pub declared_twice : BuildingOf → Identifier → Option DeclNo → BuildingOf
+declared_twice b x d = broken (record b { latest = d }) x.token.0 r.DeclaredTwice
+
+abbrev pub declared_again : BuildingOf → Identifier → Entry → (block : ℕ) → Option DeclNo → BuildingOf
+declared_again b x e block None = declared_twice b x None
+declared_again b x e block (Some d) =
+    if is_match e (entry_of b.tables d) then matched b x e block d else declared_twice b x (Some d)
+
 abbrev pub declared_at : BuildingOf → Identifier → Entry → (block : ℕ) → Option BlockOf → BuildingOf
 declared_at b x e block None = b
 declared_at b x e block (Some row) =
-    if list_any (bytes_eq x.name) row.names
-    then broken (record b { latest = declared_in (Some row) x.name }) x.token.0 r.DeclaredTwice
-    else declared_new b x e block row
+    if list_any (bytes_eq x.name) row.names then declared_again b x e block (declared_in (Some row) x.name) else declared_new b x e block row
 
 -- the innermost block declares an identifier
 abbrev pub declared_inside : BuildingOf → Identifier → Entry → Option ℕ → BuildingOf
@@ -163,6 +228,170 @@ declared_inside b x e (Some block) = declared_at b x e block (slice_get b.tables
 
 abbrev pub declared : BuildingOf → Identifier → Entry → BuildingOf
 declared b x e = declared_inside b x e b.current
+
+-- A row of the blocks is changed.
+abbrev pub changed_row : BuildingOf → (BlockOf → BlockOf) → (block : ℕ) → Option BlockOf → BuildingOf
+changed_row b change block None = b
+changed_row b change block (Some row) = record b { tables = record b.tables { blocks = slice_set b.tables.blocks block (change row) } }
+
+-- the innermost block is changed
+abbrev pub changed : BuildingOf → (BlockOf → BlockOf) → Option ℕ → BuildingOf
+changed b change None = b
+changed b change (Some block) = changed_row b change block (slice_get b.tables.blocks block)
+
+abbrev pub holding_class : BlockOf → BlockOf
+holding_class row = record row { has_class = true }
+
+abbrev pub prefixed_by : Identifier → BlockOf → BlockOf
+prefixed_by x row = record row { prefix = Some x }
+
+-- Standard classes. Those that `simset` or `simulation` declares in a block follow directly behind it, in this order.
+abbrev pub place_of : StandardClass → ℕ
+place_of standard_class.Linkage = 0
+place_of standard_class.Link = 1
+place_of standard_class.Head = 2
+place_of standard_class.Process = 3
+
+abbrev pub name_of : StandardClass → List ℕ
+name_of standard_class.Linkage = codes "linkage"
+name_of standard_class.Link = codes "link"
+name_of standard_class.Head = codes "head"
+name_of standard_class.Process = codes "process"
+
+-- the block of its prefix: that of linkage for link and head, that of link for process
+abbrev pub standard_base : StandardClass → (block : ℕ) → Option ℕ
+standard_base standard_class.Linkage block = None
+standard_base standard_class.Link block = Some (block + 1)
+standard_base standard_class.Head block = Some (block + 1)
+standard_base standard_class.Process block = Some (block + 2)
+
+abbrev pub standard_token : (token : ℕ) → TokenNo
+standard_token token = record { 0 = token }
+
+-- one more name that the standard prefix of a block declares
+abbrev pub with_brought : List ℕ → DeclNo → BlockOf → BlockOf
+with_brought name d row = record row { brought_names = row.brought_names ++ name ∷ []; brought = row.brought ++ d ∷ [] }
+
+-- the row of a standard class, which has no text
+abbrev pub class_row : StandardClass → (block : ℕ) → (row : BlockOf) → DeclNo → BlockOf
+class_row which block row d = record {
+  kind = kind.StandardClass which;
+  first = 0;
+  end = 0;
+  encloser = Some block;
+  level = row.level + 1;
+  owner = Some d;
+  formals = 0;
+  inner = None;
+  prefix = None;
+  base = standard_base which block;
+  standard = None;
+  names = [];
+  numbers = [];
+  has_class = false;
+  brought_names = [];
+  brought = [];
+  protected = [];
+  hidden = [];
+}
+
+abbrev pub standard_row : List ℕ → (token block : ℕ) → Entry → (listed : Bool) → Declaration
+standard_row name token block e listed = record { name = name; token = standard_token token; block = block; entry = e; listed = listed }
+
+abbrev pub brings_new : BuildingOf → StandardClass → (token block : ℕ) → BlockOf → BuildingOf
+brings_new b which token block row =
+    let d : DeclNo = record { 0 = length b.tables.declarations } in
+    record b {
+      tables = record b.tables {
+        blocks = slice_set b.tables.blocks block (with_brought (name_of which) d row) ++ class_row which block row d ∷ [];
+        declarations = b.tables.declarations ++ standard_row (name_of which) token block (entry.Class (length b.tables.blocks)) false ∷ [];
+      };
+    }
+
+-- what a block has already is not declared again
+abbrev pub brings_at : BuildingOf → StandardClass → (token block : ℕ) → Option BlockOf → BuildingOf
+brings_at b which token block None = b
+brings_at b which token block (Some row) =
+    if list_any (bytes_eq (name_of which)) row.brought_names then b else brings_new b which token block row
+
+abbrev pub brings : BuildingOf → StandardClass → (token : ℕ) → Option ℕ → BuildingOf
+brings b which token None = b
+brings b which token (Some block) = brings_at b which token block (slice_get b.tables.blocks block)
+
+-- The attributes of standard classes: their names, and the types of their parameter and their result. A class among these is given by its place.
+abbrev pub class_type : (first : Option DeclNo) → StandardClass → SimType
+class_type None which = t.NoneType
+class_type (Some d) which = t.Ref (record { 0 = d.0 + place_of which })
+
+abbrev pub typed : (first : Option DeclNo) → StandardType → SimType
+typed first standard_type.Integer = t.Integer
+typed first standard_type.Boolean = t.Boolean
+typed first (standard_type.Ref which) = class_type first which
+
+abbrev pub typed_or_none : (first : Option DeclNo) → Option StandardType → Option SimType
+typed_or_none first None = None
+typed_or_none first (Some ty) = Some (typed first ty)
+
+abbrev pub attribute_entry : (first : Option DeclNo) → Attribute → Entry
+attribute_entry first name = entry.Attribute name (typed_or_none first (parameter_of name)) (typed_or_none first (result_of name))
+
+abbrev pub first_brought : Option BlockOf → Option DeclNo
+first_brought None = None
+first_brought (Some row) = slice_get row.brought 0
+
+-- one more declaration of an attribute, with the row of its block after it
+abbrev pub provided_at : BuildingOf → (new : BlockOf) → Attribute → (token : ℕ) → (first : Option DeclNo) → (block : ℕ) → (listed : Bool) → BuildingOf
+provided_at b new name token first block listed = record b {
+  tables = record b.tables {
+    blocks = slice_set b.tables.blocks block new;
+    declarations = b.tables.declarations ++ standard_row (attribute_name name) token block (attribute_entry first name) listed ∷ [];
+  };
+}
+
+-- an attribute of `simulation` itself, which the block does not list
+abbrev pub provided_alone : BuildingOf → Attribute → (token : ℕ) → (first : Option DeclNo) → (block : ℕ) → Option BlockOf → BuildingOf
+provided_alone b name token first block None = b
+provided_alone b name token first block (Some row) =
+    if list_any (bytes_eq (attribute_name name)) row.brought_names then b
+    else provided_at b (with_brought (attribute_name name) (record { 0 = length b.tables.declarations }) row) name token first block false
+
+-- an attribute of a standard class, which the block of that class lists
+abbrev pub provided_in : BuildingOf → Attribute → (token : ℕ) → (first : Option DeclNo) → (block : ℕ) → Option BlockOf → BuildingOf
+provided_in b name token first block None = b
+provided_in b name token first block (Some row) =
+    if list_any (bytes_eq (attribute_name name)) row.names then b
+    else provided_at b (with_name row (attribute_name name) (record { 0 = length b.tables.declarations })) name token first block true
+
+abbrev pub provides_in : BuildingOf → Option StandardClass → Attribute → (token block : ℕ) → (first : Option DeclNo) → BuildingOf
+provides_in b None name token block first = provided_alone b name token first block (slice_get b.tables.blocks block)
+provides_in b (Some which) name token block first =
+    provided_in b name token first (block + 1 + place_of which) (slice_get b.tables.blocks (block + 1 + place_of which))
+
+abbrev pub provides : BuildingOf → Option StandardClass → Attribute → (token : ℕ) → Option ℕ → BuildingOf
+provides b which name token None = b
+provides b which name token (Some block) = provides_in b which name token block (first_brought (slice_get b.tables.blocks block))
+
+-- Protection parts. A name that stands twice in the parts of a class counts once.
+abbrev pub with_once : List (List ℕ) → Bool → List ℕ → List (List ℕ)
+with_once names false name = names
+with_once names true name = if list_any (bytes_eq name) names then names else names ++ name ∷ []
+
+abbrev pub protecting : (hides keeps : Bool) → List ℕ → BlockOf → BlockOf
+protecting hides keeps name row =
+    record row { protected = with_once row.protected keeps name; hidden = with_once row.hidden hides name }
+
+abbrev pub guards_at : BuildingOf → (hides keeps : Bool) → Identifier → (block : ℕ) → Option BlockOf → BuildingOf
+guards_at b hides keeps x block None = b
+guards_at b hides keeps x block (Some row) = record b {
+  tables = record b.tables {
+    blocks = slice_set b.tables.blocks block (protecting hides keeps x.name row);
+    protections = b.tables.protections ++ record { block = block; attribute = x; hides = hides; protects = keeps } ∷ [];
+  };
+}
+
+abbrev pub guards : BuildingOf → (hides keeps : Bool) → Identifier → Option ℕ → BuildingOf
+guards b hides keeps x None = b
+guards b hides keeps x (Some block) = guards_at b hides keeps x block (slice_get b.tables.blocks block)
 
 -- Headings.
 -- the parameters are the first declarations of their block
@@ -204,6 +433,7 @@ unspecified (entry.Procedure result block) = None
 unspecified (entry.Class block) = None
 unspecified (entry.Virtual result own) = None
 unspecified (entry.Formal f) = None
+unspecified (entry.Attribute name parameter result) = None
 
 abbrev pub unspecified_in : Option Entry → Option (Option WrittenMode)
 unspecified_in None = None
@@ -220,6 +450,7 @@ is_class kind.SubBlock = false
 is_class kind.Procedure = false
 is_class kind.Prefixed = false
 is_class kind.Connection = false
+is_class (kind.StandardClass which) = false
 
 abbrev pub is_class_block : Option BlockOf → Bool
 is_class_block None = false
@@ -318,15 +549,25 @@ abbrev pub inner : BuildingOf → (token : ℕ) → Option ℕ → BuildingOf
 inner b token None = b
 inner b token (Some block) = inner_at b token block (slice_get b.tables.blocks block)
 
+-- the class of the references that a declaration is of
+abbrev pub qualified : BuildingOf → Identifier → Option DeclNo → BuildingOf
+qualified b class None = b
+qualified b class (Some d) = record b { tables = record b.tables { qualifications = b.tables.qualifications ++ record { declaration = d; class = class } ∷ [] } }
+
 unfoldable pub marked : BuildingOf → Mark → BuildingOf
 marked b (Opens k text first) = opened b k text first
 marked b (Closes end) = closed b end b.current
 marked b (Declares x e) = declared b x e
 marked b (DeclaresProcedure x result) = declared b x (entry.Procedure result (length b.tables.blocks))
-marked b (DeclaresClass x) = declared b x (entry.Class (length b.tables.blocks))
+marked b (DeclaresClass x) = changed (declared b x (entry.Class (length b.tables.blocks))) holding_class b.current
 marked b (Parameter x) = parameter b x
 marked b (Moded x m) = moded b x.token m (found_in b.tables b.current x.name)
-marked b (Specified x k ty) = specified b x.token k ty (found_in b.tables b.current x.name)
+marked b (Specified x k ty) = let d = found_in b.tables b.current x.name in specified (record b { latest = d }) x.token k ty d
 marked b (Headed x) = headed b x.token (unspecified_at b.tables (found_in b.tables b.current x.name))
+marked b (Qualifies class) = qualified b class b.latest
+marked b (Prefixes class) = changed b (prefixed_by class) b.current
+marked b (Brings which token) = brings b which token b.current
+marked b (Provides which name token) = provides b which name token b.current
+marked b (Protects hides keeps x) = guards b hides keeps x b.current
 marked b (Inner token) = inner b token b.current
 marked b (Breaks token rule) = broken b token rule

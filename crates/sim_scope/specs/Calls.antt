@@ -23,27 +23,30 @@ use Rattle.sim_scope.specs.declared.types.Formal.{Formal}
 use Rattle.sim_scope.specs.declared.types.FormalKind.TheVariants as kind
 use Rattle.sim_scope.specs.declared.types.SimType.{SimType}
 use Rattle.sim_scope.specs.declared.types.SimType.TheVariants as t
-use Rattle.sim_scope.specs.Found.{Event, Broken, Typed, Uses}
+use Rattle.sim_scope.specs.Found.{Broken, Typed, Uses}
 use Rattle.sim_scope.specs.Judged.{Judged, gives, next, telling}
+use Rattle.sim_scope.specs.Access.{block_at}
+use Rattle.sim_scope.specs.Levels.{class_block, has_classes, has_level}
 use Rattle.sim_scope.specs.Outcomes.{breaks, call_of, is_stream, side, varies}
-use Rattle.sim_scope.specs.Scopes.{binding, block_at, entry_of, formals_of}
-use Rattle.sim_scope.specs.Standard.{signature, sysin_attribute, sysout_attribute, text_attribute, undeclared}
+use Rattle.sim_scope.specs.Scopes.{binding, block_in, declaration_from, declared_or_standard, entry_of, formals_of, is_detach, is_passed_over, shown}
+use Rattle.sim_scope.specs.Standard.{is_standard_class, signature, sysin_attribute, sysout_attribute, text_attribute, undeclared}
 use Rattle.sim_scope.specs.Tables.{BlockOf, Tables}
 
 -- What an identifier denotes. S10: it is declared; a name left out breaks one of N1 to N4.
--- S22: a bound uses of its own block parameters and constants alone. An expression has no blocks, so the block of the array is that of the token.
+-- S22: a bound uses of its own block, and of the levels of its prefix chain, parameters and constants alone. An expression has no blocks, so the
+-- block of the array is that of the token.
 abbrev pub is_fixed : Entry → Bool
 is_fixed (entry.Constant ty) = true
 is_fixed (entry.Formal f) = true
 is_fixed _ = false
 
-abbrev pub same_block : Option ℕ → ℕ → Bool
-same_block None block = false
-same_block (Some place) block = nat_eq place block
+abbrev pub is_own_level : Tables → Option ℕ → ℕ → Bool
+is_own_level s None block = false
+is_own_level s (Some place) block = has_level s place block
 
 abbrev pub barred_declaration : Tables → (token : ℕ) → Option Declaration → Bool
 barred_declaration s token None = false
-barred_declaration s token (Some d) = same_block (block_at s token) d.block && not (is_fixed d.entry)
+barred_declaration s token (Some d) = is_own_level s (block_at s token) d.block && not (is_fixed d.entry)
 
 abbrev pub barred : Tables → (token : ℕ) → Denotation → Bool
 barred s token (denotation.Declared d) = barred_declaration s token (slice_get s.declarations d.0)
@@ -58,8 +61,13 @@ abbrev pub used_or_barred : (token : ℕ) → Denotation → Bool → Judged (Op
 used_or_barred token d true = telling (Broken token r.BoundDependsOnItsBlock) None
 used_or_barred token d false = telling (Uses token d) (Some d)
 
+-- S11: an attribute of this name is there, and not accessible
+abbrev pub missing : (passed : Bool) → List ℕ → Rule
+missing true name = r.NotAccessible
+missing false name = undeclared name
+
 abbrev pub found_as : Tables → Extent → (token : ℕ) → List ℕ → Option Denotation → Judged (Option Denotation)
-found_as s e token name None = telling (Broken token (undeclared name)) None
+found_as s e token name None = telling (Broken token (missing (is_passed_over s token name) name)) None
 found_as s e token name (Some d) = used_or_barred token d (is_barred s e token d)
 
 unfoldable pub bound : Tables → Extent → Identifier → Judged (Option Denotation)
@@ -70,23 +78,55 @@ abbrev pub attribute_found : Identifier → Option Standard → Judged (Option D
 attribute_found x None = telling (Broken x.token.0 (undeclared x.name)) None
 attribute_found x (Some name) = telling (Uses x.token.0 (denotation.Standard name)) (Some (denotation.Standard name))
 
-abbrev pub attribute_of_type : Identifier → (first : ℕ) → Option SimType → Judged (Option Denotation)
-attribute_of_type x first (Some t.Text) = attribute_found x (text_attribute x.name)
-attribute_of_type x first None = gives None
-attribute_of_type x first (Some (t.Ref class)) = gives None
-attribute_of_type x first (Some t.NoneType) = attribute_found x None
-attribute_of_type x first (Some _) = telling (Broken first r.WrongType) None
+-- The attribute of an object: what its class shows, where it is accessible, and `detach` behind that.
+abbrev pub detach_or_none : List ℕ → Option Standard
+detach_or_none name = if is_detach name then Some standard.Detach else None
 
-unfoldable pub attribute_of_value : Identifier → Side → Judged (Option Denotation)
-attribute_of_value x v = attribute_of_type x v.first.0 v.ty
+unfoldable pub attribute_in : Tables → (token block : ℕ) → List ℕ → Option Denotation
+attribute_in s token block name = declared_or_standard s (shown s (Some token) block name) (detach_or_none name)
 
-unfoldable pub attribute_by_value : Tables → Identifier → (first : ℕ) → Outcome → Judged (Option Denotation)
-attribute_by_value s x first o = next (side s first o) (attribute_of_value x)
+abbrev pub is_shown : Option DeclNo → Bool
+is_shown None = false
+is_shown (Some d) = true
 
-unfoldable pub attribute : Tables → Identifier → (first : ℕ) → Outcome → Judged (Option Denotation)
-attribute s x first (is.Standard standard.Sysin token) = attribute_found x (sysin_attribute x.name)
-attribute s x first (is.Standard standard.Sysout token) = attribute_found x (sysout_attribute x.name)
-attribute s x first o = attribute_by_value s x first o
+-- S11: the class has an attribute of this name, which is not accessible
+unfoldable pub attribute_missing : Tables → (block : ℕ) → Identifier → Rule
+attribute_missing s block x = missing (is_shown (shown s None block x.name)) x.name
+
+-- S17: no level of the class declares a class. S22: in a bound, as without a dot.
+abbrev pub remote_or_barred : Tables → (token block : ℕ) → Denotation → (barred : Bool) → Judged (Option Denotation)
+remote_or_barred s token block d barred =
+    if has_classes s block then telling (Broken token r.ClassWithClasses) None else used_or_barred token d barred
+
+abbrev pub remote_as : Tables → Extent → Identifier → (block : ℕ) → Option Denotation → Judged (Option Denotation)
+remote_as s e x block None = telling (Broken x.token.0 (attribute_missing s block x)) None
+remote_as s e x block (Some d) = remote_or_barred s x.token.0 block d (is_barred s e x.token.0 d)
+
+abbrev pub remote_in : Tables → Extent → Identifier → Option ℕ → Judged (Option Denotation)
+remote_in s e x None = gives None
+remote_in s e x (Some block) = remote_as s e x block (attribute_in s x.token.0 block x.name)
+
+-- the attribute of an object of a class
+unfoldable pub remote : Tables → Extent → Identifier → DeclNo → Judged (Option Denotation)
+remote s e x class = remote_in s e x (class_block s class)
+
+abbrev pub attribute_of_type : Tables → Extent → Identifier → (first : ℕ) → Option SimType → Judged (Option Denotation)
+attribute_of_type s e x first (Some t.Text) = attribute_found x (text_attribute x.name)
+attribute_of_type s e x first None = gives None
+attribute_of_type s e x first (Some (t.Ref class)) = remote s e x class
+attribute_of_type s e x first (Some t.NoneType) = attribute_found x None
+attribute_of_type s e x first (Some _) = telling (Broken first r.WrongType) None
+
+unfoldable pub attribute_of_value : Tables → Extent → Identifier → Side → Judged (Option Denotation)
+attribute_of_value s e x v = attribute_of_type s e x v.first.0 v.ty
+
+unfoldable pub attribute_by_value : Tables → Extent → Identifier → (first : ℕ) → Outcome → Judged (Option Denotation)
+attribute_by_value s e x first o = next (side s first o) (attribute_of_value s e x)
+
+unfoldable pub attribute : Tables → Extent → Identifier → (first : ℕ) → Outcome → Judged (Option Denotation)
+attribute s e x first (is.Standard standard.Sysin token) = attribute_found x (sysin_attribute x.name)
+attribute s e x first (is.Standard standard.Sysout token) = attribute_found x (sysout_attribute x.name)
+attribute s e x first o = attribute_by_value s e x first o
 
 -- An identifier alone.
 -- whether a token stands in the text of a block
@@ -109,24 +149,47 @@ abbrev pub formal_alone : (naming : ℕ) → Formal → Option SimType → Outco
 formal_alone naming f None o = (elim f.kind [ kind.Procedure ↦ gives o | _ ↦ gives is.Refused ])
 formal_alone naming f (Some ty) o = formal_kind_alone naming f ty o
 
--- The identifier of a procedure stands for its result, where it is a left side inside the text of that very procedure.
+-- The identifier of a procedure stands for its result, where it is a left side inside the text of that very procedure, and no dot is in front of
+-- it. So does that of a virtual inside the text of the match that the search comes to.
 abbrev pub procedure_alone : DeclNo → Identifier → Bool → Outcome
 procedure_alone d x own = is.Procedure d x.token own
+
+abbrev pub is_undotted : (naming : ℕ) → Identifier → Bool
+is_undotted naming x = nat_eq naming x.token.0
+
+-- the match that a search for a virtual comes to: at the virtual's own level it is the one that the virtual knows
+abbrev pub match_at : Option Entry → Option DeclNo → Option DeclNo
+match_at (Some (entry.Virtual result own)) d = own
+match_at e d = d
+
+abbrev pub match_found : Tables → Option DeclNo → Option DeclNo
+match_found s None = None
+match_found s (Some d) = match_at (entry_of s d) (Some d)
+
+abbrev pub inside_match : Tables → (token : ℕ) → Option DeclNo → Bool
+inside_match s token None = false
+inside_match s token (Some d) = (elim (block_in (entry_of s d)) [ None ↦ false | Some block ↦ is_inside s token block ])
+
+-- whether an identifier of a virtual stands in the text of its match
+unfoldable pub in_its_match : Tables → Identifier → Bool
+in_its_match s x = inside_match s x.token.0 (match_found s (declaration_from s (Some x.token.0) (block_at s x.token.0) x.name))
 
 abbrev pub declared_alone : Tables → (naming : ℕ) → Identifier → DeclNo → Option Entry → Judged Outcome
 declared_alone s naming x d (Some (entry.Variable ty)) = varies naming ty
 declared_alone s naming x d (Some (entry.Constant ty)) = telling (Typed naming ty) (is.Constant ty)
 declared_alone s naming x d (Some (entry.Array element dimensions)) = gives (is.Array element)
-declared_alone s naming x d (Some (entry.Procedure result block)) = typed_if naming result (procedure_alone d x (is_inside s x.token.0 block))
+declared_alone s naming x d (Some (entry.Procedure result block)) = typed_if naming result (procedure_alone d x (is_undotted naming x && is_inside s x.token.0 block))
 declared_alone s naming x d (Some (entry.Class block)) = gives is.Class
-declared_alone s naming x d (Some (entry.Virtual result own)) = typed_if naming result (procedure_alone d x false)
+declared_alone s naming x d (Some (entry.Virtual result own)) = typed_if naming result (procedure_alone d x (is_undotted naming x && in_its_match s x))
+declared_alone s naming x d (Some (entry.Attribute name parameter result)) = typed_if naming result (procedure_alone d x false)
 declared_alone s naming x d (Some (entry.Formal f)) = formal_alone naming f f.ty (procedure_alone d x false)
 declared_alone s naming x d (Some (entry.Unspecified written)) = gives is.Refused
 declared_alone s naming x d None = gives is.Refused
 
 unfoldable pub alone : Tables → (naming : ℕ) → Identifier → Denotation → Judged Outcome
 alone s naming x (denotation.Declared d) = declared_alone s naming x d (entry_of s d)
-alone s naming x (denotation.Standard name) = typed_if naming (signature name).result (is.Standard name x.token)
+alone s naming x (denotation.Standard name) =
+    if is_standard_class name then gives is.Class else typed_if naming (signature name).result (is.Standard name x.token)
 
 -- An identifier with actuals, each of which is something.
 abbrev pub misfitting_or : Option Fault → Judged Outcome → Judged Outcome
@@ -147,6 +210,10 @@ abbrev pub formal_applied : (naming token : ℕ) → Formal → Option SimType �
 formal_applied naming token f result misfit =
     (elim f.kind [ kind.Simple ↦ breaks token r.WrongKind | kind.Array ↦ elim result [ None ↦ gives is.Refused | Some element ↦ element_of naming misfit element ] | kind.Procedure ↦ resulting naming misfit result ])
 
+abbrev pub attribute_count : Option SimType → ℕ
+attribute_count None = 0
+attribute_count (Some ty) = 1
+
 -- S12: only procedures and arrays have parameters or subscripts. S15: there are as many as the procedure or the array has.
 abbrev pub declared_applied : (naming token : ℕ) → Option Entry → (formals : ℕ) → Actuals → Judged Outcome
 declared_applied naming token (Some (entry.Procedure result block)) formals a =
@@ -154,6 +221,8 @@ declared_applied naming token (Some (entry.Procedure result block)) formals a =
 declared_applied naming token (Some (entry.Array element dimensions)) formals a =
     if nat_eq dimensions a.count then element_of naming a.misfit element else breaks token r.WrongNumber
 declared_applied naming token (Some (entry.Virtual result own)) formals a = resulting naming a.misfit result
+declared_applied naming token (Some (entry.Attribute name parameter result)) formals a =
+    if nat_eq (attribute_count parameter) a.count then resulting naming a.misfit result else breaks token r.WrongNumber
 declared_applied naming token (Some (entry.Formal f)) formals a = formal_applied naming token f f.ty a.misfit
 declared_applied naming token _ formals a = breaks token r.WrongKind
 
@@ -161,6 +230,7 @@ declared_applied naming token _ formals a = breaks token r.WrongKind
 abbrev pub standard_applied : (naming token : ℕ) → Standard → Signature → Actuals → Judged Outcome
 standard_applied naming token name s a =
     if is_stream name then breaks token r.StandardNameLeftOut
+    else if is_standard_class name then breaks token r.WrongKind
     else if nat_eq (parameter_count s) a.count then resulting naming a.misfit s.result else breaks token r.WrongNumber
 
 unfoldable pub applied : Tables → (naming token : ℕ) → Denotation → Actuals → Judged Outcome

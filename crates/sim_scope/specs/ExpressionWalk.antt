@@ -4,12 +4,11 @@ use Rattle.sim_base.specs.declared.numbering.TokenNo.{TokenNo}
 use Rattle.sim_tree.specs.declared.expr.Expr.{Expr}
 use Rattle.sim_tree.specs.declared.expr.Identifier.{Identifier}
 use Rattle.sim_tree.specs.declared.expr.Selector.{Selector}
-use Rattle.sim_tree.specs.Syntax.{Expression, expressions}
+use Rattle.sim_tree.specs.Syntax.{expressions}
 use Rattle.sim_tree.specs.SyntaxOf.{Selection, Take, Cast, Tail, negated, selector_syntax, syntax_of}
 use Rattle.sim_scope.specs.declared.outcome.Actuals.{Actuals}
 use Rattle.sim_scope.specs.declared.outcome.Extent.{Extent}
 use Rattle.sim_scope.specs.declared.outcome.Outcome.{Outcome}
-use Rattle.sim_scope.specs.declared.outcome.Outcome.TheVariants as is
 use Rattle.sim_scope.specs.declared.outcome.Side.{Side}
 use Rattle.sim_scope.specs.declared.scopes.Denotation.{Denotation}
 use Rattle.sim_scope.specs.Actuals.{no_actuals}
@@ -18,6 +17,7 @@ use Rattle.sim_scope.specs.Expressions.{actuals, judge, judge_side}
 use Rattle.sim_scope.specs.Found.{Findings}
 use Rattle.sim_scope.specs.Judged.{Judged, Judges, gives, next}
 use Rattle.sim_scope.specs.Outcomes.{side, two}
+use Rattle.sim_scope.specs.References.{class_named, qualified}
 use Rattle.sim_scope.specs.Tables.{Tables}
 
 -- what an expression is, and what is found in it
@@ -41,8 +41,8 @@ FindsNot s e f g o is x = Judges f g o (judge s e (negated is (syntax_of x)))
 
 -- what is taken of an object
 abbrev pub taken : Tables → Extent → (first : ℕ) → Outcome → Selection → Judged Outcome
-taken s e first o (Take i x args) = next (attribute s x first o) (λ d. next (actuals s e d no_actuals args) (used s i x d))
-taken s e first o (Cast i class) = gives is.Refused
+taken s e first o (Take i x args) = next (attribute s e x first o) (λ d. next (actuals s e d no_actuals args) (used s i x d))
+taken s e first o (Cast i class) = next (side s first o) (λ x. next (class_named s e class) (qualified s i x class))
 
 abbrev pub selections : Tables → Extent → (first : ℕ) → Outcome → List Selection → Judged Outcome
 selections s e first o [] = gives o

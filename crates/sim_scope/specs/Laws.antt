@@ -1,24 +1,26 @@
 -- What the definitions of scopes mean, in relations that do not compute.
-use Rattle.std.specs.Prelude.{◌≡◌, ◌<◌, ◌≤◌, ℕ, nat_eq, List, [], ◌∷◌, ◌++◌, if◌then◌else◌, Option, Some, None, slice_get}
+use Rattle.std.specs.Prelude.{◌≡◌, ◌<◌, ◌≤◌, ℕ, nat_eq, ◌&&◌, List, [], ◌∷◌, ◌++◌, if◌then◌else◌, Option, Some, None, slice_get}
 use Rattle.sim_base.specs.declared.numbering.DeclNo.{DeclNo}
 use Rattle.sim_scope.specs.declared.scopes.Declaration.{Declaration}
-use Rattle.sim_scope.specs.Building.{Mark, Opens, Closes, Declares, DeclaresProcedure, DeclaresClass, Parameter, Moded, Specified, Headed, Inner, Breaks}
-use Rattle.sim_scope.specs.Scopes.{around, encloser, shown}
+use Rattle.sim_scope.specs.Building.{Mark, Opens, Closes, Declares, DeclaresProcedure, DeclaresClass, Parameter, Moded, Specified, Headed, Qualifies, Prefixes, Brings, Provides, Protects, Inner, Breaks}
+use Rattle.sim_scope.specs.Scopes.{outward, shown}
+use Rattle.sim_scope.specs.Access.{around}
 use Rattle.sim_scope.specs.Tables.{BlockOf, Tables}
 
 -- A declaration is that of the innermost block, from one outward, that shows a name.
-pub data Innermost (s : Tables) (name : List ℕ) : (block : ℕ) → DeclNo → Type 0 where
-  here : {block : ℕ} {d : DeclNo} → shown s block name ≡ Some d → Innermost s name block d
-  further : {block around : ℕ} {d : DeclNo} → shown s block name ≡ None → encloser s block ≡ Some around → Innermost s name around d → Innermost s name block d
+pub data Innermost (s : Tables) (from : Option ℕ) (name : List ℕ) : (block : ℕ) → DeclNo → Type 0 where
+  here : {block : ℕ} {d : DeclNo} → shown s from block name ≡ Some d → Innermost s from name block d
+  further : {block around : ℕ} {d : DeclNo} → shown s from block name ≡ None → outward s block name ≡ Some around → Innermost s from name around d → Innermost s from name block d
 
 -- Each block stands behind the one around it.
 unfoldable pub Nested : List BlockOf → Type 0
 Nested blocks = (block outer : ℕ) → around (slice_get blocks block) ≡ Some outer → outer < block
 
--- the identifiers of the declarations that stand in a block, in text order
+-- The identifiers of the declarations that a block lists, in text order. The match of a virtual at the virtual's own level is not listed, since
+-- the identifier denotes the virtual; neither is what `simset` and `simulation` declare in the block that they stand in front of.
 abbrev pub names_in : (block : ℕ) → List Declaration → List (List ℕ)
 names_in block [] = []
-names_in block (d ∷ ds) = (if nat_eq d.block block then d.name ∷ [] else []) ++ names_in block ds
+names_in block (d ∷ ds) = (if nat_eq d.block block && d.listed then d.name ∷ [] else []) ++ names_in block ds
 
 abbrev pub names_of : Option BlockOf → List (List ℕ)
 names_of None = []
@@ -40,6 +42,11 @@ Rising from (Parameter x ∷ ms) = Rising from ms
 Rising from (Moded x m ∷ ms) = Rising from ms
 Rising from (Specified x k ty ∷ ms) = Rising from ms
 Rising from (Headed x ∷ ms) = Rising from ms
+Rising from (Qualifies class ∷ ms) = Rising from ms
+Rising from (Prefixes class ∷ ms) = Rising from ms
+Rising from (Brings which token ∷ ms) = Rising from ms
+Rising from (Provides which name token ∷ ms) = Rising from ms
+Rising from (Protects hides keeps x ∷ ms) = Rising from ms
 Rising from (Inner token ∷ ms) = Rising from ms
 Rising from (Breaks token rule ∷ ms) = Rising from ms
 

@@ -19,3 +19,8 @@ pub mod Expressions
 pub mod ExpressionWalk
 pub mod Assignments
 pub mod Statements
+pub mod Levels
+pub mod Access
+pub mod References
+pub mod Along
+pub mod ClassNames

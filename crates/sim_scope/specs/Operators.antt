@@ -6,6 +6,11 @@ use Rattle.sim_tree.specs.declared.expr.Relation.{Relation}
 use Rattle.sim_tree.specs.declared.expr.Relation.TheVariants as relation
 use Rattle.sim_tree.specs.declared.operator.Operator.{Operator}
 use Rattle.sim_tree.specs.declared.operator.Operator.TheVariants as o
+use Rattle.sim_base.specs.declared.numbering.DeclNo.{DeclNo}
+use Rattle.sim_base.specs.declared.rule.Rule.{Rule}
+use Rattle.sim_base.specs.declared.rule.Rule.TheVariants as r
+use Rattle.sim_scope.specs.Levels.{on_one_chain, shared_class}
+use Rattle.sim_scope.specs.Tables.{Tables}
 use Rattle.sim_scope.specs.declared.outcome.Fit.{Fit}
 use Rattle.sim_scope.specs.declared.outcome.Fit.TheVariants as fit
 use Rattle.sim_scope.specs.declared.types.SimType.{SimType}
@@ -68,7 +73,28 @@ literal_type NoText = t.Text
 
 -- The common type of the two arms of a conditional expression. With `none` it is the other arm's. Two references have the innermost class that
 -- stands in the prefix chains of both.
-abbrev pub common_type : SimType → SimType → Option SimType
-common_type (t.Ref d) t.NoneType = Some (t.Ref d)
-common_type t.NoneType (t.Ref d) = Some (t.Ref d)
-common_type a b = if is_same a b then Some a else None
+abbrev pub reference_to : Option DeclNo → Option SimType
+reference_to None = None
+reference_to (Some d) = Some (t.Ref d)
+
+unfoldable pub common_type : Tables → SimType → SimType → Option SimType
+common_type s (t.Ref c) (t.Ref d) = reference_to (shared_class s c d)
+common_type s (t.Ref d) t.NoneType = Some (t.Ref d)
+common_type s t.NoneType (t.Ref d) = Some (t.Ref d)
+common_type s a b = if is_same a b then Some a else None
+
+-- The rule that a value breaks which goes to a place of another type: S13, and of references on different chains S16. A place of the type of
+-- `none` takes every reference.
+abbrev pub wrong_type_unless : Bool → Option Rule
+wrong_type_unless true = None
+wrong_type_unless false = Some r.WrongType
+
+abbrev pub reference_misfit : Tables → DeclNo → SimType → Option Rule
+reference_misfit s c (t.Ref d) = if on_one_chain s c d then None else Some r.DifferentChains
+reference_misfit s c t.NoneType = None
+reference_misfit s c b = Some r.WrongType
+
+unfoldable pub misfit_of : Tables → (wanted given : SimType) → Option Rule
+misfit_of s (t.Ref c) b = reference_misfit s c b
+misfit_of s t.NoneType b = wrong_type_unless (is_reference b)
+misfit_of s a b = wrong_type_unless (is_same a b)

@@ -45,6 +45,8 @@ abbrev pub procedure_called : (token : ℕ) → (formals : ℕ) → Option Entry
 procedure_called token formals (Some (entry.Procedure result block)) = if nat_eq formals 0 then gives (call_of result) else breaks token r.WrongNumber
 procedure_called token formals (Some (entry.Virtual result own)) = gives (call_of result)
 procedure_called token formals (Some (entry.Formal f)) = gives (call_of f.ty)
+procedure_called token formals (Some (entry.Attribute name None result)) = gives (call_of result)
+procedure_called token formals (Some (entry.Attribute name (Some ty) result)) = breaks token r.WrongNumber
 procedure_called token formals _ = gives is.Refused
 
 abbrev pub is_stream : Standard → Bool
@@ -130,10 +132,10 @@ abbrev pub in_common : (token : ℕ) → Side → Option SimType → Judged Outc
 in_common token y (Some ty) = has token ty
 in_common token y None = breaks y.first.0 r.WrongType
 
-abbrev pub arms_fit : (token : ℕ) → (c x y : Side) → (condition first second : Option SimType) → Judged Outcome
-arms_fit token c x y (Some b) (Some p) (Some q) =
-    if is_same b t.Boolean then in_common token y (common_type p q) else breaks c.first.0 r.WrongType
-arms_fit token c x y _ _ _ = gives is.Refused
+abbrev pub arms_fit : Tables → (token : ℕ) → (c x y : Side) → (condition first second : Option SimType) → Judged Outcome
+arms_fit s token c x y (Some b) (Some p) (Some q) =
+    if is_same b t.Boolean then in_common token y (common_type s p q) else breaks c.first.0 r.WrongType
+arms_fit s token c x y _ _ _ = gives is.Refused
 
-unfoldable pub three : (token : ℕ) → (condition first second : Side) → Judged Outcome
-three token c x y = arms_fit token c x y c.ty x.ty y.ty
+unfoldable pub three : Tables → (token : ℕ) → (condition first second : Side) → Judged Outcome
+three s token c x y = arms_fit s token c x y c.ty x.ty y.ty

@@ -8,7 +8,7 @@ use Rattle.sim_scope.specs.declared.bound.Bound.{Bound}
 use Rattle.sim_scope.specs.declared.scopes.Declaration.{Declaration}
 use Rattle.sim_scope.specs.declared.scopes.Denotation.{Denotation}
 use Rattle.sim_scope.specs.declared.types.SimType.{SimType}
-use Rattle.sim_scope.specs.Scopes.{joined}
+use Rattle.sim_scope.specs.Access.{joined}
 use Rattle.sim_scope.specs.Tables.{BlockOf, Tables}
 
 pub record Source : Type 0 where

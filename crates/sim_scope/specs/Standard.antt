@@ -1,10 +1,19 @@
 -- The standard names: which there are, the types of their operands, and the type of their result. And the names that are left out.
-use Rattle.std.specs.Prelude.{◌≡◌, drop, ℕ, Bool, if◌then◌else◌, List, [], ◌∷◌, Option, Some, None, codes}
+use Rattle.std.specs.Prelude.{◌≡◌, drop, ℕ, Bool, true, false, if◌then◌else◌, List, [], ◌∷◌, Option, Some, None, codes}
 use Rattle.std.specs.List.{list_any}
 use Rattle.std.specs.Str.{bytes_eq}
 use Rattle.sim_base.specs.declared.rule.Rule.{Rule}
 use Rattle.sim_base.specs.declared.rule.Rule.TheVariants as rule
 use Rattle.sim_scope.specs.declared.standard.Row.{Row}
+use Rattle.sim_scope.specs.declared.standard.Attribute.{Attribute}
+use Rattle.sim_scope.specs.declared.standard.Attribute.TheVariants as attribute
+use Rattle.sim_scope.specs.declared.standard.Provided.{Provided}
+use Rattle.sim_scope.specs.declared.standard.StandardType.{StandardType}
+use Rattle.sim_scope.specs.declared.standard.StandardType.TheVariants as of
+use Rattle.sim_scope.specs.declared.types.StandardClass.{StandardClass}
+use Rattle.sim_scope.specs.declared.types.StandardClass.TheVariants as class
+use Rattle.sim_scope.specs.declared.types.StandardPrefix.{StandardPrefix}
+use Rattle.sim_scope.specs.declared.types.StandardPrefix.TheVariants as prefix
 use Rattle.sim_scope.specs.declared.standard.Signature.{Signature}
 use Rattle.sim_scope.specs.declared.standard.Standard.{Standard}
 use Rattle.sim_scope.specs.declared.standard.Standard.TheVariants as standard
@@ -44,7 +53,9 @@ names_alone =
     (codes "lastitem", standard.Lastitem) ∷ (codes "endfile", standard.Endfile) ∷ (codes "outimage", standard.Outimage) ∷
     (codes "outchar", standard.Outchar) ∷ (codes "outtext", standard.Outtext) ∷ (codes "outint", standard.Outint) ∷
     (codes "image", standard.Image) ∷ (codes "pos", standard.Pos) ∷ (codes "setpos", standard.Setpos) ∷ (codes "more", standard.More) ∷
-    (codes "length", standard.Length) ∷ (codes "sysin", standard.Sysin) ∷ (codes "sysout", standard.Sysout) ∷ []
+    (codes "length", standard.Length) ∷ (codes "sysin", standard.Sysin) ∷ (codes "sysout", standard.Sysout) ∷
+    (codes "detach", standard.Detach) ∷ (codes "call", standard.Call) ∷ (codes "resume", standard.Resume) ∷
+    (codes "simset", standard.Simset) ∷ (codes "simulation", standard.Simulation) ∷ []
 
 -- what a name written alone stands for, where the program does not declare it
 unfoldable pub standard_name : List ℕ → Option Standard
@@ -97,6 +108,7 @@ of_two first second result = record { first = Some first; second = Some second; 
 abbrev pub of_none : Signature
 of_none = record { first = None; second = None; result = None }
 
+-- A parameter of the type of `none` takes every reference. `simset` and `simulation` are classes and never called.
 unfoldable pub signature : Standard → Signature
 signature standard.Abs = of_one t.Integer (Some t.Integer)
 signature standard.Sign = of_one t.Integer (Some t.Integer)
@@ -146,6 +158,11 @@ signature standard.More = yields t.Boolean
 signature standard.Length = yields t.Integer
 signature standard.Sysin = of_none
 signature standard.Sysout = of_none
+signature standard.Detach = of_none
+signature standard.Call = of_one t.NoneType None
+signature standard.Resume = of_one t.NoneType None
+signature standard.Simset = of_none
+signature standard.Simulation = of_none
 
 -- The names that the language leaves out, where the program does not declare them, and the rule that refuses them.
 abbrev pub real_functions : List (List ℕ)
@@ -190,3 +207,100 @@ undeclared name =
     else if is_file_or_layout name then rule.FileOrLayout
     else if is_environment_name name then rule.EnvironmentName
     else rule.NotDeclared
+
+-- The classes that `simset` and `simulation` declare in the block that they stand in front of, and the attributes of these classes. `simulation`
+-- has attributes of its own beside them.
+abbrev pub attribute_of : StandardClass → Attribute → Provided
+attribute_of which name = record { class = Some which; name = name }
+
+abbrev pub attribute_alone : Attribute → Provided
+attribute_alone name = record { class = None; name = name }
+
+abbrev pub classes_of_sets : List StandardClass
+classes_of_sets = class.Linkage ∷ class.Link ∷ class.Head ∷ []
+
+abbrev pub classes_of_simulation : List StandardClass
+classes_of_simulation = class.Linkage ∷ class.Link ∷ class.Head ∷ class.Process ∷ []
+
+abbrev pub attributes_of_sets : List Provided
+attributes_of_sets =
+    attribute_of class.Linkage attribute.Suc ∷ attribute_of class.Linkage attribute.Pred ∷ attribute_of class.Linkage attribute.Prev ∷
+    attribute_of class.Link attribute.Out ∷ attribute_of class.Link attribute.Follow ∷ attribute_of class.Link attribute.Precede ∷
+    attribute_of class.Link attribute.Into ∷ attribute_of class.Head attribute.First ∷ attribute_of class.Head attribute.Last ∷
+    attribute_of class.Head attribute.Empty ∷ attribute_of class.Head attribute.Cardinal ∷ attribute_of class.Head attribute.Clear ∷ []
+
+abbrev pub attributes_of_simulation : List Provided
+attributes_of_simulation =
+    attribute_of class.Linkage attribute.Suc ∷ attribute_of class.Linkage attribute.Pred ∷ attribute_of class.Linkage attribute.Prev ∷
+    attribute_of class.Link attribute.Out ∷ attribute_of class.Link attribute.Follow ∷ attribute_of class.Link attribute.Precede ∷
+    attribute_of class.Link attribute.Into ∷ attribute_of class.Head attribute.First ∷ attribute_of class.Head attribute.Last ∷
+    attribute_of class.Head attribute.Empty ∷ attribute_of class.Head attribute.Cardinal ∷ attribute_of class.Head attribute.Clear ∷
+    attribute_of class.Process attribute.Idle ∷ attribute_of class.Process attribute.Terminated ∷ attribute_of class.Process attribute.Evtime ∷
+    attribute_of class.Process attribute.Nextev ∷ attribute_alone attribute.Time ∷ attribute_alone attribute.Current ∷
+    attribute_alone attribute.Main ∷ attribute_alone attribute.Hold ∷ attribute_alone attribute.Passivate ∷ attribute_alone attribute.Wait ∷
+    attribute_alone attribute.Cancel ∷ []
+
+abbrev pub attribute_name : Attribute → List ℕ
+attribute_name attribute.Suc = codes "suc"
+attribute_name attribute.Pred = codes "pred"
+attribute_name attribute.Prev = codes "prev"
+attribute_name attribute.Out = codes "out"
+attribute_name attribute.Follow = codes "follow"
+attribute_name attribute.Precede = codes "precede"
+attribute_name attribute.Into = codes "into"
+attribute_name attribute.First = codes "first"
+attribute_name attribute.Last = codes "last"
+attribute_name attribute.Empty = codes "empty"
+attribute_name attribute.Cardinal = codes "cardinal"
+attribute_name attribute.Clear = codes "clear"
+attribute_name attribute.Idle = codes "idle"
+attribute_name attribute.Terminated = codes "terminated"
+attribute_name attribute.Evtime = codes "evtime"
+attribute_name attribute.Nextev = codes "nextev"
+attribute_name attribute.Time = codes "time"
+attribute_name attribute.Current = codes "current"
+attribute_name attribute.Main = codes "main"
+attribute_name attribute.Hold = codes "hold"
+attribute_name attribute.Passivate = codes "passivate"
+attribute_name attribute.Wait = codes "wait"
+attribute_name attribute.Cancel = codes "cancel"
+
+-- the type of the parameter of an attribute, and that of its result
+abbrev pub parameter_of : Attribute → Option StandardType
+parameter_of attribute.Follow = Some (of.Ref class.Linkage)
+parameter_of attribute.Precede = Some (of.Ref class.Linkage)
+parameter_of attribute.Into = Some (of.Ref class.Head)
+parameter_of attribute.Hold = Some of.Integer
+parameter_of attribute.Wait = Some (of.Ref class.Head)
+parameter_of attribute.Cancel = Some (of.Ref class.Process)
+parameter_of _ = None
+
+abbrev pub result_of : Attribute → Option StandardType
+result_of attribute.Suc = Some (of.Ref class.Link)
+result_of attribute.Pred = Some (of.Ref class.Link)
+result_of attribute.Prev = Some (of.Ref class.Linkage)
+result_of attribute.First = Some (of.Ref class.Link)
+result_of attribute.Last = Some (of.Ref class.Link)
+result_of attribute.Empty = Some of.Boolean
+result_of attribute.Cardinal = Some of.Integer
+result_of attribute.Idle = Some of.Boolean
+result_of attribute.Terminated = Some of.Boolean
+result_of attribute.Evtime = Some of.Integer
+result_of attribute.Nextev = Some (of.Ref class.Process)
+result_of attribute.Time = Some of.Integer
+result_of attribute.Current = Some (of.Ref class.Process)
+result_of attribute.Main = Some (of.Ref class.Process)
+result_of _ = None
+
+-- `simset` and `simulation` are classes
+unfoldable pub is_standard_class : Standard → Bool
+is_standard_class standard.Simset = true
+is_standard_class standard.Simulation = true
+is_standard_class _ = false
+
+-- the standard prefix of this name
+unfoldable pub standard_prefix : List ℕ → Option StandardPrefix
+standard_prefix name =
+    if bytes_eq name (codes "simset") then Some prefix.Simset
+    else if bytes_eq name (codes "simulation") then Some prefix.Simulation
+    else None

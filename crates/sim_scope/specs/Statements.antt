@@ -1,5 +1,6 @@
 -- The rules on statements and declarations: what their expressions have to be. Round 3 is the walk over a program with these leaves.
-use Rattle.std.specs.Prelude.{ℕ, Bool, true, false, if◌then◌else◌, List, [], ◌∷◌, ◌++◌, Option, Some, None}
+use Rattle.std.specs.Prelude.{ℕ, zero, suc, Bool, false, nat_eq, if◌then◌else◌, List, [], ◌∷◌, ◌++◌, length, Option, Some, None, slice_get}
+use Rattle.std.specs.Option.{option_or}
 use Rattle.sim_base.specs.declared.numbering.DeclNo.{DeclNo}
 use Rattle.sim_base.specs.declared.rule.Rule.{Rule}
 use Rattle.sim_base.specs.declared.rule.Rule.TheVariants as r
@@ -11,33 +12,41 @@ use Rattle.sim_tree.specs.declared.stmt.Constant.TheVariants as constant
 use Rattle.sim_tree.specs.declared.stmt.TypeName.{TypeName}
 use Rattle.sim_tree.specs.declared.stmt.TypeName.TheVariants as type_name
 use Rattle.sim_tree.specs.declared.stmt.Variable.{Variable}
-use Rattle.sim_tree.specs.Syntax.{Expression, RightSide, Element, Once, Step, While, BoundPair, Arrayed, first_of}
+use Rattle.sim_tree.specs.Syntax.{Expression, Expressions, Prefix, Schedule, Now, At, Delay, Before, After, RightSide, Element, Once, Step, While, BoundPair, Arrayed, first_of}
 use Rattle.sim_scope.specs.declared.outcome.Extent.{Extent}
 use Rattle.sim_scope.specs.declared.outcome.Extent.TheVariants.{Statement, Bound}
+use Rattle.sim_scope.specs.declared.outcome.Actuals.{Actuals}
 use Rattle.sim_scope.specs.declared.outcome.Outcome.{Outcome}
 use Rattle.sim_scope.specs.declared.outcome.Outcome.TheVariants as is
 use Rattle.sim_scope.specs.declared.outcome.Side.{Side}
 use Rattle.sim_scope.specs.declared.scopes.Denotation.{Denotation}
 use Rattle.sim_scope.specs.declared.scopes.Denotation.TheVariants as denotation
+use Rattle.sim_scope.specs.declared.standard.Standard.{Standard}
+use Rattle.sim_scope.specs.declared.standard.Standard.TheVariants as standard
 use Rattle.sim_scope.specs.declared.types.Entry.{Entry}
 use Rattle.sim_scope.specs.declared.types.Entry.TheVariants as entry
-use Rattle.sim_scope.specs.declared.types.Formal.{Formal}
 use Rattle.sim_scope.specs.declared.types.FormalKind.{FormalKind}
 use Rattle.sim_scope.specs.declared.types.FormalKind.TheVariants as kind
 use Rattle.sim_scope.specs.declared.types.Mode.{Mode}
 use Rattle.sim_scope.specs.declared.types.Mode.TheVariants as mode
 use Rattle.sim_scope.specs.declared.types.SimType.{SimType}
 use Rattle.sim_scope.specs.declared.types.SimType.TheVariants as t
-use Rattle.sim_scope.specs.Assignments.{Nothing, assigned, fine, takes, wrong}
+use Rattle.sim_scope.specs.declared.types.StandardPrefix.{StandardPrefix}
+use Rattle.sim_scope.specs.declared.types.StandardPrefix.TheVariants as standard_prefix
+use Rattle.sim_scope.specs.Access.{block_at, encloser}
+use Rattle.sim_scope.specs.Actuals.{no_actuals}
+use Rattle.sim_scope.specs.Assignments.{Nothing, assigned, fine, takes, told, wrong}
 use Rattle.sim_scope.specs.Calls.{bound}
-use Rattle.sim_scope.specs.Expressions.{judge, judge_side}
-use Rattle.sim_scope.specs.Found.{Event, Broken, Typed}
+use Rattle.sim_scope.specs.Expressions.{actuals, judge, judge_side}
+use Rattle.sim_scope.specs.Found.{Event, Broken, Typed, Uses}
 use Rattle.sim_scope.specs.Judged.{Judged, gives, next, telling}
-use Rattle.sim_scope.specs.Operators.{is_same}
+use Rattle.sim_scope.specs.Levels.{class_block, has_classes, level_beyond, owner_of_level, simulation_level_of}
+use Rattle.sim_scope.specs.Operators.{is_reference, is_same, misfit_of}
 use Rattle.sim_scope.specs.Outcomes.{called}
+use Rattle.sim_scope.specs.References.{block_of_class, chained_with, class_named, formal_count, is_only_prefix}
 use Rattle.sim_scope.specs.Runs.{each}
 use Rattle.sim_scope.specs.Scopes.{entry_of}
-use Rattle.sim_scope.specs.Tables.{Tables}
+use Rattle.sim_scope.specs.Tables.{BlockOf, Tables}
 use Rattle.sim_scope.specs.Walk.{Visit}
 
 -- S13: an operand of a type
@@ -99,13 +108,17 @@ simple s sign token (Some (denotation.Declared d)) = entry_controlled sign token
 unfoldable pub controlled : Tables → Assignment → Identifier → Judged (Option SimType)
 controlled s sign x = next (bound s Statement x) (simple s sign x.token.0)
 
--- S13: a value of the type of the controlled variable
-abbrev pub type_taken : Option SimType → Side → Option SimType → Judged Nothing
-type_taken (Some a) x (Some b) = if is_same b a then fine else wrong x.first.0 r.WrongType
-type_taken a x b = fine
+-- S13, S16: a value of the type of the controlled variable
+abbrev pub told_unless : (first : ℕ) → Option Rule → Judged Nothing
+told_unless first None = fine
+told_unless first (Some rule) = wrong first rule
 
-unfoldable pub taken_by : Option SimType → Side → Judged Nothing
-taken_by a x = type_taken a x x.ty
+abbrev pub type_taken : Tables → Option SimType → Side → Option SimType → Judged Nothing
+type_taken s (Some a) x (Some b) = told_unless x.first.0 (misfit_of s a b)
+type_taken s a x b = fine
+
+unfoldable pub taken_by : Tables → Option SimType → Side → Judged Nothing
+taken_by s a x = type_taken s a x x.ty
 
 -- S13: a step element is over an integer variable, from an integer on
 abbrev pub integer_from : Option SimType → Side → Option SimType → Judged Nothing
@@ -116,7 +129,7 @@ unfoldable pub starts : Option SimType → Side → Judged Nothing
 starts a x = integer_from a x x.ty
 
 unfoldable pub first_value : Tables → Option SimType → Expression → List Event
-first_value s a x = (next (judge_side s Statement x) (taken_by a)).events
+first_value s a x = (next (judge_side s Statement x) (taken_by s a)).events
 
 unfoldable pub first_step : Tables → Option SimType → Expression → List Event
 first_step s a x = (next (judge_side s Statement x) (starts a)).events
@@ -177,14 +190,152 @@ pair_events s b = required s Bound t.Integer b.lower ++ required s Bound t.Integ
 abbrev pub array_events : Tables → Arrayed → List Event
 array_events s a = each (pair_events s) a.bounds
 
--- What the parts of a program break, use and are. (Connections, activations and the prefixes of blocks will be judged where they contribute nothing here.)
+-- Prefixes. What the prefix of a block denotes, as the first round found it.
+abbrev pub standard_named : StandardPrefix → Standard
+standard_named standard_prefix.Simset = standard.Simset
+standard_named standard_prefix.Simulation = standard.Simulation
+
+abbrev pub class_denoted : Option DeclNo → Option Denotation
+class_denoted None = None
+class_denoted (Some d) = Some (denotation.Declared d)
+
+abbrev pub prefix_in : Tables → Option BlockOf → Option Denotation
+prefix_in s None = None
+prefix_in s (Some row) = (elim row.standard [ None ↦ class_denoted (owner_of_level s row.base) | Some which ↦ Some (denotation.Standard (standard_named which)) ])
+
+abbrev pub prefix_of_block : Tables → Option ℕ → Option Denotation
+prefix_of_block s None = None
+prefix_of_block s (Some block) = prefix_in s (slice_get s.blocks block)
+
+-- the prefix of the block in which a token stands
+unfoldable pub prefix_at : Tables → (token : ℕ) → Option Denotation
+prefix_at s token = prefix_of_block s (block_at s token)
+
+abbrev pub prefix_used : (token : ℕ) → Option Denotation → Judged (Option Denotation)
+prefix_used token None = gives None
+prefix_used token (Some d) = telling (Uses token d) (Some d)
+
+-- S15: there are as many actuals as the levels of the prefix have parameters
+abbrev pub prefix_applied : Tables → (token : ℕ) → Denotation → Actuals → Judged Nothing
+prefix_applied s token class a = if nat_eq (formal_count s class) a.count then told a.misfit else wrong token r.WrongNumber
+
+unfoldable pub prefixed_with : Tables → (token : ℕ) → Option Denotation → Actuals → Judged Nothing
+prefixed_with s token None a = fine
+prefixed_with s token (Some class) a = if a.typed then prefix_applied s token class a else fine
+
+-- the prefix of a block, which begins at a token, with its actual parameters
+unfoldable pub prefixed_events : Tables → Identifier → Expressions → (begin : ℕ) → List Event
+prefixed_events s class arguments begin =
+    (next (prefix_used class.token.0 (prefix_at s begin)) (λ d. next (actuals s Statement d no_actuals arguments) (prefixed_with s class.token.0 d))).events
+
+unfoldable pub program_prefix_events : Tables → Option Prefix → (begin : ℕ) → List Event
+program_prefix_events s None begin = []
+program_prefix_events s (Some p) begin = prefixed_events s p.class p.arguments begin
+
+-- the prefix of a class, whose identifier stands at a token
+unfoldable pub class_prefix_events : Tables → Option Identifier → (token : ℕ) → List Event
+class_prefix_events s None token = []
+class_prefix_events s (Some prefix) token = (prefix_used prefix.token.0 (prefix_at s token)).events
+
+-- Connections. S13: a reference is connected. S17: its class, or that of an arm, has no class at any level; this is judged at `inspect`.
+abbrev pub class_connected : Tables → (token : ℕ) → Option ℕ → Judged Nothing
+class_connected s token None = fine
+class_connected s token (Some block) = if has_classes s block then wrong token r.ClassWithClasses else fine
+
+abbrev pub type_connected : Tables → (token : ℕ) → Side → Option SimType → Judged Nothing
+type_connected s token x None = fine
+type_connected s token x (Some (t.Ref class)) = class_connected s token (class_block s class)
+type_connected s token x (Some t.NoneType) = fine
+type_connected s token x (Some _) = wrong x.first.0 r.WrongType
+
+unfoldable pub connected_by : Tables → (token : ℕ) → Side → Judged Nothing
+connected_by s token x = type_connected s token x x.ty
+
+unfoldable pub inspect_events : Tables → (token : ℕ) → Expression → List Event
+inspect_events s token object = (next (judge_side s Statement object) (connected_by s token)).events
+
+-- S16: the class of an arm lies on one chain with the object. S21: it is not only for prefixing.
+abbrev pub arm_class_fits : Tables → (class_token : ℕ) → Denotation → SimType → Judged Nothing
+arm_class_fits s class_token class ty =
+    if chained_with s class ty then (if is_only_prefix s class then wrong class_token r.OnlyForPrefixing else fine) else wrong class_token r.DifferentChains
+
+abbrev pub arm_of_type : Tables → (token class_token : ℕ) → Option SimType → Option Denotation → Judged Nothing
+arm_of_type s token class_token (Some ty) (Some class) =
+    if is_reference ty
+    then next (arm_class_fits s class_token class ty) (λ n. class_connected s token (block_of_class s class))
+    else fine
+arm_of_type s token class_token ty class = fine
+
+unfoldable pub arm_fits : Tables → (token : ℕ) → Side → Identifier → Option Denotation → Judged Nothing
+arm_fits s token x name class = arm_of_type s token name.token.0 x.ty class
+
+abbrev pub reference_needed : Side → Option SimType → Judged Nothing
+reference_needed x None = fine
+reference_needed x (Some ty) = if is_reference ty then fine else wrong x.first.0 r.WrongType
+
+unfoldable pub needs_reference : Side → Judged Nothing
+needs_reference x = reference_needed x x.ty
+
+unfoldable pub arm_events : Tables → (token : ℕ) → Side → Identifier → List Event
+arm_events s token x class = (next (class_named s Statement class) (arm_fits s token x class)).events
+
+unfoldable pub inspect_when_events : Tables → (token : ℕ) → Expression → List Identifier → List Event
+inspect_when_events s token object classes =
+    (next (judge_side s Statement object) needs_reference).events ++ each (arm_events s token (judge_side s Statement object).value) classes
+
+-- Activation. The level of `simulation` of the innermost of so many blocks, from one outward, that has one.
+unfoldable pub simulation_of : Tables → ℕ → (block : ℕ) → Option ℕ
+simulation_of s zero block = None
+simulation_of s (suc more) block =
+    option_or (simulation_level_of s (length s.blocks) block) (level_beyond (λ b. simulation_of s more b) (encloser s block))
+
+abbrev pub process_in : Option BlockOf → Option DeclNo
+process_in None = None
+process_in (Some row) = slice_get row.brought 3
+
+abbrev pub process_of : Tables → Option ℕ → Option DeclNo
+process_of s None = None
+process_of s (Some level) = process_in (slice_get s.blocks level)
+
+-- the class `process` of the nearest simulation around a token
+unfoldable pub process_at : Tables → (token : ℕ) → Option DeclNo
+process_at s token = process_of s (level_beyond (λ b. simulation_of s (length s.blocks) b) (block_at s token))
+
+-- S20: there is one
+abbrev pub in_simulation : (token : ℕ) → Option DeclNo → List Event
+in_simulation token None = Broken token r.ActivationOutsideSimulation ∷ []
+in_simulation token (Some process) = []
+
+-- S13, S16: the operand is a reference on one chain with it
+abbrev pub type_activated : Tables → Option DeclNo → Side → Option SimType → Judged Nothing
+type_activated s (Some process) x (Some ty) = told_unless x.first.0 (misfit_of s (t.Ref process) ty)
+type_activated s process x ty = fine
+
+unfoldable pub activates : Tables → Option DeclNo → Side → Judged Nothing
+activates s process x = type_activated s process x x.ty
+
+unfoldable pub process_events : Tables → Option DeclNo → Expression → List Event
+process_events s process e = (next (judge_side s Statement e) (activates s process)).events
+
+abbrev pub schedule_events : Tables → Option DeclNo → Schedule → List Event
+schedule_events s process Now = []
+schedule_events s process (At i time prior) = required s Statement t.Integer time
+schedule_events s process (Delay i time prior) = required s Statement t.Integer time
+schedule_events s process (Before i other) = process_events s process other
+schedule_events s process (After i other) = process_events s process other
+
+unfoldable pub activate_events : Tables → (token : ℕ) → Expression → Schedule → List Event
+activate_events s token process schedule =
+    in_simulation token (process_at s token) ++ (process_events s (process_at s token) process ++ schedule_events s (process_at s token) schedule)
+
+-- What the parts of a program break, use and are.
 unfoldable pub judging : Tables → Visit Event
 judging s = record {
-  program = λ prefix begin. [];
+  program = program_prefix_events s;
   block = λ begin. [];
-  prefixed = λ class arguments begin. [];
+  prefixed = prefixed_events s;
   procedure = λ result token h. [];
-  class = λ prefix token h i. [];
+  class = λ prefix token h i. class_prefix_events s prefix h.name.token.0;
   connected = λ do_token. [];
   arm = λ class. [];
   leave = λ end. [];
@@ -195,6 +346,7 @@ judging s = record {
   assign = assignment_events s;
   condition = required s Statement t.Boolean;
   control = λ x sign token es. control_events s x sign es;
-  inspect = λ token object. [];
-  activate = λ token word process schedule. [];
+  inspect = inspect_events s;
+  inspect_when = inspect_when_events s;
+  activate = λ token word process schedule. activate_events s token process schedule;
 }

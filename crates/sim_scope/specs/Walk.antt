@@ -1,6 +1,6 @@
 -- The walk over a program, from left to right: what its statements and declarations contribute, one after the other.
 -- Each round of the static rules is this walk with leaves of its own.
-use Rattle.std.specs.Prelude.{ℕ, List, [], ◌++◌, Option}
+use Rattle.std.specs.Prelude.{ℕ, List, [], ◌∷◌, ◌++◌, Option}
 use Rattle.std.specs.declared.alloc.Global.{Global}
 use Rattle.std.specs.declared.boxed.Box.{Box}
 use Rattle.sim_tree.specs.declared.expr.Identifier.{Identifier}
@@ -37,6 +37,8 @@ pub record Visit (E : Type 0) : Type 0 where
   pub condition : Expression → List E
   pub control : (variable : Identifier) → Assignment → (sign : ℕ) → List Element → List E
   pub inspect : (token : ℕ) → (object : Expression) → List E
+  -- the classes are those of the arms
+  pub inspect_when : (token : ℕ) → (object : Expression) → (classes : List Identifier) → List E
   pub arm : (class : Identifier) → List E
   pub activate : (token : ℕ) → Activation → (process : Expression) → Schedule → List E
 
@@ -47,6 +49,11 @@ begin_of (Begin i ds ss e) = i
 abbrev pub enclosed : {E : Type 0} → Declarations → (enter inside leave : List E) → List E
 enclosed NoDeclaration enter inside leave = inside
 enclosed (With d ds) enter inside leave = enter ++ (inside ++ leave)
+
+-- the classes of arms
+abbrev pub arm_classes : Arms → List Identifier
+arm_classes NoArm = []
+arm_classes (When i x d a e others) = x ∷ arm_classes others
 
 abbrev mutual
   pub statement_events : {E : Type 0} → Visit E → Position → Statement → List E
@@ -63,7 +70,7 @@ abbrev mutual
   statement_events v p (For i x sign j es a) = v.control x sign j es ++ statement_events v Inside a
   statement_events v p (Inspect i object d a e rest) =
       v.inspect i object ++ (v.connected d ++ (statement_events v Inside a ++ (v.leave e ++ statements_events v Inside rest)))
-  statement_events v p (InspectWhen i object whens rest) = v.inspect i object ++ (arms_events v whens ++ statements_events v Inside rest)
+  statement_events v p (InspectWhen i object whens rest) = v.inspect_when i object (arm_classes whens) ++ (arms_events v whens ++ statements_events v Inside rest)
   statement_events v p (Activate i word process schedule) = v.activate i word process schedule
 
   pub statements_events : {E : Type 0} → Visit E → Position → Statements → List E

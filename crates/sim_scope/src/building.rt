@@ -1,14 +1,14 @@
 //! Block tables, built from a program that is read from left to right.
 ghost use Rattle.std.specs.Prelude.{◌≡◌, ◌++◌, ◌-◌, replicate, length, slice_get, IfOk, OnOk, option_copied};
-ghost use Rattle.sim_scope.specs.Building.{Breaks, Closes, Declares, DeclaresClass, DeclaresProcedure, Headed, Inner, Moded, Opens, Parameter, Specified, block_around, broken_if, closed_at, counted, declared_at, deeper, default_mode, found_in, in_class, inner_at, is_by_name, is_class, is_procedure, is_simple, is_text, level_in, marked, mode_allowed, moded_as, owner_of, placed, specified_as, token_in, unspecified, unspecified_at, unspecified_in, value_allowed, with_entry, with_mode};
+ghost use Rattle.sim_scope.specs.Building.{Breaks, Closes, Declares, DeclaresClass, DeclaresProcedure, Inner, Opens, added, block_around, broken_if, changed, closed_at, declared_again, declared_at, declared_twice, deeper, holding_class, in_class, inner_at, is_class, is_match, level_in, marked, match_known, matching, owner_of, placed};
 ghost use Rattle.sim_scope.specs.Declare.{empty};
 ghost use Rattle.sim_scope.specs.Found.{lesser};
 ghost use Rattle.sim_scope.specs.Scopes.{entry_of};
 
 use crate::found::{Fault, lesser};
 use crate::names::Names;
-use crate::scopes::{Block, Declaration, Scopes};
-use crate::types::{BlockKind, Entry, Formal, FormalKind, Mode, SimType, WrittenMode};
+use crate::scopes::{Block, Declaration, Protection, Qualification, Scopes};
+use crate::types::{BlockKind, Entry, SimType};
 use sim_base::{DeclNo, Rule, TokenNo};
 use sim_tree::Identifier;
 use std::alloc::{AllocError, Global};
@@ -23,12 +23,15 @@ const MOST_DECLARATIONS: usize = 65_535;
 /// The tables so far.
 #[derive(Drop)]
 pub(crate) struct Building {
-    blocks: Vec<Block>,
-    declarations: Vec<Declaration>,
-    places: Vec<Option<u32>>,
-    current: Option<u32>,
-    latest: Option<DeclNo>,
-    least: Option<Fault>,
+    pub(crate) blocks: Vec<Block>,
+    pub(crate) declarations: Vec<Declaration>,
+    pub(crate) places: Vec<Option<u32>>,
+    pub(crate) qualifications: Vec<Qualification>,
+    pub(crate) protections: Vec<Protection>,
+    pub(crate) own: usize,
+    pub(crate) current: Option<u32>,
+    pub(crate) latest: Option<DeclNo>,
+    pub(crate) least: Option<Fault>,
 }
 
 impl Model for Building {
@@ -37,7 +40,14 @@ impl Model for Building {
     ghost Value = { BuildingOf };
 
     ghost view = { λ b. record {
-      tables = record { blocks = b.blocks.items; declarations = b.declarations.items; places = b.places.items };
+      tables = record {
+        blocks = b.blocks.items;
+        declarations = b.declarations.items;
+        places = b.places.items;
+        qualifications = b.qualifications.items;
+        protections = b.protections.items;
+      };
+      own = b.own;
       current = b.current;
       latest = b.latest;
       least = b.least;
@@ -69,6 +79,7 @@ fn deeper(kind: BlockKind, level: u32) -> Result<u32, AllocError>
         BlockKind::Procedure => Ok(next),
         BlockKind::Class => Ok(next),
         BlockKind::Prefixed => Ok(next),
+        BlockKind::StandardClass(_) => Ok(next),
     }
 }
 
@@ -83,6 +94,7 @@ fn owner_of(kind: BlockKind, latest: Option<DeclNo>) -> Option<DeclNo>
         BlockKind::SubBlock => None,
         BlockKind::Prefixed => None,
         BlockKind::Connection => None,
+        BlockKind::StandardClass(_) => None,
     }
 }
 
@@ -96,97 +108,30 @@ fn is_class(kind: BlockKind) -> bool
         BlockKind::Procedure => false,
         BlockKind::Prefixed => false,
         BlockKind::Connection => false,
+        BlockKind::StandardClass(_) => false,
     }
 }
 
-fn is_by_name(mode: Mode) -> bool
-    ensures { result ≡ is_by_name mode }
+/// Whether a procedure matches what its block has declared before it: a virtual procedure that has no match yet.
+fn is_match(entry: Entry, declared: Option<Entry>) -> bool
+    ensures { result ≡ is_match entry declared }
 {
-    match mode {
-        Mode::ByName => true,
-        Mode::ByValue => false,
-        Mode::ByReference => false,
+    match (entry, declared) {
+        (Entry::Procedure { .. }, Some(Entry::Virtual { own: None, .. })) => true,
+        _ => false,
     }
 }
 
-/// Whether a type is that of integers, booleans or characters.
-fn is_simple(ty: Option<SimType>) -> bool
-    ensures { result ≡ is_simple ty }
-{
-    match ty {
-        Some(SimType::Integer) => true,
-        Some(SimType::Boolean) => true,
-        Some(SimType::Character) => true,
-        Some(SimType::Text) => false,
-        Some(SimType::Ref(_)) => false,
-        Some(SimType::NoneType) => false,
-        None => false,
-    }
-}
-
-fn is_text(ty: Option<SimType>) -> bool
-    ensures { result ≡ is_text ty }
-{
-    match ty {
-        Some(SimType::Text) => true,
-        Some(SimType::Integer) => false,
-        Some(SimType::Boolean) => false,
-        Some(SimType::Character) => false,
-        Some(SimType::Ref(_)) => false,
-        Some(SimType::NoneType) => false,
-        None => false,
-    }
-}
-
-/// The mode of a parameter for which none is written.
-#[tactic(auto, unfolding(crate::specs::Building::default_mode))]
-fn default_mode(kind: FormalKind, ty: Option<SimType>) -> Mode
-    ensures { result ≡ default_mode kind ty }
-{
-    match kind {
-        FormalKind::Simple => {
-            if is_simple(ty) {
-                Mode::ByValue
-            } else {
-                Mode::ByReference
-            }
-        }
-        FormalKind::Array => Mode::ByReference,
-        FormalKind::Procedure => Mode::ByReference,
-    }
-}
-
-fn value_allowed(kind: FormalKind, ty: Option<SimType>) -> bool
-    ensures { result ≡ value_allowed kind ty }
-{
-    match kind {
-        FormalKind::Simple => is_simple(ty) || is_text(ty),
-        FormalKind::Array => is_simple(ty),
-        FormalKind::Procedure => false,
-    }
-}
-
-/// Whether a mode may be written for a parameter.
-#[tactic(auto, unfolding(crate::specs::Building::mode_allowed))]
-fn mode_allowed(mode: Mode, kind: FormalKind, ty: Option<SimType>) -> bool
-    ensures { result ≡ mode_allowed mode kind ty }
-{
-    is_by_name(mode) || value_allowed(kind, ty)
-}
-
-/// The mode that is written for a parameter that no specification has named yet.
-fn unspecified(entry: Entry) -> Option<Option<WrittenMode>>
-    ensures { result ≡ unspecified entry }
+/// A virtual procedure, once a match is known.
+fn matching(entry: Entry, procedure: DeclNo) -> Entry
+    ensures { result ≡ matching entry procedure }
 {
     match entry {
-        Entry::Unspecified { written } => Some(written),
-        Entry::Variable(_) => None,
-        Entry::Constant(_) => None,
-        Entry::Array { .. } => None,
-        Entry::Procedure { .. } => None,
-        Entry::Class { .. } => None,
-        Entry::Virtual { .. } => None,
-        Entry::Formal(_) => None,
+        Entry::Virtual { result: ty, .. } => Entry::Virtual {
+            result: ty,
+            own: Some(procedure),
+        },
+        _ => entry,
     }
 }
 
@@ -199,6 +144,9 @@ impl Building {
             blocks: Vec::new(alloc),
             declarations: Vec::new(alloc),
             places: Vec::new(alloc),
+            qualifications: Vec::new(alloc),
+            protections: Vec::new(alloc),
+            own: 0,
             current: None,
             latest: None,
             least: None,
@@ -211,7 +159,13 @@ impl Building {
         ensures broken { result.1 ≡ self.least }
     {
         (
-            Scopes::new(self.blocks, self.declarations, self.places),
+            Scopes::new(
+                self.blocks,
+                self.declarations,
+                self.places,
+                self.qualifications,
+                self.protections,
+            ),
             self.least,
         )
     }
@@ -225,7 +179,7 @@ impl Building {
     }
 
     /// A rule may be broken at a token.
-    fn note_if(&mut self, breaks: bool, token: TokenNo, rule: Rule)
+    pub(crate) fn note_if(&mut self, breaks: bool, token: TokenNo, rule: Rule)
         ensures { self.new ≡ broken_if breaks self.old token.0 rule }
     {
         if breaks {
@@ -241,7 +195,7 @@ impl Building {
     }
 
     /// The innermost open block.
-    fn current_block(&self) -> Option<&Block>
+    pub(crate) fn current_block(&self) -> Option<&Block>
         ensures { option_copied result ≡ block_around self.now.tables self.now.current }
     {
         match self.current {
@@ -261,7 +215,7 @@ impl Building {
     }
 
     /// Whether the innermost open block is that of a class.
-    fn in_class(&self) -> bool
+    pub(crate) fn in_class(&self) -> bool
         ensures { result ≡ in_class self.now }
     {
         match self.current_block() {
@@ -295,8 +249,16 @@ impl Building {
             owner: owner_of(kind, self.latest),
             formals: 0,
             inner: None,
+            prefix: None,
+            base: None,
+            standard: None,
             names: Names::new(alloc),
             numbers: Vec::new(alloc),
+            has_class: false,
+            brought_names: Names::new(alloc),
+            brought: Vec::new(alloc),
+            protected: Names::new(alloc),
+            hidden: Names::new(alloc),
         })?;
         self.current = Some(number);
         self.note_if(level > MOST_LEVELS, text, Rule::TooManyLevels);
@@ -344,7 +306,6 @@ impl Building {
     }
 
     /// A block declares an identifier.
-    #[tactic(auto, unfolding(crate::specs::Building::marked))]
     fn declare_in(
         &mut self,
         alloc: Global,
@@ -354,34 +315,112 @@ impl Building {
     ) -> Result<(), AllocError>
         ensures { OnOk result (self.new ≡ declared_at self.old identifier.now entry block (slice_get self.old.tables.blocks block)) }
     {
-        let count = self.declarations.len();
-        let Ok(number) = u32::try_from(count) else {
-            return Err(AllocError);
-        };
         if block as usize >= self.blocks.len() {
             return Ok(());
         }
         if self.blocks[block as usize].has(identifier.name.as_bytes()) {
-            self.latest = self.blocks[block as usize].declaration(identifier.name.as_bytes());
-            self.note(identifier.token, Rule::DeclaredTwice);
-            return Ok(());
+            let declared = self.blocks[block as usize].declaration(identifier.name.as_bytes());
+            return self.declare_again(alloc, block, identifier, entry, declared);
         }
+        let Ok(number) = u32::try_from(self.declarations.len()) else {
+            return Err(AllocError);
+        };
         let name = Vec::from_slice(alloc, identifier.name.as_bytes())?;
         self.blocks[block as usize].add(name, DeclNo(number))?;
+        self.list(alloc, block, identifier, entry, true)
+    }
+
+    /// One more declaration of the program's own, behind the others.
+    fn list(
+        &mut self,
+        alloc: Global,
+        block: u32,
+        identifier: &Identifier,
+        entry: Entry,
+        listed: bool,
+    ) -> Result<(), AllocError>
+        ensures { OnOk result (self.new ≡ added self.old identifier.now entry block listed) }
+    {
+        let Ok(number) = u32::try_from(self.declarations.len()) else {
+            return Err(AllocError);
+        };
+        let Some(own) = self.own.checked_add(1) else {
+            return Err(AllocError);
+        };
+        let is_last = self.own == MOST_DECLARATIONS;
         let name = identifier.name.copy(alloc)?;
         self.declarations.push(Declaration {
             name,
             token: identifier.token,
             block,
             entry,
+            listed,
         })?;
         self.latest = Some(DeclNo(number));
-        self.note_if(
-            count == MOST_DECLARATIONS,
-            identifier.token,
-            Rule::TooManyDeclarations,
-        );
+        self.own = own;
+        self.note_if(is_last, identifier.token, Rule::TooManyDeclarations);
         Ok(())
+    }
+
+    /// A block declares an identifier that it has already: the match of a virtual procedure, or one too many (`S1`).
+    fn declare_again(
+        &mut self,
+        alloc: Global,
+        block: u32,
+        identifier: &Identifier,
+        entry: Entry,
+        declared: Option<DeclNo>,
+    ) -> Result<(), AllocError>
+        ensures { OnOk result (self.new ≡ declared_again self.old identifier.now entry block declared) }
+    {
+        match declared {
+            Some(first) => {
+                if is_match(entry, self.entry_of(first)) {
+                    self.set_match(first)?;
+                    self.list(alloc, block, identifier, entry, false)
+                } else {
+                    self.declare_twice(identifier, declared);
+                    Ok(())
+                }
+            }
+            None => {
+                self.declare_twice(identifier, declared);
+                Ok(())
+            }
+        }
+    }
+
+    /// A block declares an identifier that it has already.
+    #[tactic(auto, unfolding(crate::specs::Building::marked))]
+    fn declare_twice(&mut self, identifier: &Identifier, declared: Option<DeclNo>)
+        ensures { self.new ≡ declared_twice self.old identifier.now declared }
+    {
+        self.latest = declared;
+        self.note(identifier.token, Rule::DeclaredTwice);
+    }
+
+    /// The next declaration matches a virtual procedure.
+    fn set_match(&mut self, procedure: DeclNo) -> Result<(), AllocError>
+        ensures { OnOk result (self.new ≡ match_known self.old procedure) }
+    {
+        let Ok(number) = u32::try_from(self.declarations.len()) else {
+            return Err(AllocError);
+        };
+        if let Some(row) = self.declarations.get_mut(procedure.0 as usize) {
+            row.entry = matching(row.entry, DeclNo(number));
+        }
+        Ok(())
+    }
+
+    /// What a declaration declares.
+    #[tactic(auto, unfolding(crate::specs::Scopes::entry_of))]
+    fn entry_of(&self, declaration: DeclNo) -> Option<Entry>
+        ensures { result ≡ entry_of self.now.tables declaration }
+    {
+        match self.declarations.get(declaration.0 as usize) {
+            Some(row) => Some(row.entry),
+            None => None,
+        }
     }
 
     /// The innermost open block declares a procedure, whose block is the next one.
@@ -419,189 +458,20 @@ impl Building {
         let Ok(block) = u32::try_from(self.blocks.len()) else {
             return Err(AllocError);
         };
-        self.declare(alloc, identifier, Entry::Class { block })
-    }
-
-    /// An identifier is a formal parameter of the innermost open block.
-    #[tactic(auto, unfolding(crate::specs::Building::marked))]
-    pub(crate) fn parameter(
-        &mut self,
-        alloc: Global,
-        identifier: &Identifier,
-    ) -> Result<(), AllocError>
-        ensures { OnOk result (self.new ≡ marked self.old (Parameter identifier.now)) }
-    {
-        self.declare(alloc, identifier, Entry::Unspecified { written: None })?;
-        if let Some(block) = self.current {
-            self.count(block);
-        }
+        let current = self.current;
+        self.declare(alloc, identifier, Entry::Class { block })?;
+        self.hold_class(current);
         Ok(())
     }
 
-    /// What a block declares so far are its parameters.
-    fn count(&mut self, block: u32)
-        ensures { self.new ≡ counted self.old block (slice_get self.old.tables.blocks block) }
+    /// A block has a class among its declarations.
+    fn hold_class(&mut self, block: Option<u32>)
+        ensures { self.new ≡ changed self.old holding_class block }
     {
-        if (block as usize) < self.blocks.len() {
-            self.blocks[block as usize].count();
-        }
-    }
-
-    /// The declaration of a name in the innermost open block.
-    #[tactic(auto, unfolding(crate::specs::Scopes::lookup))]
-    fn here(&self, name: &[u8]) -> Option<DeclNo>
-        ensures { result ≡ found_in self.now.tables self.now.current name.now }
-    {
-        match self.current {
-            Some(block) => self.blocks.get(block as usize)?.declaration(name),
-            None => None,
-        }
-    }
-
-    /// The mode that is written for a parameter that no specification has named yet.
-    #[tactic(auto, unfolding(crate::specs::Scopes::entry_of))]
-    fn unspecified(&self, declaration: DeclNo) -> Option<Option<WrittenMode>>
-        ensures { result ≡ unspecified_in (entry_of self.now.tables declaration) }
-    {
-        match self.declarations.get(declaration.0 as usize) {
-            Some(row) => unspecified(row.entry),
-            None => None,
-        }
-    }
-
-    /// The same of the declaration of a name in the innermost open block.
-    fn unspecified_here(&self, name: &[u8]) -> Option<Option<WrittenMode>>
-        ensures { result ≡ unspecified_at self.now.tables (found_in self.now.tables self.now.current name.now) }
-    {
-        match self.here(name) {
-            Some(declaration) => self.unspecified(declaration),
-            None => None,
-        }
-    }
-
-    /// The token of a declaration.
-    fn token_of(&self, declaration: DeclNo) -> TokenNo
-        ensures { result.0 ≡ token_in (slice_get self.now.tables.declarations declaration.0) }
-    {
-        match self.declarations.get(declaration.0 as usize) {
-            Some(row) => row.token,
-            None => TokenNo(0),
-        }
-    }
-
-    /// What a declaration declares becomes known.
-    fn enter(&mut self, declaration: DeclNo, entry: Entry)
-        ensures { self.new ≡ with_entry self.old declaration entry }
-    {
-        if let Some(row) = self.declarations.get_mut(declaration.0 as usize) {
-            row.entry = entry;
-        }
-    }
-
-    /// The mode part names an identifier.
-    #[tactic(auto, unfolding(crate::specs::Building::marked))]
-    pub(crate) fn moded(&mut self, identifier: &Identifier, mode: Mode)
-        ensures { self.new ≡ marked self.old (Moded identifier.now mode) }
-    {
-        match self.here(identifier.name.as_bytes()) {
-            Some(declaration) => self.set_mode(identifier.token, mode, declaration),
-            None => self.note(identifier.token, Rule::ModeNotAllowed),
-        }
-    }
-
-    #[tactic(auto, unfolding(crate::specs::Building::marked))]
-    fn set_mode(&mut self, token: TokenNo, mode: Mode, declaration: DeclNo)
-        ensures { self.new ≡ moded_as self.old token mode declaration (unspecified_in (entry_of self.old.tables declaration)) }
-    {
-        match self.unspecified(declaration) {
-            Some(None) => {
-                if is_by_name(mode) && self.in_class() {
-                    self.note(token, Rule::ModeNotAllowed);
-                } else {
-                    self.enter(
-                        declaration,
-                        Entry::Unspecified {
-                            written: Some(WrittenMode { token, mode }),
-                        },
-                    );
-                }
+        if let Some(block) = block {
+            if (block as usize) < self.blocks.len() {
+                self.blocks[block as usize].hold_class();
             }
-            Some(Some(_)) => self.note(token, Rule::ModeNotAllowed),
-            None => self.note(token, Rule::ModeNotAllowed),
-        }
-    }
-
-    /// A specification names an identifier.
-    #[tactic(auto, unfolding(crate::specs::Building::marked))]
-    pub(crate) fn specified(
-        &mut self,
-        identifier: &Identifier,
-        kind: FormalKind,
-        ty: Option<SimType>,
-    )
-        ensures { self.new ≡ marked self.old (Specified identifier.now kind ty) }
-    {
-        match self.here(identifier.name.as_bytes()) {
-            Some(declaration) => self.specify(identifier.token, kind, ty, declaration),
-            None => self.note(identifier.token, Rule::SpecificationDisagrees),
-        }
-    }
-
-    #[tactic(auto, unfolding(crate::specs::Building::marked))]
-    fn specify(
-        &mut self,
-        token: TokenNo,
-        kind: FormalKind,
-        ty: Option<SimType>,
-        declaration: DeclNo,
-    )
-        ensures { self.new ≡ specified_as self.old token kind ty declaration (unspecified_in (entry_of self.old.tables declaration)) }
-    {
-        match self.unspecified(declaration) {
-            Some(written) => {
-                let out_of_place = is_procedure(kind) && self.in_class();
-                let parameter = self.token_of(declaration);
-                self.set_kind(kind, ty, declaration, written);
-                self.note_if(out_of_place, parameter, Rule::ModeNotAllowed);
-            }
-            None => self.note(token, Rule::SpecificationDisagrees),
-        }
-    }
-
-    fn set_kind(
-        &mut self,
-        kind: FormalKind,
-        ty: Option<SimType>,
-        declaration: DeclNo,
-        written: Option<WrittenMode>,
-    )
-        ensures { self.new ≡ with_mode self.old declaration kind ty written }
-    {
-        match written {
-            Some(written) => {
-                let mode = written.mode;
-                self.enter(declaration, Entry::Formal(Formal { mode, kind, ty }));
-                self.note_if(
-                    !mode_allowed(mode, kind, ty),
-                    written.token,
-                    Rule::ModeNotAllowed,
-                );
-            }
-            None => {
-                let mode = default_mode(kind, ty);
-                self.enter(declaration, Entry::Formal(Formal { mode, kind, ty }));
-            }
-        }
-    }
-
-    /// At the end of a heading a parameter has been specified.
-    #[tactic(auto, unfolding(crate::specs::Building::marked))]
-    pub(crate) fn headed(&mut self, identifier: &Identifier)
-        ensures { self.new ≡ marked self.old (Headed identifier.now) }
-    {
-        match self.unspecified_here(identifier.name.as_bytes()) {
-            Some(_) => self.note(identifier.token, Rule::SpecificationDisagrees),
-            None => (),
         }
     }
 
@@ -626,15 +496,5 @@ impl Building {
             Some(_) => self.note(token, Rule::InnerOutOfPlace),
             None => self.blocks[block as usize].set_inner(token),
         }
-    }
-}
-
-fn is_procedure(kind: FormalKind) -> bool
-    ensures { result ≡ is_procedure kind }
-{
-    match kind {
-        FormalKind::Procedure => true,
-        FormalKind::Simple => false,
-        FormalKind::Array => false,
     }
 }

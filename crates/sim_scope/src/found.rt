@@ -99,6 +99,17 @@ impl Found {
         })
     }
 
+    /// Nothing, of no token: it takes no memory, and lets go what identifiers denote and what expressions are.
+    pub fn none(alloc: Global) -> Found
+        ensures { result ≡ unknown 0 }
+    {
+        Found {
+            least: None,
+            uses: Vec::new(alloc),
+            types: Vec::new(alloc),
+        }
+    }
+
     /// The least broken rule, and the two tables.
     pub fn into_parts(self) -> (Option<Fault>, Vec<Option<Denotation>>, Vec<Option<SimType>>)
         ensures least { result.0 ≡ self.least }

@@ -39,6 +39,6 @@ pub fn places()
 /// The search outward finds the declaration of the innermost block that shows the name. Where each block stands behind the one around
 /// it it finds every such declaration.
 pub fn innermost()
-    ensures found { (s : Tables) (most block : ℕ) (name : List ℕ) (d : DeclNo) → searched s most block name ≡ Some d → Innermost s name block d }
-    ensures every { (s : Tables) (block : ℕ) (name : List ℕ) (d : DeclNo) → Nested s.blocks → Innermost s name block d → block < length s.blocks → searched s (length s.blocks) block name ≡ Some d }
+    ensures found { (s : Tables) (from : Option ℕ) (most block : ℕ) (name : List ℕ) (d : DeclNo) → searched s from most block name ≡ Some d → Innermost s from name block d }
+    ensures every { (s : Tables) (from : Option ℕ) (block : ℕ) (name : List ℕ) (d : DeclNo) → Nested s.blocks → Innermost s from name block d → block < length s.blocks → searched s from (length s.blocks) block name ≡ Some d }
 {}

@@ -1,15 +1,16 @@
 //! Block tables: what each block declares, and where the blocks stand.
-ghost use Rattle.std.specs.Prelude.{◌≡◌, Some, false, length, OnOk};
+ghost use Rattle.std.specs.Prelude.{◌≡◌, Some, None, false, length, OnOk, MatchOption};
 ghost use Rattle.std.specs.List.{list_any};
 ghost use Rattle.std.specs.Str.{bytes_eq};
 ghost use Rattle.sim_scope.specs.Building.{with_name};
-ghost use Rattle.sim_scope.specs.Standard.{standard_name as standard_spec};
-ghost use Rattle.sim_scope.specs.Scopes.{binding, block_at, declaration_from, declared_in, declared_or_standard, encloser, entry_of, lookup, searched, shown};
+ghost use Rattle.sim_scope.specs.Scopes.{brought_in, declared_in};
+ghost use Rattle.sim_scope.specs.Tables.{with_base_at, with_entry_at, with_standard_at};
 
 use crate::names::Names;
-use crate::standard::{Standard, standard_name};
-use crate::types::{BlockKind, Entry};
+use crate::standard::Standard;
+use crate::types::{BlockKind, Entry, StandardPrefix};
 use sim_base::{ByteString, DeclNo, TokenNo};
+use sim_tree::Identifier;
 use std::alloc::AllocError;
 use std::marker::Model;
 
@@ -33,6 +34,31 @@ pub struct Declaration {
     pub block: u32,
     /// What it is.
     pub entry: Entry,
+    /// Whether its block lists its identifier. It doesn't where the identifier denotes a virtual that this declaration matches, and where
+    /// `simset` or `simulation` declares it in the block that it stands in front of.
+    pub listed: bool,
+}
+
+/// A declaration of references, and the class that is written for them.
+#[derive(Drop)]
+pub struct Qualification {
+    /// The declaration.
+    pub declaration: DeclNo,
+    /// The class.
+    pub class: Identifier,
+}
+
+/// An attribute that is written in a protection part.
+#[derive(Drop)]
+pub struct Protection {
+    /// The block of the class.
+    pub block: u32,
+    /// The attribute.
+    pub attribute: Identifier,
+    /// Whether it is hidden.
+    pub hides: bool,
+    /// Whether it is protected.
+    pub protects: bool,
 }
 
 /// A block, with what it declares. The identifiers and the declarations go together.
@@ -46,8 +72,16 @@ pub struct Block {
     pub(crate) owner: Option<DeclNo>,
     pub(crate) formals: usize,
     pub(crate) inner: Option<u32>,
+    pub(crate) prefix: Option<Identifier>,
+    pub(crate) base: Option<u32>,
+    pub(crate) standard: Option<StandardPrefix>,
     pub(crate) names: Names,
     pub(crate) numbers: Vec<DeclNo>,
+    pub(crate) has_class: bool,
+    pub(crate) brought_names: Names,
+    pub(crate) brought: Vec<DeclNo>,
+    pub(crate) protected: Names,
+    pub(crate) hidden: Names,
 }
 
 impl Model for Block {
@@ -64,8 +98,16 @@ impl Model for Block {
       owner = b.owner;
       formals = b.formals;
       inner = b.inner;
+      prefix = b.prefix;
+      base = b.base;
+      standard = b.standard;
       names = b.names;
       numbers = b.numbers.items;
+      has_class = b.has_class;
+      brought_names = b.brought_names;
+      brought = b.brought.items;
+      protected = b.protected;
+      hidden = b.hidden;
     } };
 }
 
@@ -78,11 +120,45 @@ impl Block {
         self.numbers.get(index).copied()
     }
 
+    /// What its standard prefix declares, in text order, where it has the prefix.
+    pub fn brought_numbers(&self) -> &[DeclNo]
+        ensures { result.now ≡ self.now.brought }
+    {
+        &self.brought
+    }
+
     /// Whether the block declares an identifier.
     pub fn has(&self, name: &[u8]) -> bool
         ensures { result ≡ list_any (bytes_eq name.now) self.now.names }
     {
         self.names.contains(name)
+    }
+
+    /// What its standard prefix declares under a name, if it has the prefix.
+    pub fn brought(&self, name: &[u8]) -> Option<DeclNo>
+        ensures { result ≡ brought_in (Some self.now) name.now }
+    {
+        match self.standard {
+            Some(_) => {
+                let index = self.brought_names.number(name)?;
+                self.brought.get(index).copied()
+            }
+            None => None,
+        }
+    }
+
+    /// Whether it protects an attribute of this name.
+    pub fn protects(&self, name: &[u8]) -> bool
+        ensures { result ≡ list_any (bytes_eq name.now) self.now.protected }
+    {
+        self.protected.contains(name)
+    }
+
+    /// Whether it names an attribute as hidden.
+    pub fn hides(&self, name: &[u8]) -> bool
+        ensures { result ≡ list_any (bytes_eq name.now) self.now.hidden }
+    {
+        self.hidden.contains(name)
     }
 
     /// Adds an identifier that the block hasn't.
@@ -172,6 +248,34 @@ impl Block {
         self.inner
     }
 
+    /// The class identifier in front of it, where it has a prefix.
+    pub fn prefix(&self) -> Option<&Identifier>
+        ensures { MatchOption result (self.now.prefix ≡ None) (λ prefix. self.now.prefix ≡ Some prefix.now) }
+    {
+        self.prefix.as_ref()
+    }
+
+    /// The block of its prefix, which is its next level; of a connection, the block of the class that is connected.
+    pub fn base(&self) -> Option<u32>
+        ensures { result ≡ self.now.base }
+    {
+        self.base
+    }
+
+    /// The prefix, where it is a standard one.
+    pub fn standard(&self) -> Option<StandardPrefix>
+        ensures { result ≡ self.now.standard }
+    {
+        self.standard
+    }
+
+    /// Whether a class is among its declarations.
+    pub fn has_class(&self) -> bool
+        ensures { result ≡ self.now.has_class }
+    {
+        self.has_class
+    }
+
     /// Its declarations in text order.
     pub fn numbers(&self) -> &[DeclNo]
         ensures { result.now ≡ self.now.numbers }
@@ -186,6 +290,8 @@ pub struct Scopes {
     blocks: Vec<Block>,
     declarations: Vec<Declaration>,
     places: Vec<Option<u32>>,
+    qualifications: Vec<Qualification>,
+    protections: Vec<Protection>,
 }
 
 impl Model for Scopes {
@@ -193,7 +299,7 @@ impl Model for Scopes {
 
     ghost Value = { Tables };
 
-    ghost view = { λ s. record { blocks = s.blocks.items; declarations = s.declarations.items; places = s.places.items } };
+    ghost view = { λ s. record { blocks = s.blocks.items; declarations = s.declarations.items; places = s.places.items; qualifications = s.qualifications.items; protections = s.protections.items } };
 }
 
 impl Scopes {
@@ -202,13 +308,17 @@ impl Scopes {
         blocks: Vec<Block>,
         declarations: Vec<Declaration>,
         places: Vec<Option<u32>>,
+        qualifications: Vec<Qualification>,
+        protections: Vec<Protection>,
     ) -> Scopes
-        ensures { result ≡ record { blocks = blocks.items; declarations = declarations.items; places = places.items } }
+        ensures { result ≡ record { blocks = blocks.items; declarations = declarations.items; places = places.items; qualifications = qualifications.items; protections = protections.items } }
     {
         Scopes {
             blocks,
             declarations,
             places,
+            qualifications,
+            protections,
         }
     }
 
@@ -239,100 +349,48 @@ impl Scopes {
     {
         &self.places
     }
-}
 
-/// The declaration of an identifier in a block, if the block has one.
-#[tactic(auto, unfolding(crate::specs::Scopes::lookup))]
-pub fn lookup(scopes: &Scopes, block: u32, name: &[u8]) -> Option<DeclNo>
-    ensures { result ≡ lookup scopes.now block name.now }
-{
-    scopes.blocks().get(block as usize)?.declaration(name)
-}
+    /// The references that are declared, and the classes that are written for them.
+    pub fn qualifications(&self) -> &[Qualification]
+        ensures { result.now ≡ self.now.qualifications }
+    {
+        &self.qualifications
+    }
 
-/// What a block shows for a name.
-#[tactic(auto, unfolding(crate::specs::Scopes::shown))]
-fn shown(scopes: &Scopes, block: u32, name: &[u8]) -> Option<DeclNo>
-    ensures { result ≡ shown scopes.now block name.now }
-{
-    lookup(scopes, block, name)
-}
+    /// The attributes that are written in protection parts.
+    pub fn protections(&self) -> &[Protection]
+        ensures { result.now ≡ self.now.protections }
+    {
+        &self.protections
+    }
 
-/// The block around a block.
-#[tactic(auto, unfolding(crate::specs::Scopes::encloser))]
-pub fn encloser(scopes: &Scopes, block: u32) -> Option<u32>
-    ensures { result ≡ encloser scopes.now block }
-{
-    scopes.blocks().get(block as usize)?.around()
-}
-
-/// What a name denotes in a block: the declaration of the innermost block around that shows one.
-fn search(scopes: &Scopes, block: u32, name: &[u8]) -> Option<DeclNo>
-    ensures { result ≡ searched scopes.now (length scopes.now.blocks) block name.now }
-{
-    let mut block = block;
-    for step in 0..scopes.block_count() {
-        if let Some(declaration) = shown(scopes, block, name) {
-            return Some(declaration);
-        }
-        match encloser(scopes, block) {
-            Some(around) => block = around,
-            None => return None,
+    /// The next level of a block becomes known. A block that there isn't is let go.
+    #[tactic(auto, unfolding(crate::specs::Tables::with_base_at))]
+    pub fn set_base(&mut self, block: usize, base: Option<u32>)
+        ensures { self.new ≡ with_base_at self.old block base }
+    {
+        if let Some(row) = self.blocks.get_mut(block) {
+            row.base = base;
         }
     }
-    None
-}
 
-/// The innermost block around a token.
-#[tactic(auto, unfolding(crate::specs::Scopes::block_at))]
-pub fn block_at(scopes: &Scopes, token: TokenNo) -> Option<u32>
-    ensures { result ≡ block_at scopes.now token.0 }
-{
-    match scopes.places().get(token.0 as usize) {
-        Some(place) => *place,
-        None => None,
+    /// The prefix of a block turns out to be a standard one. A block that there isn't is let go.
+    #[tactic(auto, unfolding(crate::specs::Tables::with_standard_at))]
+    pub fn set_standard(&mut self, block: usize, which: StandardPrefix)
+        ensures { self.new ≡ with_standard_at self.old block which }
+    {
+        if let Some(row) = self.blocks.get_mut(block) {
+            row.standard = Some(which);
+        }
     }
-}
 
-/// The declaration that a name has from a block outward.
-#[tactic(auto, unfolding(crate::specs::Scopes::declaration_from))]
-fn declaration_from(scopes: &Scopes, block: Option<u32>, name: &[u8]) -> Option<DeclNo>
-    ensures { result ≡ declaration_from scopes.now block name.now }
-{
-    match block {
-        Some(block) => search(scopes, block, name),
-        None => None,
-    }
-}
-
-/// What a name denotes at a token: what the innermost block declares that declares it, else a standard name.
-#[tactic(auto, unfolding(crate::specs::Scopes::binding))]
-pub fn binding(scopes: &Scopes, token: TokenNo, name: &[u8]) -> Option<Denotation>
-    ensures { result ≡ binding scopes.now token.0 name.now }
-{
-    let block = block_at(scopes, token);
-    match declaration_from(scopes, block, name) {
-        Some(declaration) => Some(Denotation::Declared(declaration)),
-        None => standard_denotation(name),
-    }
-}
-
-/// A standard name, as what an identifier denotes.
-fn standard_denotation(name: &[u8]) -> Option<Denotation>
-    ensures { result ≡ declared_or_standard None (standard_spec name.now) }
-{
-    match standard_name(name) {
-        Some(standard) => Some(Denotation::Standard(standard)),
-        None => None,
-    }
-}
-
-/// What a declaration declares.
-#[tactic(auto, unfolding(crate::specs::Scopes::entry_of))]
-pub fn entry_of(scopes: &Scopes, declaration: DeclNo) -> Option<Entry>
-    ensures { result ≡ entry_of scopes.now declaration }
-{
-    match scopes.declarations().get(declaration.0 as usize) {
-        Some(row) => Some(row.entry),
-        None => None,
+    /// What a declaration declares becomes known. A declaration that there isn't is let go.
+    #[tactic(auto, unfolding(crate::specs::Tables::with_entry_at))]
+    pub fn set_entry(&mut self, declaration: u32, entry: Entry)
+        ensures { self.new ≡ with_entry_at self.old declaration entry }
+    {
+        if let Some(row) = self.declarations.get_mut(declaration as usize) {
+            row.entry = entry;
+        }
     }
 }

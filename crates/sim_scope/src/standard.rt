@@ -4,8 +4,79 @@ ghost use Rattle.std.specs.List.{list_any};
 ghost use Rattle.std.specs.Str.{bytes_eq};
 ghost use Rattle.sim_scope.specs.Standard.{Names, is_environment_name, is_file_or_layout, is_random_drawing, is_real_function, of_none, of_one, of_two, signature, standard_name, sysin_attribute, sysout_attribute, text_attribute, undeclared, yields};
 
-use crate::types::SimType;
+use crate::types::{SimType, StandardClass};
 use sim_base::Rule;
+
+/// An attribute of a standard class, or of `simulation`.
+#[derive(Clone, Copy, Debug, PartialEq, Eq)]
+pub enum Attribute {
+    /// `suc` of a linkage.
+    Suc,
+    /// `pred` of a linkage.
+    Pred,
+    /// `prev` of a linkage.
+    Prev,
+    /// `out` of a link.
+    Out,
+    /// `follow(x)` of a link.
+    Follow,
+    /// `precede(x)` of a link.
+    Precede,
+    /// `into(h)` of a link.
+    Into,
+    /// `first` of a head.
+    First,
+    /// `last` of a head.
+    Last,
+    /// `empty` of a head.
+    Empty,
+    /// `cardinal` of a head.
+    Cardinal,
+    /// `clear` of a head.
+    Clear,
+    /// `idle` of a process.
+    Idle,
+    /// `terminated` of a process.
+    Terminated,
+    /// `evtime` of a process.
+    Evtime,
+    /// `nextev` of a process.
+    Nextev,
+    /// `time` of a simulation.
+    Time,
+    /// `current` of a simulation.
+    Current,
+    /// `main` of a simulation.
+    Main,
+    /// `hold(t)` of a simulation.
+    Hold,
+    /// `passivate` of a simulation.
+    Passivate,
+    /// `wait(h)` of a simulation.
+    Wait,
+    /// `cancel(x)` of a simulation.
+    Cancel,
+}
+
+/// The type of a parameter or a result of an attribute. A class is one of those that the same prefix declares.
+#[derive(Clone, Copy, Debug, PartialEq, Eq)]
+pub enum StandardType {
+    /// `integer`.
+    Integer,
+    /// `boolean`.
+    Boolean,
+    /// `ref` of a standard class.
+    Ref(StandardClass),
+}
+
+/// An attribute with the class that has it. Those of `simulation` itself have none.
+#[derive(Clone, Copy, Debug, PartialEq, Eq)]
+pub struct Provided {
+    /// The class.
+    pub class: Option<StandardClass>,
+    /// The attribute.
+    pub name: Attribute,
+}
 
 /// A standard name, in the order of the table of standard names. The number of a name is its place.
 #[derive(Clone, Copy, Debug, PartialEq, Eq)]
@@ -106,6 +177,16 @@ pub enum Standard {
     Sysin,
     /// `sysout`, which stands only before a dot.
     Sysout,
+    /// `detach`: an attribute of each class, prefixed block and connection.
+    Detach,
+    /// `call(x)`.
+    Call,
+    /// `resume(x)`.
+    Resume,
+    /// `simset`: a class.
+    Simset,
+    /// `simulation`: a class.
+    Simulation,
 }
 
 /// The types of the operands and of the result of a standard name, in order. Operands are passed by value.
@@ -126,7 +207,7 @@ struct Row {
 }
 
 /// The names that are written alone.
-static NAMES_ALONE: [Row; 35] = [
+static NAMES_ALONE: [Row; 40] = [
     Row {
         name: "abs",
         standard: Standard::Abs,
@@ -266,6 +347,26 @@ static NAMES_ALONE: [Row; 35] = [
     Row {
         name: "sysout",
         standard: Standard::Sysout,
+    },
+    Row {
+        name: "detach",
+        standard: Standard::Detach,
+    },
+    Row {
+        name: "call",
+        standard: Standard::Call,
+    },
+    Row {
+        name: "resume",
+        standard: Standard::Resume,
+    },
+    Row {
+        name: "simset",
+        standard: Standard::Simset,
+    },
+    Row {
+        name: "simulation",
+        standard: Standard::Simulation,
     },
 ];
 
@@ -560,6 +661,11 @@ impl Standard {
             Standard::Length => yields(SimType::Integer),
             Standard::Sysin => of_none(),
             Standard::Sysout => of_none(),
+            Standard::Detach => of_none(),
+            Standard::Call => of_one(SimType::NoneType, None),
+            Standard::Resume => of_one(SimType::NoneType, None),
+            Standard::Simset => of_none(),
+            Standard::Simulation => of_none(),
         }
     }
 }

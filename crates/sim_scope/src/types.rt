@@ -1,5 +1,6 @@
 //! Types, parameters, and what a declared identifier is.
 
+use crate::standard::Attribute;
 use sim_base::{DeclNo, TokenNo};
 
 /// The type of a value.
@@ -89,10 +90,38 @@ pub enum Entry {
     },
     /// A formal parameter.
     Formal(Formal),
+    /// An attribute of a standard class, or of `simulation`, with the types of its parameter and its result, if it has them.
+    Attribute {
+        name: Attribute,
+        parameter: Option<SimType>,
+        result: Option<SimType>,
+    },
     /// A formal parameter that no specification names: there is none in a program that breaks no rule.
     Unspecified {
         written: Option<WrittenMode>,
     },
+}
+
+/// A prefix that each program may use, beside its own classes.
+#[derive(Clone, Copy, Debug, PartialEq, Eq)]
+pub enum StandardPrefix {
+    /// `simset`: sets.
+    Simset,
+    /// `simulation`: scheduling, and sets.
+    Simulation,
+}
+
+/// A class that `simset` or `simulation` declares in the block in front of which it stands.
+#[derive(Clone, Copy, Debug, PartialEq, Eq)]
+pub enum StandardClass {
+    /// `linkage`.
+    Linkage,
+    /// `link`, with the prefix linkage.
+    Link,
+    /// `head`, with the prefix linkage.
+    Head,
+    /// `process`, with the prefix link.
+    Process,
 }
 
 /// What a block of the tables is.
@@ -110,6 +139,8 @@ pub enum BlockKind {
     Prefixed,
     /// What is connected by `inspect`. It has no declarations of its own.
     Connection,
+    /// A standard class: its attributes.
+    StandardClass(StandardClass),
 }
 
 /// Where a statement stands.

@@ -12,7 +12,8 @@ use Rattle.sim_scope.specs.declared.types.FormalKind.TheVariants as shape
 use Rattle.sim_scope.specs.declared.types.Mode.{Mode}
 use Rattle.sim_scope.specs.declared.types.Mode.TheVariants as mode
 use Rattle.sim_scope.specs.declared.types.SimType.{SimType}
-use Rattle.sim_scope.specs.Scopes.{encloser, entry_of, formal_in}
+use Rattle.sim_scope.specs.Access.{encloser}
+use Rattle.sim_scope.specs.Scopes.{entry_of, formal_in}
 use Rattle.sim_scope.specs.Scopes as scopes
 use Rattle.sim_scope.specs.Source.{Source, block_of, denoted, line_at}
 use Rattle.sim_scope.specs.Tables.{BlockOf}
@@ -105,6 +106,11 @@ StreamIs (Some n) = IsImage n
 stream_found : (name : Found) → StreamIs (stream_named name)
 stream_found found.Sysin = tt
 stream_found found.Sysout = tt
+stream_found found.Detach = tt
+stream_found found.Call = tt
+stream_found found.Resume = tt
+stream_found found.Simset = tt
+stream_found found.Simulation = tt
 stream_found _ = tt
 
 stream_denotes : (d : Option Denotation) → StreamIs (stream_denoted d)

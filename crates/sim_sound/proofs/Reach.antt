@@ -5,7 +5,8 @@ use Rattle.sim_base.specs.declared.numbering.DeclNo.{DeclNo}
 use Rattle.sim_scope.specs.declared.scopes.Declaration.{Declaration}
 use Rattle.sim_scope.specs.declared.types.Entry.{Entry}
 use Rattle.sim_scope.specs.declared.types.Entry.TheVariants as entry
-use Rattle.sim_scope.specs.Scopes.{encloser, entry_in, entry_of}
+use Rattle.sim_scope.specs.Access.{encloser}
+use Rattle.sim_scope.specs.Scopes.{entry_in, entry_of}
 use Rattle.sim_scope.specs.Source.{Source, block_of, block_of_row, level_of}
 use Rattle.sim_tree.specs.declared.stmt.TypeName.{TypeName}
 use Rattle.sim_tree.specs.Syntax.{Heading, Statement}

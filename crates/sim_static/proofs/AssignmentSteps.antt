@@ -44,13 +44,13 @@ from_drop : {A : Type 0} (xs : List A) (i : ℕ) (x : A) → i < length xs → x
 from_drop xs i x le is = drop_more xs i x le ∙ ap (λ y. y ∷ drop (i + 1) xs) (sym is)
 
 pub lefts_next : (s : Tables) (first : Assignment) (v : Side) (f g h : Findings) (a b c : LeftSides) (ls : List LeftSide) (l m : Expr) (ps : List Assigned) (i : ℕ) (p : Assigned) (x : Side)
-    → OwesLefts s first v f a ls g b (left_sides (syntax_of l) (map right_side_syntax (drop i ps))) → i < length ps → p ≡ slice_index_or ps i p → FindsLeft s g h first p l x → c ≡ with_left p.sign v b x → m ≡ p.value
+    → OwesLefts s first v f a ls g b (left_sides (syntax_of l) (map right_side_syntax (drop i ps))) → i < length ps → p ≡ slice_index_or ps i p → FindsLeft s g h first p l x → c ≡ with_left s p.sign v b x → m ≡ p.value
     → OwesLefts s first v f a ls h c (left_sides (syntax_of m) (map right_side_syntax (drop (i + 1) ps)))
 unfolding OwesLefts FindsLeft lefts
 lefts_next s first v f g h a b c ls l m ps i p x owed le at one is same k d later =
     owed k d (judges_as
-    (judges_next (left_side s first (left_of p l)) (λ x. lefts s first v (with_left p.sign v b x) (left_sides (syntax_of p.value) (map right_side_syntax (drop (i + 1) ps)))) one
-    (judges_as later (ap (λ z. lefts s first v z (left_sides (syntax_of m) (map right_side_syntax (drop (i + 1) ps)))) is ∙ ap (λ z. lefts s first v (with_left p.sign v b x) (left_sides (syntax_of z) (map right_side_syntax (drop (i + 1) ps)))) same)))
+    (judges_next (left_side s first (left_of p l)) (λ x. lefts s first v (with_left s p.sign v b x) (left_sides (syntax_of p.value) (map right_side_syntax (drop (i + 1) ps)))) one
+    (judges_as later (ap (λ z. lefts s first v z (left_sides (syntax_of m) (map right_side_syntax (drop (i + 1) ps)))) is ∙ ap (λ z. lefts s first v (with_left s p.sign v b x) (left_sides (syntax_of z) (map right_side_syntax (drop (i + 1) ps)))) same)))
     (ap (λ z. lefts s first v b (left_sides (syntax_of l) (map right_side_syntax z))) (sym (from_drop ps i p le at))))
 
 pub lefts_end : (s : Tables) (first : Assignment) (v : Side) (f g : Findings) (b : LeftSides) (l m : Expr) (ps : List Assigned) (i : ℕ) → first ≡ first_sign (map right_side_syntax ps)

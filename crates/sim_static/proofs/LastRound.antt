@@ -7,10 +7,11 @@ use Rattle.sim_scope.specs.Runs.{Runs, run}
 use Rattle.sim_scope.specs.Statements.{judging}
 use Rattle.sim_scope.specs.Tables.{Tables}
 use Rattle.sim_scope.specs.Walk.{of_whole, program_events}
-use Rattle.sim_scope.proofs.Walks.{run_program, runs_none}
+use Rattle.sim_scope.proofs.Walks.{run_program}
 use Rattle.sim_static.specs.Check.{judged}
+use Rattle.sim_static.specs.StatementWalk.{of_program_prefix}
 
-pub rounds : (t : Tables) (n : ℕ) (f g : Findings) (p : Program) → f ≡ unknown n → Runs found f g (of_whole (judging t) p.block) → g ≡ judged n t (program_syntax p)
-unfolding judged judging Runs
-rounds t n f g p from h =
-    run_program found (judging t) f f g p (runs_none found f) h ∙ ap (λ z. run found z (program_events (judging t) (program_syntax p))) from
+pub rounds : (t : Tables) (n : ℕ) (f m g : Findings) (p : Program) → f ≡ unknown n → Runs found f m (of_program_prefix t p.prefix p.block.token.0) → Runs found m g (of_whole (judging t) p.block) → g ≡ judged n t (program_syntax p)
+unfolding judged judging Runs of_program_prefix
+rounds t n f m g p from first h =
+    run_program found (judging t) f m g p first h ∙ ap (λ z. run found z (program_events (judging t) (program_syntax p))) from

@@ -1,8 +1,10 @@
 -- The last round, construct by construct.
-use Rattle.std.proofs.Common.{◌≡◌, ◌<◌, List, [], ◌∷◌, ◌++◌, Option, refl, sym, ap, ◌∙◌, map, length}
+use Rattle.std.proofs.Common.{◌≡◌, ◌<◌, ℕ, List, [], ◌∷◌, ◌++◌, Option, Some, None, refl, sym, ap, ◌∙◌, map, length}
+use Rattle.std.specs.Prelude.{option_map}
 use Rattle.std.specs.declared.alloc.Global.{Global}
 use Rattle.std.specs.declared.boxed.Box.{Box}
 use Rattle.std.specs.declared.vec.Vec.{Vec}
+use Rattle.sim_base.specs.declared.numbering.DeclNo.{DeclNo}
 use Rattle.sim_base.specs.declared.numbering.TokenNo.{TokenNo}
 use Rattle.sim_tree.specs.declared.expr.Expr.{Expr}
 use Rattle.sim_tree.specs.declared.expr.Identifier.{Identifier}
@@ -25,12 +27,15 @@ use Rattle.sim_tree.specs.declared.stmt.ReferenceElement.TheVariants as referenc
 use Rattle.sim_tree.specs.declared.stmt.Stmt.{Stmt}
 use Rattle.sim_tree.specs.declared.stmt.Stmt.TheVariants as s
 use Rattle.sim_tree.specs.declared.stmt.Timing.{Timing}
+use Rattle.sim_tree.specs.declared.stmt.Timing.TheVariants as timing
 use Rattle.sim_tree.specs.declared.stmt.TypeName.{TypeName}
 use Rattle.sim_tree.specs.declared.stmt.Variable.{Variable}
 use Rattle.sim_tree.specs.declared.stmt.When.{When}
-use Rattle.sim_tree.specs.Syntax.{Element}
+use Rattle.sim_tree.specs.Syntax.{Element, expressions}
 use Rattle.sim_tree.specs.SyntaxOf.{FirstIs, syntax_of}
-use Rattle.sim_tree.specs.SyntaxOfProgram.{bound_pair_syntax, element_syntax, reference_element_syntax, right_side_syntax, segment_syntax}
+use Rattle.sim_tree.specs.SyntaxOfProgram.{Arm, arm_syntax, arms, bound_pair_syntax, element_syntax, prefix_syntax, reference_element_syntax, right_side_syntax, schedule_syntax, segment_syntax, timing_syntax}
+use Rattle.sim_tree.proofs.ProgramSyntaxLemmas.{syntax-when}
+use Rattle.sim_scope.specs.declared.outcome.Actuals.{Actuals}
 use Rattle.sim_scope.specs.declared.outcome.Extent.{Extent}
 use Rattle.sim_scope.specs.declared.outcome.Extent.TheVariants as extent
 use Rattle.sim_scope.specs.declared.outcome.Outcome.{Outcome}
@@ -42,17 +47,19 @@ use Rattle.sim_scope.specs.declared.types.SimType.{SimType}
 use Rattle.sim_scope.specs.declared.types.SimType.TheVariants as type
 use Rattle.sim_scope.specs.Assignments.{Nothing}
 use Rattle.sim_scope.specs.Calls.{bound}
-use Rattle.sim_scope.specs.ExpressionWalk.{Finds, FindsSide}
-use Rattle.sim_scope.specs.Expressions.{judge, judge_side}
+use Rattle.sim_scope.specs.Actuals.{no_actuals}
+use Rattle.sim_scope.specs.ExpressionWalk.{Finds, FindsActuals, FindsSide}
+use Rattle.sim_scope.specs.Expressions.{actuals, judge, judge_side}
 use Rattle.sim_scope.specs.Found.{Findings, found}
 use Rattle.sim_scope.specs.Judged.{Judged, Judges, next}
 use Rattle.sim_scope.specs.Outcomes.{called}
+use Rattle.sim_scope.specs.References.{block_of_class, class_named}
 use Rattle.sim_scope.specs.Runs.{Runs, each}
-use Rattle.sim_scope.specs.Statements.{array_events, assignment_events, call_alone, call_events, control_events, controlled, element_events, first_step, first_value, judging, needs, pair_events, required, simple, stands, starts, taken_by, variable_events}
+use Rattle.sim_scope.specs.Statements.{activate_events, activates, arm_class_fits, arm_events, arm_fits, array_events, assignment_events, call_alone, class_connected, class_prefix_events, connected_by, call_events, control_events, controlled, element_events, first_step, first_value, in_simulation, inspect_events, inspect_when_events, judging, needs, needs_reference, pair_events, prefix_at, prefix_used, prefixed_events, prefixed_with, process_at, process_events, program_prefix_events, required, schedule_events, simple, stands, starts, taken_by, variable_events}
 use Rattle.sim_scope.specs.Tables.{Tables}
-use Rattle.sim_scope.specs.Walk.{of_statement, of_branch, of_arm, of_block, of_whole, of_declaration}
+use Rattle.sim_scope.specs.Walk.{arm_classes, of_statement, of_branch, of_arm, of_block, of_whole, of_declaration}
 use Rattle.sim_scope.proofs.Walks.{runs_both, runs_as, runs_none, leads_all, leads_next, leads_end, run_empty, run_block, run_block_of_class, run_body_of_class, run_prefixed, run_inner, run_call, run_assignment, run_if, run_while, run_for, run_for_reference, run_inspect, run_inspect_when, run_activation, run_some, run_no_branch, run_arm, run_compound, run_whole_block, run_whole, run_class_body, run_variables, run_arrays, run_procedure, run_class}
-use Rattle.sim_static.specs.StatementWalk.{of_assignment, of_call, of_element, of_first_step, of_first_value, of_pair, of_reference_element, of_required, of_segment}
+use Rattle.sim_static.specs.StatementWalk.{arm_known, of_activation, of_arm_class, of_class_prefix, of_inspect, of_inspect_when, of_prefix, of_process, of_program_prefix, of_timing, of_assignment, of_call, of_element, of_first_step, of_first_value, of_pair, of_reference_element, of_required, of_segment}
 use Rattle.sim_types.proofs.Steps.{judges_as, judges_next}
 
 pub ruleset loops = (leads_all, leads_next, leads_end)
@@ -80,9 +87,9 @@ tell_call t f g h e o i n one first two =
     runs_judged f h n _ (judges_as (judges_next (judge t extent.Statement (syntax_of e)) (stands t i.0) one two) (ap (λ z. next (judge t extent.Statement (syntax_of e)) (stands t z)) first))
 
 -- For statements.
-pub tell_first_value : (t : Tables) (f g h : Findings) (a : Option SimType) (e : Expr) (x : Side) (n : Nothing) → FindsSide t extent.Statement f g x e → Judges g h n (taken_by a x) → Runs found f h (of_first_value t a e)
+pub tell_first_value : (t : Tables) (f g h : Findings) (a : Option SimType) (e : Expr) (x : Side) (n : Nothing) → FindsSide t extent.Statement f g x e → Judges g h n (taken_by t a x) → Runs found f h (of_first_value t a e)
 unfolding FindsSide of_first_value first_value
-tell_first_value t f g h a e x n one two = runs_judged f h n _ (judges_next (judge_side t extent.Statement (syntax_of e)) (taken_by a) one two)
+tell_first_value t f g h a e x n one two = runs_judged f h n _ (judges_next (judge_side t extent.Statement (syntax_of e)) (taken_by t a) one two)
 
 pub tell_first_step : (t : Tables) (f g h : Findings) (a : Option SimType) (e : Expr) (x : Side) (n : Nothing) → FindsSide t extent.Statement f g x e → Judges g h n (starts a x) → Runs found f h (of_first_step t a e)
 unfolding FindsSide of_first_step first_step
@@ -158,10 +165,102 @@ unfolding of_segment
 each-segments t [] = refl
 each-segments t (x ∷ xs) = ap (λ z. array_events t (segment_syntax x) ++ z) (each-segments t xs)
 
+-- Prefixes.
+pub tell_prefix : (t : Tables) (f g h k : Findings) (p : BlockPrefix) (i : TokenNo) (d : Option Denotation) (l : List Expr) (a : Actuals) (n : Nothing) → Judges f g d (prefix_used p.class.token.0 (prefix_at t i.0)) → l ≡ p.arguments.items
+    → FindsActuals t extent.Statement g h d no_actuals a l → Judges h k n (prefixed_with t p.class.token.0 d a) → Runs found f k (of_prefix t p i.0)
+unfolding FindsActuals of_prefix prefixed_events
+tell_prefix t f g h k p i d l a n one same two three =
+    let K = λ (xs : List Expr) (d : Option Denotation). next (actuals t extent.Statement d no_actuals (expressions (map syntax_of xs))) (prefixed_with t p.class.token.0 d) in
+    runs_judged f k n _ (judges_next (prefix_used p.class.token.0 (prefix_at t i.0)) (K p.arguments.items) one
+    (judges_as (judges_next (actuals t extent.Statement d no_actuals (expressions (map syntax_of l))) (prefixed_with t p.class.token.0 d) two three) (ap (λ xs. K xs d) same)))
+
+pub tell_program_prefix : (t : Tables) (f g : Findings) (o : Option BlockPrefix) (p : BlockPrefix) (i : TokenNo) → o ≡ Some p → Runs found f g (of_prefix t p i.0) → Runs found f g (of_program_prefix t o i.0)
+unfolding of_prefix of_program_prefix program_prefix_events
+tell_program_prefix t f g o p i is h = runs_as found f g _ _ (ap (λ z. program_prefix_events t (option_map prefix_syntax z) i.0) (sym is)) h
+
+pub tell_no_program_prefix : (t : Tables) (f : Findings) (o : Option BlockPrefix) (i : TokenNo) → o ≡ None → Runs found f f (of_program_prefix t o i.0)
+unfolding of_program_prefix program_prefix_events
+tell_no_program_prefix t f o i is = runs_as found f f [] _ (ap (λ z. program_prefix_events t (option_map prefix_syntax z) i.0) (sym is)) (runs_none found f)
+
+pub ruleset program_prefixes = (tell_program_prefix, tell_no_program_prefix)
+
+pub tell_class_prefix : (t : Tables) (f g : Findings) (o : Option Identifier) (x : Identifier) (i : TokenNo) (d : Option Denotation) → o ≡ Some x → Judges f g d (prefix_used x.token.0 (prefix_at t i.0)) → Runs found f g (of_class_prefix t o i.0)
+unfolding of_class_prefix class_prefix_events
+tell_class_prefix t f g o x i d is h = runs_as found f g _ _ (ap (λ z. class_prefix_events t z i.0) (sym is)) (runs_judged f g d _ h)
+
+pub tell_no_class_prefix : (t : Tables) (f : Findings) (o : Option Identifier) (i : TokenNo) → o ≡ None → Runs found f f (of_class_prefix t o i.0)
+unfolding of_class_prefix class_prefix_events
+tell_no_class_prefix t f o i is = runs_as found f f [] _ (ap (λ z. class_prefix_events t z i.0) (sym is)) (runs_none found f)
+
+pub ruleset class_prefixes = (tell_class_prefix, tell_no_class_prefix)
+
+-- Connections.
+pub tell_object : (t : Tables) (f g h : Findings) (i : TokenNo) (e : Expr) (x : Side) (n : Nothing) → FindsSide t extent.Statement f g x e → Judges g h n (connected_by t i.0 x) → Runs found f h (of_inspect t i.0 e)
+unfolding FindsSide of_inspect inspect_events
+tell_object t f g h i e x n one two = runs_judged f h n _ (judges_next (judge_side t extent.Statement (syntax_of e)) (connected_by t i.0) one two)
+
+pub arm_known_in_steps : (t : Tables) (f g h : Findings) (i j : TokenNo) (class : Denotation) (ty : SimType) (m n : Nothing) (b : Option ℕ) → Judges f g m (arm_class_fits t j.0 class ty) → b ≡ block_of_class t class → Judges g h n (class_connected t i.0 b)
+    → Judges f h n (arm_known t i.0 j.0 class ty)
+arm_known_in_steps t f g h i j class ty m n b one same two =
+    judges_next (arm_class_fits t j.0 class ty) (λ n. class_connected t i.0 (block_of_class t class)) one (judges_as two (ap (class_connected t i.0) same))
+
+pub tell_arm_class : (t : Tables) (f g h : Findings) (i : TokenNo) (x : Side) (w : When) (d : Option Denotation) (n : Nothing) → Judges f g d (class_named t extent.Statement w.class) → Judges g h n (arm_fits t i.0 x w.class d)
+    → Runs found f h (of_arm_class t i.0 x w)
+unfolding of_arm_class arm_events
+tell_arm_class t f g h i x w d n one two = runs_judged f h n _ (judges_next (class_named t extent.Statement w.class) (arm_fits t i.0 x w.class) one two)
+
+each-arm-classes : (t : Tables) (i : ℕ) (x : Side) (l : List When) → each (of_arm_class t i x) l ≡ each (arm_events t i x) (arm_classes (arms (map arm_syntax l)))
+unfolding of_arm_class
+each-arm-classes t i x [] = refl
+each-arm-classes t i x (w ∷ ws) =
+    ap (λ z. arm_events t i x w.class ++ z) (each-arm-classes t i x ws)
+    ∙ ap (λ (a : Arm). arm_events t i x a.class ++ each (arm_events t i x) (arm_classes (arms (map arm_syntax ws)))) (sym (syntax-when w.token w.class w.opening w.body w.end))
+
+pub tell_classes : (t : Tables) (f g h k : Findings) (i : TokenNo) (e : Expr) (x : Side) (n : Nothing) (l : List When) → FindsSide t extent.Statement f g x e → Judges g h n (needs_reference x) → Runs found h k (each (of_arm_class t i.0 x) l)
+    → Runs found f k (of_inspect_when t i.0 e l)
+unfolding FindsSide of_inspect_when inspect_when_events
+tell_classes t f g h k i e x n l one two three =
+    runs_both found f h k _ _ (runs_judged f h n _ (judges_next (judge_side t extent.Statement (syntax_of e)) needs_reference one two))
+    (runs_as found h k _ _ (each-arm-classes t i.0 x l ∙ ap (λ z. each (arm_events t i.0 z) (arm_classes (arms (map arm_syntax l)))) one.is) three)
+
+-- Activations.
+pub tell_process : (t : Tables) (f g h : Findings) (d : Option DeclNo) (e : Expr) (x : Side) (n : Nothing) → FindsSide t extent.Statement f g x e → Judges g h n (activates t d x) → Runs found f h (of_process t d e)
+unfolding FindsSide of_process process_events
+tell_process t f g h d e x n one two = runs_judged f h n _ (judges_next (judge_side t extent.Statement (syntax_of e)) (activates t d) one two)
+
+pub tell_at : (t : Tables) (f g : Findings) (d : Option DeclNo) (o : Option Timing) (z : Timing) (i : TokenNo) (e : Expr) (p : Option TokenNo) → o ≡ Some z → z ≡ timing.At i e p → Runs found f g (of_required t extent.Statement type.Integer e) → Runs found f g (of_timing t d o)
+unfolding of_timing of_required
+tell_at t f g d o z i e p is what h = runs_as found f g _ _ (ap (λ w. schedule_events t d (timing_syntax w)) (sym what) ∙ ap (λ w. schedule_events t d (schedule_syntax w)) (sym is)) h
+
+pub tell_delay : (t : Tables) (f g : Findings) (d : Option DeclNo) (o : Option Timing) (z : Timing) (i : TokenNo) (e : Expr) (p : Option TokenNo) → o ≡ Some z → z ≡ timing.Delay i e p → Runs found f g (of_required t extent.Statement type.Integer e) → Runs found f g (of_timing t d o)
+unfolding of_timing of_required
+tell_delay t f g d o z i e p is what h = runs_as found f g _ _ (ap (λ w. schedule_events t d (timing_syntax w)) (sym what) ∙ ap (λ w. schedule_events t d (schedule_syntax w)) (sym is)) h
+
+pub tell_before : (t : Tables) (f g : Findings) (d : Option DeclNo) (o : Option Timing) (z : Timing) (i : TokenNo) (e : Expr) → o ≡ Some z → z ≡ timing.Before i e → Runs found f g (of_process t d e) → Runs found f g (of_timing t d o)
+unfolding of_timing of_process
+tell_before t f g d o z i e is what h = runs_as found f g _ _ (ap (λ w. schedule_events t d (timing_syntax w)) (sym what) ∙ ap (λ w. schedule_events t d (schedule_syntax w)) (sym is)) h
+
+pub tell_after : (t : Tables) (f g : Findings) (d : Option DeclNo) (o : Option Timing) (z : Timing) (i : TokenNo) (e : Expr) → o ≡ Some z → z ≡ timing.After i e → Runs found f g (of_process t d e) → Runs found f g (of_timing t d o)
+unfolding of_timing of_process
+tell_after t f g d o z i e is what h = runs_as found f g _ _ (ap (λ w. schedule_events t d (timing_syntax w)) (sym what) ∙ ap (λ w. schedule_events t d (schedule_syntax w)) (sym is)) h
+
+pub tell_now : (t : Tables) (f : Findings) (d : Option DeclNo) (o : Option Timing) → o ≡ None → Runs found f f (of_timing t d o)
+unfolding of_timing
+tell_now t f d o is = runs_as found f f [] _ (ap (λ w. schedule_events t d (schedule_syntax w)) (sym is)) (runs_none found f)
+
+pub ruleset timings = (tell_at, tell_delay, tell_before, tell_after, tell_now)
+
+pub tell_activated : (t : Tables) (f g h k : Findings) (i : TokenNo) (e : Expr) (z : Option Timing) (d : Option DeclNo) → d ≡ process_at t i.0 → Runs found f g (in_simulation i.0 d) → Runs found g h (of_process t d e) → Runs found h k (of_timing t d z)
+    → Runs found f k (of_activation t i.0 e z)
+unfolding of_process of_timing of_activation activate_events
+tell_activated t f g h k i e z d is one two three =
+    runs_as found f k _ _ (ap (λ d. in_simulation i.0 d ++ (process_events t d (syntax_of e) ++ schedule_events t d (schedule_syntax z))) is)
+    (runs_both found f g k _ _ one (runs_both found g h k _ _ two three))
+
 -- Statements.
-pub tell_prefixed : (t : Tables) (b c : Findings) (p : Position) (x : Stmt) (q : BlockPrefix) (k : Block) → x ≡ s.PrefixedBlock q k → Runs found b c (of_whole (judging t) k) → Runs found b c (of_statement (judging t) p x)
-unfolding judging
-tell_prefixed t b c p x q k is h = run_prefixed found (judging t) b b c p x q k is (runs_none found b) h
+pub tell_prefixed : (t : Tables) (b m c : Findings) (p : Position) (x : Stmt) (q : BlockPrefix) (k : Block) → x ≡ s.PrefixedBlock q k → Runs found b m (of_prefix t q k.token.0) → Runs found m c (of_whole (judging t) k) → Runs found b c (of_statement (judging t) p x)
+unfolding judging of_prefix
+tell_prefixed t b m c p x q k is f h = run_prefixed found (judging t) b m c p x q k is f h
 
 pub tell_inner : (t : Tables) (b : Findings) (p : Position) (x : Stmt) (i : TokenNo) → x ≡ s.Inner i → Runs found b b (of_statement (judging t) p x)
 unfolding judging
@@ -176,9 +275,9 @@ unfolding judging of_assignment
 tell_assigned t b c p x e v l is same h =
     run_assignment found (judging t) b c p x e v is (runs_as found b c _ _ (ap (λ z. assignment_events t (syntax_of e) (map right_side_syntax z)) same) h)
 
-pub tell_activation : (t : Tables) (b : Findings) (p : Position) (x : Stmt) (i : TokenNo) (w : Activation) (e : Expr) (z : Option Timing) → x ≡ s.Activation i w e z → Runs found b b (of_statement (judging t) p x)
-unfolding judging
-tell_activation t b p x i w e z is = run_activation found (judging t) b b p x i w e z is (runs_none found b)
+pub tell_activation : (t : Tables) (b c : Findings) (p : Position) (x : Stmt) (i : TokenNo) (w : Activation) (e : Expr) (z : Option Timing) → x ≡ s.Activation i w e z → Runs found b c (of_activation t i.0 e z) → Runs found b c (of_statement (judging t) p x)
+unfolding judging of_activation
+tell_activation t b c p x i w e z is h = run_activation found (judging t) b c p x i w e z is h
 
 pub tell_if : (t : Tables) (b n m c : Findings) (p : Position) (x y : Stmt) (i : TokenNo) (e : Expr) (a : Box Stmt Global) (o : Option (Box Stmt Global)) → x ≡ s.If i e a o → Runs found b n (of_required t extent.Statement type.Boolean e)
     → y ≡ a.value → Runs found n m (of_statement (judging t) Inside y) → Runs found m c (of_branch (judging t) o) → Runs found b c (of_statement (judging t) p x)
@@ -202,16 +301,18 @@ unfolding judging
 tell_for_reference t b n c p x y i q j v l a is list f same g =
     run_for_reference found (judging t) b n c p x y i q j v a is (runs_as found b n _ _ (ap (λ z. control_events t q assignment.Reference (map reference_element_syntax z)) list) f) same g
 
-pub tell_inspect : (t : Tables) (b m c : Findings) (p : Position) (x y : Stmt) (i : TokenNo) (e : Expr) (j : TokenNo) (a : Box Stmt Global) (f : TokenNo) (w : Option (Box Stmt Global)) → x ≡ s.Inspect i e j a f w
-    → y ≡ a.value → Runs found b m (of_statement (judging t) Inside y) → Runs found m c (of_branch (judging t) w) → Runs found b c (of_statement (judging t) p x)
-unfolding judging
-tell_inspect t b m c p x y i e j a f w is same g h =
-    run_inspect found (judging t) b b b m m c p x y i e j a f w is (runs_none found b) (runs_none found b) same g (runs_none found m) h
+pub tell_inspect : (t : Tables) (b k m c : Findings) (p : Position) (x y : Stmt) (i : TokenNo) (e : Expr) (j : TokenNo) (a : Box Stmt Global) (f : TokenNo) (w : Option (Box Stmt Global)) → x ≡ s.Inspect i e j a f w
+    → Runs found b k (of_inspect t i.0 e) → y ≡ a.value → Runs found k m (of_statement (judging t) Inside y) → Runs found m c (of_branch (judging t) w) → Runs found b c (of_statement (judging t) p x)
+unfolding judging of_inspect
+tell_inspect t b k m c p x y i e j a f w is one same g h =
+    run_inspect found (judging t) b k k m m c p x y i e j a f w is one (runs_none found k) same g (runs_none found m) h
 
-pub tell_inspect_when : (t : Tables) (b m c : Findings) (p : Position) (x : Stmt) (l : List When) (i : TokenNo) (e : Expr) (a : Vec When Global) (w : Option (Box Stmt Global)) → x ≡ s.InspectWhen i e a w → l ≡ a.items
-    → Runs found b m (each (of_arm (judging t)) l) → Runs found m c (of_branch (judging t) w) → Runs found b c (of_statement (judging t) p x)
-unfolding judging
-tell_inspect_when t b m c p x l i e a w is same g h = run_inspect_when found (judging t) b b m c p x l i e a w is (runs_none found b) same g h
+pub tell_inspect_when : (t : Tables) (b k m c : Findings) (p : Position) (x : Stmt) (l ls : List When) (i : TokenNo) (e : Expr) (a : Vec When Global) (w : Option (Box Stmt Global)) → x ≡ s.InspectWhen i e a w → ls ≡ a.items
+    → Runs found b k (of_inspect_when t i.0 e ls) → l ≡ a.items → Runs found k m (each (of_arm (judging t)) l) → Runs found m c (of_branch (judging t) w) → Runs found b c (of_statement (judging t) p x)
+unfolding judging of_inspect_when
+tell_inspect_when t b k m c p x l ls i e a w is list one same g h =
+    run_inspect_when found (judging t) b k m c p x l i e a w is
+    (runs_as found b k _ _ (ap (λ z. inspect_when_events t i.0 (syntax_of e) (arm_classes (arms (map arm_syntax z)))) list) one) same g h
 
 pub tell_arm : (t : Tables) (b c : Findings) (w : When) → Runs found b c (of_statement (judging t) Inside w.body) → Runs found b c (of_arm (judging t) w)
 unfolding judging
@@ -245,9 +346,9 @@ pub tell_procedure : (t : Tables) (b c : Findings) (x : Decl) (r : Option TypeNa
 unfolding judging
 tell_procedure t b c x r i q y is same h = run_procedure found (judging t) b b c c x r i q y is (runs_none found b) same h (runs_none found c)
 
-pub tell_class : (t : Tables) (b c : Findings) (x : Decl) (r : Option Identifier) (i : TokenNo) (q : Class) (y : Stmt) → x ≡ d.Class r i q → y ≡ q.body.value → Runs found b c (of_statement (judging t) ClassBody y)
-    → Runs found b c (of_declaration (judging t) x)
-unfolding judging
-tell_class t b c x r i q y is same h = run_class found (judging t) b b c c x r i q y is (runs_none found b) same h (runs_none found c)
+pub tell_class : (t : Tables) (b m c : Findings) (x : Decl) (r : Option Identifier) (i : TokenNo) (q : Class) (y : Stmt) → x ≡ d.Class r i q → Runs found b m (of_class_prefix t r q.name.token.0) → y ≡ q.body.value
+    → Runs found m c (of_statement (judging t) ClassBody y) → Runs found b c (of_declaration (judging t) x)
+unfolding judging of_class_prefix
+tell_class t b m c x r i q y is f same h = run_class found (judging t) b m c c x r i q y is f same h (runs_none found c)
 
 pub ruleset tellings = (run_empty, run_block, run_block_of_class, run_body_of_class, run_some, run_no_branch, run_compound, run_class_body, leads_all, leads_next, leads_end, tell_prefixed, tell_inner, tell_called, tell_assigned, tell_activation, tell_if, tell_while, tell_for, tell_for_reference, tell_inspect, tell_inspect_when, tell_arm, tell_block, tell_whole, tell_variables, tell_arrays, tell_procedure, tell_class)

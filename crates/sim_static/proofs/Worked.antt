@@ -1,41 +1,53 @@
 -- Small sources, judged by the static rules.
-use Rattle.std.proofs.Common.{◌≡◌, Bool, true, false, length, Some, refl, ap, ◌∙◌, if◌then◌else◌}
+use Rattle.std.proofs.Common.{◌≡◌, Bool, true, false, Some, refl, ap, ◌∙◌, if◌then◌else◌}
 use Rattle.std.specs.Prelude.{nat_eq}
 use Rattle.std.specs.List.{list_any}
 use Rattle.std.specs.Str.{bytes_eq}
 use Rattle.sim_base.specs.declared.rule.Rule.TheVariants as r
 use Rattle.sim_tree.specs.declared.expr.Identifier.{Identifier}
-use Rattle.prefix_bind.specs.Cells.{cells_of, least_overfull, noted, overfull}
-use Rattle.sim_scope.specs.Breaks.{at, row_breaks, where_true}
+use Rattle.sim_scope.specs.declared.types.Entry.{Entry}
+use Rattle.sim_scope.specs.Breaks.{again_breaks, at, counting_breaks, row_breaks, where_true}
 use Rattle.sim_scope.specs.Building.{BuildingOf}
+use Rattle.sim_scope.specs.Scopes.{declared_in}
 use Rattle.sim_scope.specs.Tables.{BlockOf}
-use Rattle.sim_scope.specs.Actuals.{parameter_at, as_value, actual, with_actual, more}
-use Rattle.sim_scope.specs.Assignments.{fine, wrong, no_target, targets, assigned_to, call_assigned, target, sign_agrees, with_left, lefts, compared, assigned}
-use Rattle.sim_scope.specs.Building.{default_mode, mode_allowed, marked}
-use Rattle.sim_scope.specs.Calls.{is_barred, bound, attribute_of_value, attribute_by_value, attribute, is_inside, alone, resulting, element_of, applied, used}
-use Rattle.sim_scope.specs.Declare.{type_named, result_named, mode_named, first_of_procedure, first_of_class, variable_marks, array_marks, parameter_marks, moded_marks, specified_marks, headed_marks, procedure_marks, class_marks, virtual_name_marks, program_marks, inner_marks, declaring, of_segment, of_mode_part, of_specification, of_specifier, of_virtual, of_heading, declared_by}
-use Rattle.sim_scope.specs.Expressions.{judge, actuals}
-use Rattle.sim_scope.specs.Found.{precedes, found}
-use Rattle.sim_scope.specs.Judged.{gives, telling, next}
-use Rattle.sim_scope.specs.Operators.{operands_fit}
-use Rattle.sim_scope.specs.Outcomes.{has, varies, breaks, called, value_of, valued, side, parenthesized, in_parentheses, two, one, three}
+use Rattle.sim_scope.specs.Access.{accessible, block_at, encloser, hides, is_kind, is_open, names_hidden, opens, protector, protector_of, protects, some_around, some_around_of}
+use Rattle.sim_scope.specs.Along.{first_along, some_along}
+use Rattle.sim_scope.specs.Actuals.{actual, as_value, more, parameter_at, with_actual}
+use Rattle.sim_scope.specs.Assignments.{assigned, assigned_to, call_assigned, compared, fine, lefts, no_target, sign_agrees, target, targets, with_left, wrong}
+use Rattle.sim_scope.specs.Breaks.{all_breaks, breaks, broken_by}
+use Rattle.sim_scope.specs.Building.{default_mode, marked, mode_allowed}
+use Rattle.sim_scope.specs.Calls.{alone, applied, attribute, attribute_by_value, attribute_in, attribute_missing, attribute_of_value, bound, element_of, in_its_match, is_barred, is_inside, remote, resulting, used}
+use Rattle.sim_scope.specs.Declare.{array_marks, brings_class, brought_marks, class_marks, class_prefix_marks, declared_by, declaring, first_of_class, first_of_procedure, headed_marks, inner_marks, marks_of_standard, mode_named, moded_marks, parameter_marks, prefix_marks, prefixed_marks, procedure_marks, program_marks, protected_marks, provides_attribute, qualified_marks, qualified_result, result_named, specified_marks, standard_marks, type_named, variable_marks, virtual_name_marks}
+use Rattle.sim_scope.specs.Expressions.{actuals, judge}
+use Rattle.sim_scope.specs.Found.{found, precedes}
+use Rattle.sim_scope.specs.Judged.{gives, next, telling}
+use Rattle.sim_scope.specs.Levels.{base, class_block, has_classes, has_level, has_standard, holds_class, is_for_prefixing, is_in_chain, is_simulation_block, on_one_chain, shared_class, simulation_level_of, some_level_of}
+use Rattle.sim_scope.specs.Operators.{common_type, misfit_of, operands_fit}
+use Rattle.sim_scope.specs.Outcomes.{breaks as breaks_outcomes, called, has, in_parentheses, one, parenthesized, side, three, two, value_of, valued, varies}
+use Rattle.sim_scope.specs.References.{as_class, class_named, is_only_prefix, is_this, member, new_object, qualified, this_barred, this_block, this_object, this_of}
 use Rattle.sim_scope.specs.Runs.{run}
-use Rattle.sim_scope.specs.Scopes.{lookup, shown, encloser, searched, block_at, declaration_from, binding, entry_of, formals_of, formal_of, result_of}
-use Rattle.sim_scope.specs.Standard.{standard_name, text_attribute, sysin_attribute, sysout_attribute, signature, is_real_function, is_random_drawing, is_file_or_layout, is_environment_name, undeclared}
-use Rattle.sim_scope.specs.Statements.{needs, required, stands, call_events, assignment_events, simple, controlled, taken_by, starts, first_value, first_step, control_events, variable_events, judging}
+use Rattle.sim_scope.specs.Scopes.{binding, brought_by, class_formal, class_formals, class_formals_of, declaration_from, ends_search, entry_of, formal_of, formals_of, is_detach, is_passed_over, level_shows, lookup, outward, represented, searched, shown, shown_of, standard_at, virtual_of}
+use Rattle.sim_scope.specs.Standard.{is_environment_name, is_file_or_layout, is_random_drawing, is_real_function, is_standard_class, signature, standard_name, standard_prefix, sysin_attribute, sysout_attribute, text_attribute, undeclared}
+use Rattle.sim_scope.specs.Statements.{activate_events, activates, arm_events, arm_fits, assignment_events, call_events, class_prefix_events, connected_by, control_events, controlled, first_step, first_value, inspect_events, inspect_when_events, judging, needs, needs_reference, prefix_at, prefixed_events, prefixed_with, process_at, process_events, program_prefix_events, required, simple, simulation_of, stands, starts, taken_by, variable_events}
+use Rattle.sim_scope.specs.Tables.{with_base_at, with_entry_at, with_standard_at}
 use Rattle.sim_scope.specs.Walk.{program_events}
-use Rattle.sim_static.specs.Check.{answer, judged}
-use Rattle.sim_static.specs.Examples.{Bodies, Declared, LeftOut, WorkedRules}
+use Rattle.prefix_bind.specs.Cells.{cells_of}
+use Rattle.prefix_bind.specs.Prefixes.{block_prefixed, deepest, faults_of, has_wrong_prefix, is_in_own_chain, least_of, level_cells, level_cells_of, level_prefixed, noted, prefix_faults, prefix_of, prefixed, row_faults}
+use Rattle.virtual_match.specs.Matching.{match_faults, match_of, name_of, virtual_for}
+use Rattle.virtual_match.specs.Protections.{protection_faults, second_faults}
+use Rattle.virtual_match.specs.Qualifying.{class_written, entry_to, qualification_faults, qualified as qualified_qualifying, with_qualification}
+use Rattle.inspect_types.specs.Connecting.{connected, connecting, connections}
+use Rattle.sim_static.specs.Check.{answer, completed, judged}
+use Rattle.sim_static.specs.Examples.{Bodies, Classes, Declared, LeftOut, Objects, WorkedRules}
 
 -- a new identifier in a row of a block
-new : (x : Identifier) (old : BuildingOf) (row : BlockOf) (b : Bool) → list_any (bytes_eq x.name) row.names ≡ false → nat_eq (length old.tables.declarations) 65535 ≡ b
-    → row_breaks old x (Some row) ≡ where_true b x.token.0 r.TooManyDeclarations
-new x old row b is many =
-    ap (λ c. if c then at x.token.0 r.DeclaredTwice else where_true (nat_eq (length old.tables.declarations) 65535) x.token.0 r.TooManyDeclarations) is
-    ∙ ap (λ c. where_true c x.token.0 r.TooManyDeclarations) many
+new : (x : Identifier) (e : Entry) (old : BuildingOf) (row : BlockOf) (b : Bool) → list_any (bytes_eq x.name) row.names ≡ false → nat_eq old.own 65535 ≡ b
+    → row_breaks old x e (Some row) ≡ where_true b x.token.0 r.TooManyDeclarations
+new x e old row b is many =
+    ap (λ c. if c then again_breaks old x e (declared_in (Some row) x.name) else counting_breaks old x) is ∙ ap (λ c. where_true c x.token.0 r.TooManyDeclarations) many
 
 declared_rules : Declared
-unfolding parameter_at as_value actual with_actual more fine wrong no_target targets assigned_to call_assigned target sign_agrees with_left lefts compared assigned default_mode mode_allowed marked is_barred bound attribute_of_value attribute_by_value attribute is_inside alone resulting element_of applied used type_named result_named mode_named first_of_procedure first_of_class variable_marks array_marks parameter_marks moded_marks specified_marks headed_marks procedure_marks class_marks virtual_name_marks program_marks inner_marks declaring of_segment of_mode_part of_specification of_specifier of_virtual of_heading declared_by judge actuals precedes found gives telling next operands_fit has varies breaks called value_of valued side parenthesized in_parentheses two one three run lookup shown encloser searched block_at declaration_from binding entry_of formals_of formal_of result_of standard_name text_attribute sysin_attribute sysout_attribute signature is_real_function is_random_drawing is_file_or_layout is_environment_name undeclared needs required stands call_events assignment_events simple controlled taken_by starts first_value first_step control_events variable_events judging program_events answer judged cells_of least_overfull noted overfull
+unfolding accessible block_at encloser hides is_kind is_open names_hidden opens protector protector_of protects some_around some_around_of first_along some_along actual as_value more parameter_at with_actual assigned assigned_to call_assigned compared fine lefts no_target sign_agrees target targets with_left wrong all_breaks breaks broken_by default_mode marked mode_allowed alone applied attribute attribute_by_value attribute_in attribute_missing attribute_of_value bound element_of in_its_match is_barred is_inside remote resulting used array_marks brings_class brought_marks class_marks class_prefix_marks declared_by declaring first_of_class first_of_procedure headed_marks inner_marks marks_of_standard mode_named moded_marks parameter_marks prefix_marks prefixed_marks procedure_marks program_marks protected_marks provides_attribute qualified_marks qualified_result result_named specified_marks standard_marks type_named variable_marks virtual_name_marks actuals judge found precedes gives next telling base class_block has_classes has_level has_standard holds_class is_for_prefixing is_in_chain is_simulation_block on_one_chain shared_class simulation_level_of some_level_of common_type misfit_of operands_fit breaks_outcomes called has in_parentheses one parenthesized side three two value_of valued varies as_class class_named is_only_prefix is_this member new_object qualified this_barred this_block this_object this_of run binding brought_by class_formal class_formals class_formals_of declaration_from ends_search entry_of formal_of formals_of is_detach is_passed_over level_shows lookup outward represented searched shown shown_of standard_at virtual_of is_environment_name is_file_or_layout is_random_drawing is_real_function is_standard_class signature standard_name standard_prefix sysin_attribute sysout_attribute text_attribute undeclared activate_events activates arm_events arm_fits assignment_events call_events class_prefix_events connected_by control_events controlled first_step first_value inspect_events inspect_when_events judging needs needs_reference prefix_at prefixed_events prefixed_with process_at process_events program_prefix_events required simple simulation_of stands starts taken_by variable_events with_base_at with_entry_at with_standard_at program_events cells_of block_prefixed deepest faults_of has_wrong_prefix is_in_own_chain least_of level_cells level_cells_of level_prefixed noted prefix_faults prefix_of prefixed row_faults match_faults match_of name_of virtual_for protection_faults second_faults class_written entry_to qualification_faults qualified_qualifying with_qualification connected connecting connections answer completed judged
 declared_rules = record {
   twice = refl;
   once = refl;
@@ -47,12 +59,12 @@ declared_rules = record {
   deep = refl;
   too_large = refl;
   large = refl;
-  too_many = λ x old row is many. new x old row true is (ap (λ n. nat_eq n 65535) many);
-  many = λ x old row is many. new x old row false is (ap (λ n. nat_eq n 65535) many);
+  too_many = λ x e old row is many. new x e old row true is (ap (λ n. nat_eq n 65535) many);
+  many = λ x e old row is many. new x e old row false is (ap (λ n. nat_eq n 65535) many);
 }
 
 body_rules : Bodies
-unfolding parameter_at as_value actual with_actual more fine wrong no_target targets assigned_to call_assigned target sign_agrees with_left lefts compared assigned default_mode mode_allowed marked is_barred bound attribute_of_value attribute_by_value attribute is_inside alone resulting element_of applied used type_named result_named mode_named first_of_procedure first_of_class variable_marks array_marks parameter_marks moded_marks specified_marks headed_marks procedure_marks class_marks virtual_name_marks program_marks inner_marks declaring of_segment of_mode_part of_specification of_specifier of_virtual of_heading declared_by judge actuals precedes found gives telling next operands_fit has varies breaks called value_of valued side parenthesized in_parentheses two one three run lookup shown encloser searched block_at declaration_from binding entry_of formals_of formal_of result_of standard_name text_attribute sysin_attribute sysout_attribute signature is_real_function is_random_drawing is_file_or_layout is_environment_name undeclared needs required stands call_events assignment_events simple controlled taken_by starts first_value first_step control_events variable_events judging program_events answer judged cells_of least_overfull noted overfull
+unfolding accessible block_at encloser hides is_kind is_open names_hidden opens protector protector_of protects some_around some_around_of first_along some_along actual as_value more parameter_at with_actual assigned assigned_to call_assigned compared fine lefts no_target sign_agrees target targets with_left wrong all_breaks breaks broken_by default_mode marked mode_allowed alone applied attribute attribute_by_value attribute_in attribute_missing attribute_of_value bound element_of in_its_match is_barred is_inside remote resulting used array_marks brings_class brought_marks class_marks class_prefix_marks declared_by declaring first_of_class first_of_procedure headed_marks inner_marks marks_of_standard mode_named moded_marks parameter_marks prefix_marks prefixed_marks procedure_marks program_marks protected_marks provides_attribute qualified_marks qualified_result result_named specified_marks standard_marks type_named variable_marks virtual_name_marks actuals judge found precedes gives next telling base class_block has_classes has_level has_standard holds_class is_for_prefixing is_in_chain is_simulation_block on_one_chain shared_class simulation_level_of some_level_of common_type misfit_of operands_fit breaks_outcomes called has in_parentheses one parenthesized side three two value_of valued varies as_class class_named is_only_prefix is_this member new_object qualified this_barred this_block this_object this_of run binding brought_by class_formal class_formals class_formals_of declaration_from ends_search entry_of formal_of formals_of is_detach is_passed_over level_shows lookup outward represented searched shown shown_of standard_at virtual_of is_environment_name is_file_or_layout is_random_drawing is_real_function is_standard_class signature standard_name standard_prefix sysin_attribute sysout_attribute text_attribute undeclared activate_events activates arm_events arm_fits assignment_events call_events class_prefix_events connected_by control_events controlled first_step first_value inspect_events inspect_when_events judging needs needs_reference prefix_at prefixed_events prefixed_with process_at process_events program_prefix_events required simple simulation_of stands starts taken_by variable_events with_base_at with_entry_at with_standard_at program_events cells_of block_prefixed deepest faults_of has_wrong_prefix is_in_own_chain least_of level_cells level_cells_of level_prefixed noted prefix_faults prefix_of prefixed row_faults match_faults match_of name_of virtual_for protection_faults second_faults class_written entry_to qualification_faults qualified_qualifying with_qualification connected connecting connections answer completed judged
 body_rules = record {
   undeclared = refl;
   declared = refl;
@@ -75,8 +87,58 @@ body_rules = record {
   a_stream_alone = refl;
 }
 
+class_rules : Classes
+unfolding accessible block_at encloser hides is_kind is_open names_hidden opens protector protector_of protects some_around some_around_of first_along some_along actual as_value more parameter_at with_actual assigned assigned_to call_assigned compared fine lefts no_target sign_agrees target targets with_left wrong all_breaks breaks broken_by default_mode marked mode_allowed alone applied attribute attribute_by_value attribute_in attribute_missing attribute_of_value bound element_of in_its_match is_barred is_inside remote resulting used array_marks brings_class brought_marks class_marks class_prefix_marks declared_by declaring first_of_class first_of_procedure headed_marks inner_marks marks_of_standard mode_named moded_marks parameter_marks prefix_marks prefixed_marks procedure_marks program_marks protected_marks provides_attribute qualified_marks qualified_result result_named specified_marks standard_marks type_named variable_marks virtual_name_marks actuals judge found precedes gives next telling base class_block has_classes has_level has_standard holds_class is_for_prefixing is_in_chain is_simulation_block on_one_chain shared_class simulation_level_of some_level_of common_type misfit_of operands_fit breaks_outcomes called has in_parentheses one parenthesized side three two value_of valued varies as_class class_named is_only_prefix is_this member new_object qualified this_barred this_block this_object this_of run binding brought_by class_formal class_formals class_formals_of declaration_from ends_search entry_of formal_of formals_of is_detach is_passed_over level_shows lookup outward represented searched shown shown_of standard_at virtual_of is_environment_name is_file_or_layout is_random_drawing is_real_function is_standard_class signature standard_name standard_prefix sysin_attribute sysout_attribute text_attribute undeclared activate_events activates arm_events arm_fits assignment_events call_events class_prefix_events connected_by control_events controlled first_step first_value inspect_events inspect_when_events judging needs needs_reference prefix_at prefixed_events prefixed_with process_at process_events program_prefix_events required simple simulation_of stands starts taken_by variable_events with_base_at with_entry_at with_standard_at program_events cells_of block_prefixed deepest faults_of has_wrong_prefix is_in_own_chain least_of level_cells level_cells_of level_prefixed noted prefix_faults prefix_of prefixed row_faults match_faults match_of name_of virtual_for protection_faults second_faults class_written entry_to qualification_faults qualified_qualifying with_qualification connected connecting connections answer completed judged
+class_rules = record {
+  no_prefix = refl;
+  a_prefix = refl;
+  its_own_prefix = refl;
+  inner_alone = refl;
+  an_inner = refl;
+  no_qualification = refl;
+  a_qualification = refl;
+  an_attribute_of_the_connected = refl;
+  no_match = refl;
+  a_match = refl;
+  no_attribute = refl;
+  an_attribute = refl;
+  not_protected = refl;
+  not_accessible = refl;
+  accessible = refl;
+  another_chain = refl;
+  the_same_class = refl;
+  class_with_classes = refl;
+  class_without = refl;
+  seen_inside = refl;
+  seen_in_an_arm = refl;
+  this_outside = refl;
+  this_inside = refl;
+  no_simulation = refl;
+  a_simulation = refl;
+  only_a_prefix = refl;
+  a_generation = refl;
+}
+
+object_rules : Objects
+unfolding accessible block_at encloser hides is_kind is_open names_hidden opens protector protector_of protects some_around some_around_of first_along some_along actual as_value more parameter_at with_actual assigned assigned_to call_assigned compared fine lefts no_target sign_agrees target targets with_left wrong all_breaks breaks broken_by default_mode marked mode_allowed alone applied attribute attribute_by_value attribute_in attribute_missing attribute_of_value bound element_of in_its_match is_barred is_inside remote resulting used array_marks brings_class brought_marks class_marks class_prefix_marks declared_by declaring first_of_class first_of_procedure headed_marks inner_marks marks_of_standard mode_named moded_marks parameter_marks prefix_marks prefixed_marks procedure_marks program_marks protected_marks provides_attribute qualified_marks qualified_result result_named specified_marks standard_marks type_named variable_marks virtual_name_marks actuals judge found precedes gives next telling base class_block has_classes has_level has_standard holds_class is_for_prefixing is_in_chain is_simulation_block on_one_chain shared_class simulation_level_of some_level_of common_type misfit_of operands_fit breaks_outcomes called has in_parentheses one parenthesized side three two value_of valued varies as_class class_named is_only_prefix is_this member new_object qualified this_barred this_block this_object this_of run binding brought_by class_formal class_formals class_formals_of declaration_from ends_search entry_of formal_of formals_of is_detach is_passed_over level_shows lookup outward represented searched shown shown_of standard_at virtual_of is_environment_name is_file_or_layout is_random_drawing is_real_function is_standard_class signature standard_name standard_prefix sysin_attribute sysout_attribute text_attribute undeclared activate_events activates arm_events arm_fits assignment_events call_events class_prefix_events connected_by control_events controlled first_step first_value inspect_events inspect_when_events judging needs needs_reference prefix_at prefixed_events prefixed_with process_at process_events program_prefix_events required simple simulation_of stands starts taken_by variable_events with_base_at with_entry_at with_standard_at program_events cells_of block_prefixed deepest faults_of has_wrong_prefix is_in_own_chain least_of level_cells level_cells_of level_prefixed noted prefix_faults prefix_of prefixed row_faults match_faults match_of name_of virtual_for protection_faults second_faults class_written entry_to qualification_faults qualified_qualifying with_qualification connected connecting connections answer completed judged
+object_rules = record {
+  block_of_link = refl;
+  class_of_link = refl;
+  detach_outside = refl;
+  detach_inside = refl;
+  hidden_further_in = refl;
+  protected_further_in = refl;
+  a_number_connected = refl;
+  prefix_with_actuals = refl;
+  arm_of_another_chain = refl;
+  arm_of_a_subclass = refl;
+  no_process = refl;
+  remote_class_with_classes = refl;
+  virtual_called = refl;
+}
+
 left_out_rules : LeftOut
-unfolding parameter_at as_value actual with_actual more fine wrong no_target targets assigned_to call_assigned target sign_agrees with_left lefts compared assigned default_mode mode_allowed marked is_barred bound attribute_of_value attribute_by_value attribute is_inside alone resulting element_of applied used type_named result_named mode_named first_of_procedure first_of_class variable_marks array_marks parameter_marks moded_marks specified_marks headed_marks procedure_marks class_marks virtual_name_marks program_marks inner_marks declaring of_segment of_mode_part of_specification of_specifier of_virtual of_heading declared_by judge actuals precedes found gives telling next operands_fit has varies breaks called value_of valued side parenthesized in_parentheses two one three run lookup shown encloser searched block_at declaration_from binding entry_of formals_of formal_of result_of standard_name text_attribute sysin_attribute sysout_attribute signature is_real_function is_random_drawing is_file_or_layout is_environment_name undeclared needs required stands call_events assignment_events simple controlled taken_by starts first_value first_step control_events variable_events judging program_events answer judged cells_of least_overfull noted overfull
+unfolding accessible block_at encloser hides is_kind is_open names_hidden opens protector protector_of protects some_around some_around_of first_along some_along actual as_value more parameter_at with_actual assigned assigned_to call_assigned compared fine lefts no_target sign_agrees target targets with_left wrong all_breaks breaks broken_by default_mode marked mode_allowed alone applied attribute attribute_by_value attribute_in attribute_missing attribute_of_value bound element_of in_its_match is_barred is_inside remote resulting used array_marks brings_class brought_marks class_marks class_prefix_marks declared_by declaring first_of_class first_of_procedure headed_marks inner_marks marks_of_standard mode_named moded_marks parameter_marks prefix_marks prefixed_marks procedure_marks program_marks protected_marks provides_attribute qualified_marks qualified_result result_named specified_marks standard_marks type_named variable_marks virtual_name_marks actuals judge found precedes gives next telling base class_block has_classes has_level has_standard holds_class is_for_prefixing is_in_chain is_simulation_block on_one_chain shared_class simulation_level_of some_level_of common_type misfit_of operands_fit breaks_outcomes called has in_parentheses one parenthesized side three two value_of valued varies as_class class_named is_only_prefix is_this member new_object qualified this_barred this_block this_object this_of run binding brought_by class_formal class_formals class_formals_of declaration_from ends_search entry_of formal_of formals_of is_detach is_passed_over level_shows lookup outward represented searched shown shown_of standard_at virtual_of is_environment_name is_file_or_layout is_random_drawing is_real_function is_standard_class signature standard_name standard_prefix sysin_attribute sysout_attribute text_attribute undeclared activate_events activates arm_events arm_fits assignment_events call_events class_prefix_events connected_by control_events controlled first_step first_value inspect_events inspect_when_events judging needs needs_reference prefix_at prefixed_events prefixed_with process_at process_events program_prefix_events required simple simulation_of stands starts taken_by variable_events with_base_at with_entry_at with_standard_at program_events cells_of block_prefixed deepest faults_of has_wrong_prefix is_in_own_chain least_of level_cells level_cells_of level_prefixed noted prefix_faults prefix_of prefixed row_faults match_faults match_of name_of virtual_for protection_faults second_faults class_written entry_to qualification_faults qualified_qualifying with_qualification connected connecting connections answer completed judged
 left_out_rules = record {
   real_function = refl;
   own_real_function = refl;
@@ -89,4 +151,4 @@ left_out_rules = record {
 }
 
 pub worked : WorkedRules
-worked = record { declared = declared_rules; bodies = body_rules; left_out = left_out_rules }
+worked = record { declared = declared_rules; bodies = body_rules; classes = class_rules; objects = object_rules; left_out = left_out_rules }

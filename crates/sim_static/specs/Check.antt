@@ -3,7 +3,10 @@ use Rattle.std.specs.Prelude.{◌≡◌, ⊤, ℕ, List, length, Option, Some, N
 use Rattle.sim_tree.specs.declared.program.Program.{Program as Tree}
 use Rattle.sim_tree.specs.Syntax.{Program}
 use Rattle.sim_tree.specs.SyntaxOfProgram.{program_syntax}
-use Rattle.prefix_bind.specs.Cells.{least_overfull}
+use Rattle.prefix_bind.specs.Prefixes.{least_of, prefix_faults, prefixed}
+use Rattle.virtual_match.specs.Protections.{second_faults}
+use Rattle.virtual_match.specs.Qualifying.{qualified}
+use Rattle.inspect_types.specs.Connecting.{connected}
 use Rattle.sim_scope.specs.declared.bound.Bound.{Bound}
 use Rattle.sim_scope.specs.declared.found.Fault.{Fault}
 use Rattle.sim_scope.specs.declared.refusal.StaticRefusal.{StaticRefusal}
@@ -24,11 +27,17 @@ pub data Checked : Type 0 where
   -- the block tables, what each identifier denotes, and the type of each expression
   Allowed : Tables → (uses : List (Option Denotation)) → (types : List (Option SimType)) → Checked
 
--- the first round: what the declarations of a program break, and the cells of its instances
+-- the first round: what the declarations of a program break, its prefixes, and the cells of its instances
 abbrev pub first_least : BuildingOf → Option Fault
-first_least b = lesser_of b.least (least_overfull b.tables)
+first_least b = lesser_of b.least (least_of (prefix_faults (prefixed b.tables)))
 
--- The second round, on qualifications and virtuals, has no rules on a program without classes.
+-- the tables with the class of each prefix, of each reference and of each connection
+unfoldable pub completed : Tables → Program → Tables
+completed s p = connected (qualified (prefixed s)) p
+
+-- The second round: qualifications, virtuals and protection. What is connected is in sight of a qualification that is written inside.
+abbrev pub second_least : Tables → Option Fault
+second_least s = least_of (second_faults s)
 
 -- the last round: what the bodies of a program break, use and are
 unfoldable pub judged : (tokens : ℕ) → Tables → Program → Findings
@@ -38,9 +47,13 @@ abbrev pub last_answer : Tables → Findings → Option Fault → Checked
 last_answer tables f (Some fault) = Refused fault
 last_answer tables f None = Allowed tables f.uses f.types
 
+abbrev pub second_answer : (tokens : ℕ) → Program → Tables → Option Fault → Checked
+second_answer tokens p tables (Some fault) = Refused fault
+second_answer tokens p tables None = last_answer tables (judged tokens tables p) (judged tokens tables p).least
+
 abbrev pub first_answer : (tokens : ℕ) → Program → Tables → Option Fault → Checked
 first_answer tokens p tables (Some fault) = Refused fault
-first_answer tokens p tables None = last_answer tables (judged tokens tables p) (judged tokens tables p).least
+first_answer tokens p tables None = second_answer tokens p (completed tables p) (second_least (completed tables p))
 
 -- the answer of a program with so many tokens
 unfoldable pub answer : (tokens : ℕ) → Program → Checked

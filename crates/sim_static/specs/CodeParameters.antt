@@ -56,6 +56,7 @@ forms = record {
   condition = λ e. [];
   control = λ name sign token elements. [];
   inspect = λ token object. [];
+  inspect_when = λ token object classes. [];
   arm = λ name. [];
   activate = λ token word process schedule. [];
 }

@@ -1,6 +1,6 @@
--- For each rule of a program without classes a small source that it refuses and one that it lets through. Tokens are numbered from 0; under a
+-- For each rule a small source that it refuses and one that it lets through. Tokens are numbered from 0; under a
 -- source stand the numbers of those that are named.
-use Rattle.std.specs.Prelude.{◌≡◌, ℕ, zero, suc, ◌+◌, ◌*◌, Bool, true, false, pos, List, [], ◌∷◌, length, replicate, Some, None, codes}
+use Rattle.std.specs.Prelude.{◌≡◌, ℕ, zero, suc, ◌+◌, ◌*◌, Bool, true, false, pos, List, [], ◌∷◌, replicate, Some, None, codes}
 use Rattle.std.specs.List.{list_any}
 use Rattle.std.specs.Str.{bytes_eq}
 use Rattle.sim_base.specs.declared.numbering.TokenNo.{TokenNo}
@@ -9,14 +9,16 @@ use Rattle.sim_base.specs.declared.rule.Rule.TheVariants as r
 use Rattle.sim_tree.specs.declared.expr.Identifier.{Identifier}
 use Rattle.sim_tree.specs.declared.expr.Sign.TheVariants as sign
 use Rattle.sim_tree.specs.declared.operator.Operator.TheVariants as op
+use Rattle.sim_tree.specs.declared.stmt.Activation.TheVariants as activation
 use Rattle.sim_tree.specs.declared.stmt.Assignment.TheVariants as assignment
 use Rattle.sim_tree.specs.declared.stmt.Constant.TheVariants as constant
 use Rattle.sim_tree.specs.declared.stmt.Mode.TheVariants as mode
 use Rattle.sim_tree.specs.declared.stmt.TypeName.{TypeName}
 use Rattle.sim_tree.specs.declared.stmt.TypeName.TheVariants as type_name
-use Rattle.sim_tree.specs.Syntax.{Also, Arrays, Assign, Begin, Binary, BooleanValue, Call, Compound, Constant, Declaration, Declarations, DeclareProcedure, Empty, Expression, For, IntegerValue, Moded, Named, NoDeclaration, NoMore, NoStatement, Once, Procedure, Simple, Specification, Specified, Statement, Statements, Variables, With, expressions}
-use Rattle.prefix_bind.specs.Cells.{overfull}
+use Rattle.sim_tree.specs.Syntax.{Inner, Activate, Also, Arrays, Assign, Begin, Binary, BooleanValue, Call, Compound, Constant, Declaration, Declarations, DeclareClass, DeclareProcedure, Dot, Empty, Expression, For, Inspect, InspectWhen, IntegerValue, Interface, Moded, Named, New, NoArm, NoDeclaration, NoMore, NoStatement, Now, Once, Prefixed, Procedure, Simple, Specification, Specified, Statement, Statements, This, Variables, When, With, expressions}
+use Rattle.prefix_bind.specs.Prefixes.{prefix_faults}
 use Rattle.sim_scope.specs.declared.types.BlockKind.TheVariants as kind
+use Rattle.sim_scope.specs.declared.types.Entry.{Entry}
 use Rattle.sim_scope.specs.declared.types.Entry.TheVariants as entry
 use Rattle.sim_scope.specs.declared.types.SimType.TheVariants as t
 use Rattle.sim_scope.specs.Breaks.{row_breaks}
@@ -121,13 +123,9 @@ levels more =
     let end = 4 + more * 5 in
     answer (end + 1) (record { prefix = None; block = Begin 0 (declarations (variable 1 a ∷ [])) (nested more 4) end })
 
--- a block of the tables with so many variables
-abbrev one_variable : Tables
-one_variable =
-    record { blocks = []; declarations = record { name = a; token = token 2; block = 0; entry = entry.Variable t.Integer } ∷ []; places = [] }
-
-abbrev pub with_cells : ℕ → BlockOf
-with_cells count = record {
+-- tables with one block, which has so many variables
+abbrev pub variables_block : ℕ → BlockOf
+variables_block count = record {
   kind = kind.Program;
   first = 0;
   end = 0;
@@ -136,8 +134,25 @@ with_cells count = record {
   owner = None;
   formals = 0;
   inner = None;
+  prefix = None;
+  base = None;
+  standard = None;
   names = [];
   numbers = replicate count (record { 0 = 0 });
+  has_class = false;
+  brought_names = [];
+  brought = [];
+  protected = [];
+  hidden = [];
+}
+
+abbrev pub with_cells : ℕ → Tables
+with_cells count = record {
+  blocks = variables_block count ∷ [];
+  declarations = record { name = a; token = token 2; block = 0; entry = entry.Variable t.Integer; listed = true } ∷ [];
+  places = [];
+  qualifications = [];
+  protections = [];
 }
 
 -- The rules on declarations.
@@ -158,13 +173,13 @@ pub record Declared : Type 0 where
   pub too_deep : Refuses r.TooManyLevels 256 (levels 64)
   pub deep : Allows (levels 63)
   -- L2, too many cells: an instance of 4,096 variables, and one of 4,095
-  pub too_large : overfull one_variable (with_cells 4096) ≡ fault 0 r.TooManyCells ∷ []
-  pub large : overfull one_variable (with_cells 4095) ≡ []
-  -- L3, too many declarations: a new identifier behind 65,535 declarations, and behind any other number of them
-  pub too_many : (x : Identifier) (old : BuildingOf) (row : BlockOf) → list_any (bytes_eq x.name) row.names ≡ false → length old.tables.declarations ≡ 65535
-      → row_breaks old x (Some row) ≡ fault x.token.0 r.TooManyDeclarations ∷ []
-  pub many : (x : Identifier) (old : BuildingOf) (row : BlockOf) → list_any (bytes_eq x.name) row.names ≡ false → length old.tables.declarations ≡ 65534
-      → row_breaks old x (Some row) ≡ []
+  pub too_large : prefix_faults (with_cells 4096) ≡ fault 0 r.TooManyCells ∷ []
+  pub large : prefix_faults (with_cells 4095) ≡ []
+  -- L3, too many declarations: a new identifier behind 65,535 declarations of the program, and behind any other number of them
+  pub too_many : (x : Identifier) (e : Entry) (old : BuildingOf) (row : BlockOf) → list_any (bytes_eq x.name) row.names ≡ false → old.own ≡ 65535
+      → row_breaks old x e (Some row) ≡ fault x.token.0 r.TooManyDeclarations ∷ []
+  pub many : (x : Identifier) (e : Entry) (old : BuildingOf) (row : BlockOf) → list_any (bytes_eq x.name) row.names ≡ false → old.own ≡ 65534
+      → row_breaks old x e (Some row) ≡ []
 
 -- The rules on bodies.
 pub record Bodies : Type 0 where
@@ -208,6 +223,158 @@ pub record Bodies : Type 0 where
   --                               6
   pub a_stream_alone : Refuses r.StandardNameLeftOut 6 (source (variable 1 a ∷ []) (set (alone 4 a) 5 (alone 6 (codes "sysin")) ∷ []) 7)
 
+-- The rules on classes.
+abbrev c : List ℕ
+c = codes "c"
+
+-- `class x; ..`, with its body and the token behind it
+abbrev pub class : ℕ → List ℕ → Interface → Statement → (end : ℕ) → Declaration
+class n letters interface body end =
+    DeclareClass None n (record { name = name (n + 1) letters; formals = []; modes = []; specifications = [] }) interface body end
+
+-- `prefix class x; ..`
+abbrev pub subclass : ℕ → (prefix letters : List ℕ) → Interface → Statement → (end : ℕ) → Declaration
+subclass n prefix letters interface body end =
+    DeclareClass (Some (name n prefix)) (n + 1) (record { name = name (n + 2) letters; formals = []; modes = []; specifications = [] }) interface body end
+
+abbrev pub plain : Interface
+plain = record { protections = []; virtuals = [] }
+
+-- `virtual: procedure x;`, with `procedure` at a token
+abbrev pub with_virtual : ℕ → List ℕ → Interface
+with_virtual n letters = record { protections = []; virtuals = record { result = None; token = n; names = name (n + 1) letters ∷ [] } ∷ [] }
+
+-- `protected x;`
+abbrev pub with_protection : ℕ → List ℕ → Interface
+with_protection n letters = record { protections = record { hidden = None; protected = Some n; names = name (n + 1) letters ∷ [] } ∷ []; virtuals = [] }
+
+-- `hidden x;`
+abbrev pub with_hiding : ℕ → List ℕ → Interface
+with_hiding n letters = record { protections = record { hidden = Some n; protected = None; names = name (n + 1) letters ∷ [] } ∷ []; virtuals = [] }
+
+-- `begin .. end`
+abbrev pub body : ℕ → List Declaration → List Statement → (end : ℕ) → Statement
+body n ds ss end = Compound (Begin n (declarations ds) (statements ss) end)
+
+-- `ref(x) y`
+abbrev pub reference : ℕ → (class letters : List ℕ) → Declaration
+reference n class letters = Variables (type_name.Reference (token n) (name (n + 2) class)) (record { name = name (n + 4) letters; value = None } ∷ [])
+
+-- `boolean x`
+abbrev pub truth_variable : ℕ → List ℕ → Declaration
+truth_variable n letters = Variables (type_name.Boolean (token n)) (record { name = name (n + 1) letters; value = None } ∷ [])
+
+-- `procedure x; ;`, without parameters
+abbrev pub plain_procedure : ℕ → List ℕ → Declaration
+plain_procedure n letters =
+    DeclareProcedure None n (record { name = name (n + 1) letters; formals = []; modes = []; specifications = [] }) (Empty (n + 3)) (n + 3)
+
+-- `x :- value`
+abbrev pub refer : Expression → ℕ → Expression → Statement
+refer left n value = Assign left (record { sign = assignment.Reference; token = n; value = value } ∷ [])
+
+abbrev pub new : ℕ → List ℕ → Expression
+new n letters = New n (name (n + 1) letters) NoMore
+
+-- `prefix begin .. end`, a program with a prefix
+abbrev pub prefixed_source : List ℕ → List Declaration → List Statement → (end : ℕ) → Checked
+prefixed_source prefix ds ss end =
+    answer (end + 1) (record { prefix = Some (record { class = name 0 prefix; arguments = NoMore }); block = Begin 1 (declarations ds) (statements ss) end })
+
+pub record Classes : Type 0 where
+  -- S2, prefix is no class of this block:  begin b class a; ; end  and  begin class b; ; b class a; ; end
+  --                                             1
+  pub no_prefix : Refuses r.PrefixIsNoClass 1 (source (subclass 1 b a plain (Empty 5) 5 ∷ []) [] 6)
+  pub a_prefix : Allows (source (class 1 b plain (Empty 4) 4 ∷ subclass 5 b a plain (Empty 9) 9 ∷ []) [] 10)
+  -- S3, class in its own prefix chain:  begin a class a; ; end
+  --                                                    3
+  pub its_own_prefix : Refuses r.ClassInItsOwnChain 3 (source (subclass 1 a a plain (Empty 5) 5 ∷ []) [] 6)
+  -- S6, inner out of place:  begin class a; inner; end  and  begin class a; begin inner end; end
+  --                                         4
+  pub inner_alone : Refuses r.InnerOutOfPlace 4 (source (class 1 a plain (Inner 4) 5 ∷ []) [] 6)
+  pub an_inner : Allows (source (class 1 a plain (body 4 [] (Inner 5 ∷ []) 6) 7 ∷ []) [] 8)
+  -- S7, qualification is no class:  begin ref(b) a; end  and  begin class b; ; ref(b) a; end
+  --                                           3
+  pub no_qualification : Refuses r.QualificationIsNoClass 3 (source (reference 1 b a ∷ []) [] 7)
+  pub a_qualification : Allows (source (class 1 b plain (Empty 4) 4 ∷ reference 5 b a ∷ []) [] 11)
+  -- .. and inside a connection:  begin class a; ; class c; begin integer a; end; ref(c) b; inspect b do begin ref(a) p; end end
+  --                                                                                                               26
+  pub an_attribute_of_the_connected : Refuses r.QualificationIsNoClass 26 (source (class 1 a plain (Empty 4) 4 ∷ class 5 c plain (body 8 (variable 9 a ∷ []) [] 12) 13 ∷ reference 14 c b ∷ []) (Inspect 20 (alone 21 b) 22 (body 23 (reference 24 a p ∷ []) [] 30) 31 NoStatement ∷ []) 31)
+  -- S8, match does not fit its virtual:  begin class a; virtual: procedure p; ; a class b; begin integer p; end; end
+  --                                                                                                       16
+  pub no_match : Refuses r.MatchDoesNotFit 16 (source (class 1 a (with_virtual 6 p) (Empty 9) 9 ∷ subclass 10 a b plain (body 14 (variable 15 p ∷ []) [] 18) 19 ∷ []) [] 20)
+  pub a_match : Allows (source (class 1 a (with_virtual 6 p) (Empty 9) 9 ∷ subclass 10 a b plain (body 14 (plain_procedure 15 p ∷ []) [] 19) 20 ∷ []) [] 21)
+  -- S9, protection of no such attribute:  begin class a; protected b; ; end  and  begin class a; protected b; begin integer b; end; end
+  --                                                                5
+  pub no_attribute : Refuses r.ProtectionOfNoAttribute 5 (source (class 1 a (with_protection 4 b) (Empty 7) 7 ∷ []) [] 8)
+  pub an_attribute : Allows (source (class 1 a (with_protection 4 b) (body 7 (variable 8 b ∷ []) [] 11) 12 ∷ []) [] 13)
+  -- .. and  begin class a; hidden b; begin integer b; end; end
+  --                               5
+  pub not_protected : Refuses r.ProtectionOfNoAttribute 5 (source (class 1 a (with_hiding 4 b) (body 7 (variable 8 b ∷ []) [] 11) 12 ∷ []) [] 13)
+  -- S11, attribute not accessible here:  begin class a; protected b; begin integer b; end; ref(a) c; c.b := 1 end
+  --                                                                                                    21
+  pub not_accessible : Refuses r.NotAccessible 21 (source (class 1 a (with_protection 4 b) (body 7 (variable 8 b ∷ []) [] 11) 12 ∷ reference 13 a c ∷ []) (set (Dot 20 (alone 19 c) (name 21 b) NoMore) 22 (number 23 1) ∷ []) 24)
+  pub accessible : Allows (source (class 1 a plain (body 4 (variable 5 b ∷ []) [] 8) 9 ∷ reference 10 a c ∷ []) (set (Dot 17 (alone 16 c) (name 18 b) NoMore) 19 (number 20 1) ∷ []) 21)
+  -- S16, qualifications on different chains:  begin class a; ; class b; ; ref(a) c; c :- new b end  and  .. new a end
+  --                                                                                      17
+  pub another_chain : Refuses r.DifferentChains 17 (source (class 1 a plain (Empty 4) 4 ∷ class 5 b plain (Empty 8) 8 ∷ reference 9 a c ∷ []) (refer (alone 15 c) 16 (new 17 b) ∷ []) 19)
+  pub the_same_class : Allows (source (class 1 a plain (Empty 4) 4 ∷ class 5 b plain (Empty 8) 8 ∷ reference 9 a c ∷ []) (refer (alone 15 c) 16 (new 17 a) ∷ []) 19)
+  -- S17, class with classes accessed from outside:  begin class a; begin class b; ; end; ref(a) c; inspect c do end
+  --                                                                                                17
+  pub class_with_classes : Refuses r.ClassWithClasses 17 (source (class 1 a plain (body 4 (class 5 b plain (Empty 8) 8 ∷ []) [] 9) 10 ∷ reference 11 a c ∷ []) (Inspect 17 (alone 18 c) 19 (Empty 20) 20 NoStatement ∷ []) 20)
+  pub class_without : Allows (source (class 1 a plain (Empty 4) 4 ∷ reference 5 a c ∷ []) (Inspect 11 (alone 12 c) 13 (Empty 14) 14 NoStatement ∷ []) 14)
+  -- What is connected is seen in front of what is outside:  begin boolean b; class a; begin integer b; end; ref(a) c; inspect c do b := true end
+  --                                                                                                                                          24
+  pub seen_inside : Refuses r.WrongType 24 (source (truth_variable 1 b ∷ class 4 a plain (body 7 (variable 8 b ∷ []) [] 11) 12 ∷ reference 13 a c ∷ []) (Inspect 19 (alone 20 c) 21 (set (alone 22 b) 23 (truth 24)) 25 NoStatement ∷ []) 25)
+  -- .. and with  inspect c when a do b := 1 end
+  pub seen_in_an_arm : Allows (source (truth_variable 1 b ∷ class 4 a plain (body 7 (variable 8 b ∷ []) [] 11) 12 ∷ reference 13 a c ∷ []) (InspectWhen 19 (alone 20 c) (When 21 (name 22 a) 23 (set (alone 24 b) 25 (number 26 1)) 27 NoArm) NoStatement ∷ []) 27)
+  -- S18, this outside its class:  begin class a; ; ref(a) c; c :- this a end  and  begin class a; begin ref(a) c; c :- this a end; end
+  --                                                                    14
+  pub this_outside : Refuses r.ThisOutsideItsClass 14 (source (class 1 a plain (Empty 4) 4 ∷ reference 5 a c ∷ []) (refer (alone 11 c) 12 (This 13 (name 14 a)) ∷ []) 15)
+  pub this_inside : Allows (source (class 1 a plain (body 4 (reference 5 a c ∷ []) (refer (alone 11 c) 12 (This 13 (name 14 a)) ∷ []) 15) 16 ∷ []) [] 17)
+  -- S20, activation outside a simulation:  begin class a; ; ref(a) c; activate c end  and  simulation begin process class a; ; ref(a) c; activate c end
+  --                                                                    11
+  pub no_simulation : Refuses r.ActivationOutsideSimulation 11 (source (class 1 a plain (Empty 4) 4 ∷ reference 5 a c ∷ []) (Activate 11 activation.Activate (alone 12 c) Now ∷ []) 13)
+  pub a_simulation : Allows (prefixed_source (codes "simulation") (subclass 2 (codes "process") a plain (Empty 6) 6 ∷ reference 7 a c ∷ []) (Activate 13 activation.Activate (alone 14 c) Now ∷ []) 15)
+  -- S21, class only for prefixing:  begin simset class a; ; new a end  and  begin class a; ; new a end
+  --                                                             7
+  pub only_a_prefix : Refuses r.OnlyForPrefixing 7 (source (subclass 1 (codes "simset") a plain (Empty 5) 5 ∷ []) (Call (new 6 a) ∷ []) 8)
+  pub a_generation : Allows (source (class 1 a plain (Empty 4) 4 ∷ []) (Call (new 5 a) ∷ []) 7)
+
+-- What is seen of objects and classes.
+pub record Objects : Type 0 where
+  -- S2, a block prefixed by linkage or a class with it in its chain:  simset begin link begin end end  and  simset begin link class a; ; end
+  --                                                                                2
+  pub block_of_link : Refuses r.PrefixIsNoClass 2 (prefixed_source (codes "simset") [] (Prefixed (name 2 (codes "link")) NoMore (Begin 3 NoDeclaration NoStatement 4) ∷ []) 5)
+  pub class_of_link : Allows (prefixed_source (codes "simset") (subclass 2 (codes "link") a plain (Empty 6) 6 ∷ []) [] 7)
+  -- S10, `detach` outside classes:  begin detach end  and  begin class a; detach; end
+  --                                       1
+  pub detach_outside : Refuses r.NotDeclared 1 (source [] (Call (alone 1 (codes "detach")) ∷ []) 2)
+  pub detach_inside : Allows (source (class 1 a plain (Call (alone 4 (codes "detach"))) 5 ∷ []) [] 6)
+  -- S11, hidden further in:  begin class a; protected b; begin integer b; end; a class c; hidden b; ; c class p; b := 1; end
+  --                                                                                                              25
+  pub hidden_further_in : Refuses r.NotAccessible 25 (source (class 1 a (with_protection 4 b) (body 7 (variable 8 b ∷ []) [] 11) 12 ∷ subclass 13 a c (with_hiding 17 b) (Empty 20) 20 ∷ subclass 21 c p plain (set (alone 25 b) 26 (number 27 1)) 28 ∷ []) [] 29)
+  pub protected_further_in : Allows (source (class 1 a (with_protection 4 b) (body 7 (variable 8 b ∷ []) [] 11) 12 ∷ subclass 13 a c plain (Empty 17) 17 ∷ subclass 18 c p plain (set (alone 22 b) 23 (number 24 1)) 25 ∷ []) [] 26)
+  -- S13, no reference is connected:  begin inspect 1 do end
+  --                                                2
+  pub a_number_connected : Refuses r.WrongType 2 (source [] (Inspect 1 (number 2 1) 3 (Empty 4) 4 NoStatement ∷ []) 4)
+  -- S15, parameters of a prefix:  begin class a; ; a(1) begin end end
+  --                                                5
+  pub prefix_with_actuals : Refuses r.WrongNumber 5 (source (class 1 a plain (Empty 4) 4 ∷ []) (Prefixed (name 5 a) (expressions (number 7 1 ∷ [])) (Begin 9 NoDeclaration NoStatement 10) ∷ []) 11)
+  -- S16 behind `when`:  begin class a; ; class b; ; ref(a) c; inspect c when b do end
+  --                                                                          18
+  pub arm_of_another_chain : Refuses r.DifferentChains 18 (source (class 1 a plain (Empty 4) 4 ∷ class 5 b plain (Empty 8) 8 ∷ reference 9 a c ∷ []) (InspectWhen 15 (alone 16 c) (When 17 (name 18 b) 19 (Empty 20) 20 NoArm) NoStatement ∷ []) 20)
+  -- .. and with `b` a subclass of `a`
+  pub arm_of_a_subclass : Allows (source (class 1 a plain (Empty 4) 4 ∷ subclass 5 a b plain (Empty 9) 9 ∷ reference 10 a c ∷ []) (InspectWhen 16 (alone 17 c) (When 18 (name 19 b) 20 (Empty 21) 21 NoArm) NoStatement ∷ []) 21)
+  -- S16, no process is activated:  simulation begin class a; ; ref(a) c; activate c end
+  --                                                                               13
+  pub no_process : Refuses r.DifferentChains 13 (prefixed_source (codes "simulation") (class 2 a plain (Empty 5) 5 ∷ reference 6 a c ∷ []) (Activate 12 activation.Activate (alone 13 c) Now ∷ []) 14)
+  -- S17 behind a dot:  begin class a; begin class b; ; integer p; end; ref(a) c; c.p := 1 end
+  --                                                                                22
+  pub remote_class_with_classes : Refuses r.ClassWithClasses 22 (source (class 1 a plain (body 4 (class 5 b plain (Empty 8) 8 ∷ variable 9 p ∷ []) [] 12) 13 ∷ reference 14 a c ∷ []) (set (Dot 21 (alone 20 c) (name 22 p) NoMore) 23 (number 24 1) ∷ []) 25)
+  -- A virtual without a match is called:  begin class a; virtual: procedure p; ; ref(a) c; c.p end
+  pub virtual_called : Allows (source (class 1 a (with_virtual 6 p) (Empty 9) 9 ∷ reference 10 a c ∷ []) (Call (Dot 17 (alone 16 c) (name 18 p) NoMore) ∷ []) 19)
+
 -- The standard names that are left out:  begin integer a; a := sqrt end  and  begin integer sqrt; sqrt := 1 end
 --                                                              6
 abbrev pub used : List ℕ → Checked
@@ -229,4 +396,6 @@ pub record LeftOut : Type 0 where
 pub record WorkedRules : Type 0 where
   pub declared : Declared
   pub bodies : Bodies
+  pub classes : Classes
+  pub objects : Objects
   pub left_out : LeftOut

@@ -1,25 +1,9 @@
--- Which sources need classes, by their tokens. As long as the rules on classes are not built, these are refused before any rule on names and types.
-use Rattle.std.specs.Prelude.{◌≡◌, ℕ, Bool, true, false, ◌||◌, ◌&&◌, List, [], ◌∷◌, codes, drop}
-use Rattle.std.specs.List.{list_any}
-use Rattle.std.specs.Str.{bytes_eq}
+-- Which sources need classes, by their tokens. They do not run yet, so a run of one is refused before any of the static rules.
+use Rattle.std.specs.Prelude.{◌≡◌, ℕ, Bool, true, false, ◌||◌, ◌&&◌, List, [], ◌∷◌, drop}
 use Rattle.sim_base.specs.declared.token.Token.{Token}
 use Rattle.sim_base.specs.declared.token.TokenKind.{TokenKind}
 use Rattle.sim_base.specs.declared.token.TokenKind.TheVariants as k
-
--- the standard names of classes, of sets and of simulation
-abbrev pub names_of_classes : List (List ℕ)
-names_of_classes =
-    codes "detach" ∷ codes "call" ∷ codes "resume" ∷ codes "simset" ∷ codes "linkage" ∷ codes "suc" ∷ codes "pred" ∷ codes "prev" ∷
-    codes "link" ∷ codes "out" ∷ codes "follow" ∷ codes "precede" ∷ codes "into" ∷ codes "head" ∷ codes "first" ∷ codes "last" ∷
-    codes "empty" ∷ codes "cardinal" ∷ codes "clear" ∷ []
-
-abbrev pub names_of_simulation : List (List ℕ)
-names_of_simulation =
-    codes "process" ∷ codes "idle" ∷ codes "terminated" ∷ codes "evtime" ∷ codes "nextev" ∷ codes "simulation" ∷ codes "time" ∷
-    codes "current" ∷ codes "main" ∷ codes "hold" ∷ codes "passivate" ∷ codes "wait" ∷ codes "cancel" ∷ []
-
-unfoldable pub is_name_of_classes : List ℕ → Bool
-is_name_of_classes name = list_any (bytes_eq name) names_of_classes || list_any (bytes_eq name) names_of_simulation
+use Rattle.sim_scope.specs.ClassNames.{is_name_of_classes}
 
 -- a word or a name that only sources with classes have
 abbrev pub needs : TokenKind → Bool

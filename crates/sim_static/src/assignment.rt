@@ -2,7 +2,7 @@
 ghost use Rattle.std.specs.Prelude.{◌≡◌, map};
 ghost use Rattle.sim_tree.specs.SyntaxOf.{syntax_of};
 ghost use Rattle.sim_tree.specs.SyntaxOfProgram.{right_side_syntax};
-ghost use Rattle.sim_scope.specs.Assignments.{assigned_to, call_assigned, compared, first_sign, no_target, own_result, procedure_assigned, result_assigned, same_sign, sign_agrees, standard_assigned, takes, target, targets, types_assigned, value_assigned, with_left, is_text_copied};
+ghost use Rattle.sim_scope.specs.Assignments.{assigned_to, call_assigned, compared, first_sign, no_target, own_result, fault_unless, procedure_assigned, result_assigned, same_sign, sign_agrees, standard_assigned, takes, target, targets, told, types_assigned, value_assigned, with_left, is_text_copied};
 ghost use Rattle.sim_scope.specs.Judged.{Judges};
 ghost use Rattle.sim_static.specs.StatementWalk.{FindsLeft, FindsLefts, IsLast, Tells, of_assignment};
 
@@ -11,7 +11,7 @@ use sim_scope::{
     Extent, Fault, Found, LeftSides, Outcome, Scopes, Side, SimType, Standard, entry_of, lesser,
 };
 use sim_tree::{Assigned, Assignment, Expr, first_token};
-use sim_types::{called, is_same, is_stream, judge, operand, result_in};
+use sim_types::{called, is_stream, judge, misfit_of, operand, result_in};
 
 #[tactic(auto, unfolding(sim_scope::specs::Assignments::no_target, sim_scope::specs::Judged::telling, sim_scope::specs::Runs::run))]
 fn no_target(found: &mut Found, first: TokenNo, rule: Rule) -> Side
@@ -213,22 +213,26 @@ pub(crate) fn takes(sign: Assignment, ty: SimType) -> bool
     }
 }
 
-/// What does not fit between a left side and the value.
-fn types_assigned(sign: Assignment, left: Side, value: Side) -> Option<Fault>
-    ensures { result ≡ types_assigned sign left value left.ty value.ty }
+fn fault_unless(token: TokenNo, rule: Option<Rule>) -> Option<Fault>
+    ensures { result ≡ fault_unless token.0 rule }
+{
+    match rule {
+        Some(rule) => Some(Fault { token, rule }),
+        None => None,
+    }
+}
+
+/// What does not fit between a left side and the value: `S13`, and `S16` at the value where both are references.
+fn types_assigned(scopes: &Scopes, sign: Assignment, left: Side, value: Side) -> Option<Fault>
+    ensures { result ≡ types_assigned scopes.now sign left value left.ty value.ty }
 {
     match (left.ty, value.ty) {
         (Some(wanted), Some(ty)) => {
-            if !takes(sign, wanted) {
-                Some(Fault {
-                    token: left.first,
-                    rule: Rule::WrongType,
-                })
-            } else if is_same(ty, wanted) {
-                None
+            if takes(sign, wanted) {
+                fault_unless(value.first, misfit_of(scopes, wanted, ty))
             } else {
                 Some(Fault {
-                    token: value.first,
+                    token: left.first,
                     rule: Rule::WrongType,
                 })
             }
@@ -239,27 +243,41 @@ fn types_assigned(sign: Assignment, left: Side, value: Side) -> Option<Fault>
 
 /// One more left side among those so far.
 #[tactic(auto, unfolding(sim_scope::specs::Assignments::with_left))]
-fn with_left(sign: Assignment, value: Side, sides: LeftSides, left: Side) -> LeftSides
-    ensures { result ≡ with_left sign value sides left }
+fn with_left(
+    scopes: &Scopes,
+    sign: Assignment,
+    value: Side,
+    sides: LeftSides,
+    left: Side,
+) -> LeftSides
+    ensures { result ≡ with_left scopes.now sign value sides left }
 {
     LeftSides {
         typed: sides.typed && left.ty.is_some(),
-        misfit: match types_assigned(sign, left, value) {
+        misfit: match types_assigned(scopes, sign, left, value) {
             Some(fault) => lesser(sides.misfit, fault),
             None => sides.misfit,
         },
     }
 }
 
+/// A misfit, where there is one.
+#[tactic(auto, unfolding(sim_scope::specs::Assignments::fine, sim_scope::specs::Assignments::wrong, sim_scope::specs::Judged::gives, sim_scope::specs::Judged::telling, sim_scope::specs::Runs::run))]
+pub(crate) fn told(found: &mut Found, misfit: Option<Fault>)
+    ensures { Judges found.old found.new result (told misfit) }
+{
+    if let Some(fault) = misfit {
+        found.note(fault.token, fault.rule);
+    }
+}
+
 /// What does not fit counts where all parts have a type.
-#[tactic(auto, unfolding(sim_scope::specs::Assignments::compared, sim_scope::specs::Assignments::fine, sim_scope::specs::Assignments::wrong, sim_scope::specs::Judged::gives, sim_scope::specs::Judged::telling, sim_scope::specs::Runs::run))]
+#[tactic(auto, unfolding(sim_scope::specs::Assignments::compared, sim_scope::specs::Assignments::fine, sim_scope::specs::Judged::gives, sim_scope::specs::Runs::run))]
 fn compared(found: &mut Found, sides: LeftSides)
     ensures { Judges found.old found.new result (compared sides) }
 {
     if sides.typed {
-        if let Some(fault) = sides.misfit {
-            found.note(fault.token, fault.rule);
-        }
+        told(found, sides.misfit);
     }
 }
 
@@ -318,7 +336,7 @@ fn left_sides(
     let mut side = left;
     for part in parts {
         let target = left_side(scopes, found, first, part, side);
-        sides = with_left(part.sign, value, sides, target);
+        sides = with_left(scopes, part.sign, value, sides, target);
         side = &part.value;
     }
     sides

@@ -3,7 +3,7 @@ ghost use Rattle.std.specs.Prelude.{◌≡◌, map};
 ghost use Rattle.sim_tree.specs.SyntaxOfProgram.{element_syntax, reference_element_syntax};
 ghost use Rattle.sim_scope.specs.Judged.{Judges};
 ghost use Rattle.sim_scope.specs.Runs.{each};
-ghost use Rattle.sim_scope.specs.Statements.{control_events, controlled as controlled_by, entry_controlled, formal_controlled, moded_controlled, not_simple, simple, starts, taken_by, variable_controlled};
+ghost use Rattle.sim_scope.specs.Statements.{control_events, controlled as controlled_by, entry_controlled, formal_controlled, moded_controlled, not_simple, simple, starts, taken_by, told_unless, variable_controlled};
 ghost use Rattle.sim_static.specs.StatementWalk.{Tells, of_element, of_first_step, of_first_value, of_reference_element};
 
 use crate::assignment::takes;
@@ -13,7 +13,7 @@ use sim_scope::{
     Denotation, Entry, Extent, FormalKind, Found, Mode, Scopes, Side, SimType, entry_of,
 };
 use sim_tree::{Assignment, Expr, ForElement, Identifier, ReferenceElement};
-use sim_types::{bound, is_same, operand};
+use sim_types::{bound, is_same, misfit_of, operand};
 
 /// A variable that a sign assigns to.
 #[tactic(auto, unfolding(sim_scope::specs::Judged::telling, sim_scope::specs::Runs::run))]
@@ -131,15 +131,23 @@ fn controlled(
     simple(scopes, found, sign, name.token, denotation)
 }
 
-/// A value for the controlled variable.
-#[tactic(auto, unfolding(sim_scope::specs::Statements::taken_by, sim_scope::specs::Assignments::fine, sim_scope::specs::Assignments::wrong, sim_scope::specs::Judged::gives, sim_scope::specs::Judged::telling, sim_scope::specs::Runs::run))]
-fn taken_by(found: &mut Found, variable: Option<SimType>, value: Side)
-    ensures { Judges found.old found.new result (taken_by variable value) }
+/// A rule that is broken, where there is one.
+#[tactic(auto, unfolding(sim_scope::specs::Assignments::fine, sim_scope::specs::Assignments::wrong, sim_scope::specs::Judged::gives, sim_scope::specs::Judged::telling, sim_scope::specs::Runs::run))]
+pub(crate) fn told_unless(found: &mut Found, first: TokenNo, rule: Option<Rule>)
+    ensures { Judges found.old found.new result (told_unless first.0 rule) }
+{
+    if let Some(rule) = rule {
+        found.note(first, rule);
+    }
+}
+
+/// A value for the controlled variable: of its type (`S13`), or of a class on one prefix chain with its class (`S16`).
+#[tactic(auto, unfolding(sim_scope::specs::Statements::taken_by, sim_scope::specs::Assignments::fine, sim_scope::specs::Judged::gives, sim_scope::specs::Runs::run))]
+fn taken_by(scopes: &Scopes, found: &mut Found, variable: Option<SimType>, value: Side)
+    ensures { Judges found.old found.new result (taken_by scopes.now variable value) }
 {
     if let (Some(wanted), Some(ty)) = (variable, value.ty) {
-        if !is_same(ty, wanted) {
-            found.note(value.first, Rule::WrongType);
-        }
+        told_unless(found, value.first, misfit_of(scopes, wanted, ty));
     }
 }
 
@@ -162,7 +170,7 @@ fn first_value(scopes: &Scopes, found: &mut Found, variable: Option<SimType>, ex
     ensures { Tells found.old found.new (of_first_value scopes.now variable expr.now) }
 {
     let value = operand(scopes, Extent::Statement, found, expr);
-    taken_by(found, variable, value);
+    taken_by(scopes, found, variable, value);
 }
 
 #[tactic(auto, using(crate::proofs::Tellings::tell_first_step))]

@@ -2,7 +2,8 @@
 ghost use Rattle.std.specs.Prelude.{◌≡◌};
 ghost use Rattle.std.specs.List.{list_any};
 ghost use Rattle.std.specs.Str.{bytes_eq};
-ghost use Rattle.sim_static.specs.NeedsClasses.{NeedsClasses, ends_prefix, is_begin, is_name_of_classes, names_of_classes, names_of_simulation, needs, needs_here};
+ghost use Rattle.sim_scope.specs.ClassNames.{is_name_of_classes, names_of_classes, names_of_simulation};
+ghost use Rattle.sim_static.specs.NeedsClasses.{NeedsClasses, ends_prefix, is_begin, needs, needs_here};
 
 use sim_base::{Token, TokenKind};
 
@@ -47,7 +48,7 @@ fn is_of_simulation(name: &[u8]) -> bool
     contains(&NAMES_OF_SIMULATION, name)
 }
 
-#[tactic(auto, unfolding(crate::specs::NeedsClasses::is_name_of_classes))]
+#[tactic(auto, unfolding(sim_scope::specs::ClassNames::is_name_of_classes))]
 fn is_name_of_classes(name: &[u8]) -> bool
     ensures { result ≡ is_name_of_classes name.now }
 {

@@ -4,9 +4,12 @@ ghost use Rattle.sim_scope.specs.Statements.{judging};
 ghost use Rattle.sim_scope.specs.Walk.{of_arm, of_block, of_branch, of_class_body, of_declaration, of_statement, of_whole};
 ghost use Rattle.sim_static.specs.StatementWalk.{Tells};
 
+use crate::activation::activation;
 use crate::assignment::assignment;
 use crate::bounds::{segments, variables};
+use crate::connection::{inspect, inspect_when};
 use crate::control::{references, values};
+use crate::prefix::{block_prefix, class_prefix};
 use crate::statement::{call, required};
 use sim_scope::{Extent, Found, Position, Scopes, SimType};
 use sim_tree::{Block, Decl, Stmt, When};
@@ -23,7 +26,10 @@ fn statement(scopes: &Scopes, found: &mut Found, position: Position, stmt: &Stmt
             Position::ClassStatement => self::block(scopes, found, block),
             Position::Inside => self::block(scopes, found, block),
         },
-        Stmt::PrefixedBlock { block, .. } => whole(scopes, found, block),
+        Stmt::PrefixedBlock { prefix, block } => {
+            block_prefix(scopes, found, prefix, block.token);
+            whole(scopes, found, block);
+        }
         Stmt::Call { call: expr } => call(scopes, found, expr),
         Stmt::Assignment { left, rest } => assignment(scopes, found, left, rest),
         Stmt::If {
@@ -75,24 +81,34 @@ fn statement(scopes: &Scopes, found: &mut Found, position: Position, stmt: &Stmt
             statement(scopes, found, Position::Inside, body);
         }
         Stmt::Inspect {
+            token,
+            object,
             body,
             otherwise,
             ..
         } => {
+            inspect(scopes, found, *token, object);
             statement(scopes, found, Position::Inside, body);
             branch(scopes, found, otherwise);
         }
         Stmt::InspectWhen {
+            token,
+            object,
             arms: list,
             otherwise,
-            ..
         } => {
+            inspect_when(scopes, found, *token, object, list);
             arms(scopes, found, list);
             branch(scopes, found, otherwise);
         }
         Stmt::Inner { .. } => {}
         Stmt::Empty { .. } => {}
-        Stmt::Activation { .. } => {}
+        Stmt::Activation {
+            token,
+            process,
+            timing,
+            ..
+        } => activation(scopes, found, *token, process, timing),
     }
 }
 
@@ -184,6 +200,9 @@ fn declaration(scopes: &Scopes, found: &mut Found, decl: &Decl)
         Decl::Procedure { procedure, .. } => {
             statement(scopes, found, Position::Inside, &procedure.body)
         }
-        Decl::Class { class, .. } => { statement(scopes, found, Position::ClassBody, &class.body) }
+        Decl::Class { prefix, class, .. } => {
+            class_prefix(scopes, found, prefix, class.name.token);
+            statement(scopes, found, Position::ClassBody, &class.body);
+        }
     }
 }

@@ -2,13 +2,16 @@
 //! a program breaks.
 #![tactic(auto)]
 
+mod activation;
 mod assignment;
 mod bounds;
 mod code_parameters;
+mod connection;
 mod control;
 mod forms;
 mod judging;
 pub mod laws;
+mod prefix;
 mod rounds;
 mod statement;
 

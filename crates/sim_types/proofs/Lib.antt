@@ -1,4 +1,5 @@
-pub mod Innermost
+pub mod Shared
+pub mod Outward
 pub mod Selectors
 pub mod Steps
 pub mod Walks

@@ -4,16 +4,18 @@ use Rattle.sim_base.specs.declared.numbering.TokenNo.{TokenNo}
 use Rattle.sim_tree.specs.declared.expr.Identifier.{Identifier}
 use Rattle.sim_scope.specs.declared.outcome.Actual.{Actual}
 use Rattle.sim_scope.specs.declared.outcome.Actuals.{Actuals}
+use Rattle.sim_scope.specs.declared.outcome.Extent.{Extent}
 use Rattle.sim_scope.specs.declared.outcome.Outcome.{Outcome}
 use Rattle.sim_scope.specs.declared.outcome.Parameter.{Parameter}
 use Rattle.sim_scope.specs.declared.outcome.Side.{Side}
 use Rattle.sim_scope.specs.declared.scopes.Denotation.{Denotation}
 use Rattle.sim_scope.specs.declared.types.SimType.{SimType}
 use Rattle.sim_scope.specs.Actuals.{actual, as_value, more, parameter_at, value_fits, with_actual}
-use Rattle.sim_scope.specs.Calls.{attribute_by_value, attribute_of_value}
+use Rattle.sim_scope.specs.Calls.{attribute_by_value, attribute_of_value, bound}
 use Rattle.sim_scope.specs.Found.{Event, Findings, after, found}
 use Rattle.sim_scope.specs.Judged.{Judged, Judges, gives, next}
 use Rattle.sim_scope.specs.Outcomes.{called, in_parentheses, parenthesized, side, side_of, type_in, value_of, valued}
+use Rattle.sim_scope.specs.References.{as_class, class_named}
 use Rattle.sim_scope.specs.Runs.{run}
 use Rattle.sim_scope.specs.Tables.{Tables}
 
@@ -73,13 +75,17 @@ pub side_in_steps : (s : Tables) (t : TokenNo) (f g : Findings) (o v : Outcome) 
 unfolding side
 side_in_steps s t f g o v y ty one e is = judges_then (valued s t.0 o) (λ v. side_of t.0 (type_in v)) one (is ∙ ap (side_of t.0) e)
 
-pub as_value_in_steps : (s : Tables) (t : TokenNo) (p : Parameter) (f g : Findings) (o v : Outcome) (y : Actual) (ty : Option SimType) → Judges f g v (valued s t.0 o) → ty ≡ type_in v → y ≡ value_fits t.0 p ty → Judges f g y (as_value s t.0 p o)
+pub as_value_in_steps : (s : Tables) (t : TokenNo) (p : Parameter) (f g : Findings) (o v : Outcome) (y : Actual) (ty : Option SimType) → Judges f g v (valued s t.0 o) → ty ≡ type_in v → y ≡ value_fits s t.0 p ty → Judges f g y (as_value s t.0 p o)
 unfolding as_value
-as_value_in_steps s t p f g o v y ty one e is = judges_then (valued s t.0 o) (λ v. value_fits t.0 p (type_in v)) one (is ∙ ap (value_fits t.0 p) e)
+as_value_in_steps s t p f g o v y ty one e is = judges_then (valued s t.0 o) (λ v. value_fits s t.0 p (type_in v)) one (is ∙ ap (value_fits s t.0 p) e)
 
-pub attribute_in_steps : (s : Tables) (n : Identifier) (t : TokenNo) (f g h : Findings) (o : Outcome) (x : Side) (d : Option Denotation) → Judges f g x (side s t.0 o) → Judges g h d (attribute_of_value n x) → Judges f h d (attribute_by_value s n t.0 o)
+pub attribute_in_steps : (s : Tables) (m : Extent) (n : Identifier) (t : TokenNo) (f g h : Findings) (o : Outcome) (x : Side) (d : Option Denotation) → Judges f g x (side s t.0 o) → Judges g h d (attribute_of_value s m n x) → Judges f h d (attribute_by_value s m n t.0 o)
 unfolding attribute_by_value
-attribute_in_steps s n t f g h o x d one two = judges_next (side s t.0 o) (attribute_of_value n) one two
+attribute_in_steps s m n t f g h o x d one two = judges_next (side s t.0 o) (attribute_of_value s m n) one two
+
+pub class_named_in_steps : (s : Tables) (m : Extent) (n : Identifier) (f g h : Findings) (d c : Option Denotation) → Judges f g d (bound s m n) → Judges g h c (as_class s n.token.0 d) → Judges f h c (class_named s m n)
+unfolding class_named
+class_named_in_steps s m n f g h d c one two = judges_next (bound s m n) (as_class s n.token.0) one two
 
 pub more_in_steps : (s : Tables) (d : Option Denotation) (a b : Actuals) (t : TokenNo) (f g : Findings) (o : Outcome) (p : Parameter) (x : Actual) → p ≡ parameter_at s d a.count → Judges f g x (actual s t.0 p o) → b ≡ with_actual a x → Judges f g b (more s d a t.0 o)
 unfolding more

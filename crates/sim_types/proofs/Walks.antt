@@ -24,7 +24,6 @@ use Rattle.sim_tree.proofs.SyntaxLemmas as v
 use Rattle.sim_scope.specs.declared.outcome.Actuals.{Actuals}
 use Rattle.sim_scope.specs.declared.outcome.Extent.{Extent}
 use Rattle.sim_scope.specs.declared.outcome.Outcome.{Outcome}
-use Rattle.sim_scope.specs.declared.outcome.Outcome.TheVariants as outcome
 use Rattle.sim_scope.specs.declared.outcome.Side.{Side}
 use Rattle.sim_scope.specs.declared.scopes.Denotation.{Denotation}
 use Rattle.sim_scope.specs.declared.types.SimType.TheVariants as type
@@ -33,7 +32,8 @@ use Rattle.sim_scope.specs.Calls.{attribute, bound, used}
 use Rattle.sim_scope.specs.Expressions.{actuals, judge, judge_side}
 use Rattle.sim_scope.specs.ExpressionWalk.{Finds, FindsActuals, FindsNamed, FindsNot, FindsSelected, FindsSide, FindsTail, FindsTaken, Owes, OwesActuals, OwesSelected, chained, selections, taken}
 use Rattle.sim_scope.specs.Found.{Findings}
-use Rattle.sim_scope.specs.Judged.{Judged, Judges, gives, next}
+use Rattle.sim_scope.specs.Judged.{Judged, Judges, next}
+use Rattle.sim_scope.specs.References.{class_named, member, new_object, qualified, this_object}
 use Rattle.sim_scope.specs.Outcomes.{has, in_parentheses, one, side, three, two}
 use Rattle.sim_scope.specs.Tables.{Tables}
 use Rattle.sim_types.proofs.Selectors.{syntax-Dot, syntax-Qua}
@@ -80,13 +80,13 @@ unfolding FindsSide
 side_as s m f g x y z e h = judges_as h (ap (λ w. judge_side s m (syntax_of w)) e)
 
 pub find_if : (s : Tables) (m : Extent) (f g h k : Findings) (x a b c : Expr) (i : TokenNo) (p q r : Box Expr Global) (y z w : Side) (o : Outcome) → x ≡ e.If i p q r → a ≡ p.value → b ≡ q.value → c ≡ r.value
-    → FindsSide s m f g y a → FindsSide s m g h z b → FindsSide s m h k w c → (l : Findings) → Judges k l o (three i.0 y z w) → Finds s m f l o x
+    → FindsSide s m f g y a → FindsSide s m g h z b → FindsSide s m h k w c → (l : Findings) → Judges k l o (three s i.0 y z w) → Finds s m f l o x
 unfolding judge
 find_if s m f g h k x a b c i p q r y z w o is ea eb ec one two' three' l last =
     found_as s m f l o x _ (ap syntax_of is ∙ v.syntax-If i p q r)
     (judges_next (judge_side s m (syntax_of p.value)) _ (side_as s m f g y a p.value ea one)
     (judges_next (judge_side s m (syntax_of q.value)) _ (side_as s m g h z b q.value eb two')
-    (judges_next (judge_side s m (syntax_of r.value)) (λ w. three i.0 y z w) (side_as s m h k w c r.value ec three') last)))
+    (judges_next (judge_side s m (syntax_of r.value)) (λ w. three s i.0 y z w) (side_as s m h k w c r.value ec three') last)))
 
 pub find_related : (s : Tables) (m : Extent) (f g h k : Findings) (x a b : Expr) (p q : Box Expr Global) (i : TokenNo) (r : Relation) (y z : Side) (o : Outcome) → x ≡ e.Related p i r q → a ≡ p.value → b ≡ q.value
     → FindsSide s m f g y a → FindsSide s m g h z b → Judges h k o (two (operator.Relate r) i.0 y z) → Finds s m f k o x
@@ -131,11 +131,13 @@ unfolding judge FindsNamed
 find_named s m f g x n l es o is ee h =
     found_as s m f g o x _ (ap syntax_of is ∙ v.syntax-Named n l) (judges_as h (ap (λ z. next (bound s m n) (λ d. next (actuals s m d no_actuals (expressions (map syntax_of z))) (used s n.token.0 n d))) ee))
 
-pub find_member : (s : Tables) (m : Extent) (f g : Findings) (x y : Expr) (a : Box Expr Global) (i : TokenNo) (r : Membership) (c : Identifier) (o : Outcome) → x ≡ e.Member a i r c → y ≡ a.value → Finds s m f g o y → Finds s m f g outcome.Refused x
-unfolding judge Finds
-find_member s m f g x y a i r c o is ey h =
-    found_as s m f g outcome.Refused x _ (ap syntax_of is ∙ v.syntax-Member a i r c)
-    (judges_next (judge s m (syntax_of a.value)) (λ z. gives outcome.Refused) (judges_as h (ap (λ z. judge s m (syntax_of z)) ey)) (judges_gives g outcome.Refused))
+pub find_member : (s : Tables) (m : Extent) (f g h k : Findings) (x y : Expr) (a : Box Expr Global) (i : TokenNo) (r : Membership) (c : Identifier) (z : Side) (d : Option Denotation) (o : Outcome) → x ≡ e.Member a i r c → y ≡ a.value
+    → FindsSide s m f g z y → Judges g h d (class_named s m c) → Judges h k o (member s i.0 z c d) → Finds s m f k o x
+unfolding judge
+find_member s m f g h k x y a i r c z d o is ey one two' last =
+    found_as s m f k o x _ (ap syntax_of is ∙ v.syntax-Member a i r c)
+    (judges_next (judge_side s m (syntax_of a.value)) (λ z. next (class_named s m c) (member s i.0 z c)) (side_as s m f g z y a.value ey one)
+    (judges_next (class_named s m c) (member s i.0 z c) two' last))
 
 -- what is taken of an object is judged from left to right
 selected_from : (s : Tables) (m : Extent) (x : Expression) (zs : List Selection) → judge s m (selected x zs) ≡ next (judge s m x) (λ o. selections s m (first_of x) o zs)
@@ -144,7 +146,7 @@ selected_from s m x [] = sym (next-gives (judge s m x))
 selected_from s m x (Take i n args ∷ zs) =
     let t = first_of x in
     let J = judge s m x in
-    let A = λ (o : Outcome). attribute s n t o in
+    let A = λ (o : Outcome). attribute s m n t o in
     let U = λ (d : Option Denotation). next (actuals s m d no_actuals args) (used s i n d) in
     let C = λ (p : Outcome). selections s m t p zs in
     selected_from s m (Dot i x n args) zs
@@ -154,8 +156,13 @@ selected_from s m x (Take i n args ∷ zs) =
 selected_from s m x (Cast i c ∷ zs) =
     let t = first_of x in
     let J = judge s m x in
+    let S = λ (o : Outcome). side s t o in
+    let K = λ (z : Side). next (class_named s m c) (qualified s i z c) in
     let C = λ (p : Outcome). selections s m t p zs in
-    selected_from s m (Qua i x c) zs ∙ next-next J (λ o. gives outcome.Refused) C
+    selected_from s m (Qua i x c) zs
+    ∙ next-next (next J S) K C
+    ∙ next-next J S (λ z. next (K z) C)
+    ∙ next_same J (λ o. next (S o) (λ z. next (K z) C)) (λ o. next (next (S o) K) C) (sym (next-next (S J.value) K C))
 
 pub find_postfix : (s : Tables) (m : Extent) (f g h : Findings) (x y : Expr) (a : Box Expr Global) (l : Vec Selector Global) (ss : List Selector) (t : TokenNo) (o p : Outcome) → x ≡ e.Postfix a l → ss ≡ l.items → y ≡ a.value → Finds s m f g o y → FirstIs t y → FindsSelected s m g h p t o (map selector_syntax ss) → Finds s m f h p x
 unfolding Finds FirstIs FindsSelected
@@ -166,18 +173,22 @@ find_postfix s m f g h x y a l ss t o p is es ey one first rest =
     ∙ sym (ap (λ z. judge s m (syntax_of z)) is ∙ ap (judge s m) (v.syntax-Postfix a l) ∙ ap (λ z. judge s m (selected (syntax_of a.value) (map selector_syntax z))) (sym es) ∙ ap (λ z. judge s m (selected (syntax_of z) zs)) (sym ey)))
 
 pub find_dot : (s : Tables) (m : Extent) (f g h k : Findings) (x : Selector) (i : TokenNo) (n : Identifier) (l : Vec Expr Global) (es : List Expr) (t : TokenNo) (left o : Outcome) (d : Option Denotation) (a : Actuals) → x ≡ selector.Dot i n l → es ≡ l.items
-    → Judges f g d (attribute s n t.0 left) → FindsActuals s m g h d no_actuals a es → Judges h k o (used s i.0 n d a) → FindsTaken s m f k o t left x
+    → Judges f g d (attribute s m n t.0 left) → FindsActuals s m g h d no_actuals a es → Judges h k o (used s i.0 n d a) → FindsTaken s m f k o t left x
 unfolding FindsActuals FindsTaken
 find_dot s m f g h k x i n l es t left o d a is ee one all last =
     judges_as
-    (judges_next (attribute s n t.0 left) (λ d. next (actuals s m d no_actuals (expressions (map syntax_of es))) (used s i.0 n d)) one
+    (judges_next (attribute s m n t.0 left) (λ d. next (actuals s m d no_actuals (expressions (map syntax_of es))) (used s i.0 n d)) one
     (judges_next (actuals s m d no_actuals (expressions (map syntax_of es))) (used s i.0 n d) all last))
     (ap (λ z. taken s m t.0 left (Take i.0 n (expressions (map syntax_of z)))) ee ∙ sym (ap (λ z. taken s m t.0 left (selector_syntax z)) is ∙ ap (taken s m t.0 left) (syntax-Dot i n l)))
 
-pub find_qua : (s : Tables) (m : Extent) (f : Findings) (x : Selector) (i : TokenNo) (c : Identifier) (t : TokenNo) (left : Outcome) → x ≡ selector.Qua i c → FindsTaken s m f f outcome.Refused t left x
+pub find_qua : (s : Tables) (m : Extent) (f g h k : Findings) (x : Selector) (i : TokenNo) (c : Identifier) (t : TokenNo) (left o : Outcome) (z : Side) (d : Option Denotation) → x ≡ selector.Qua i c
+    → Judges f g z (side s t.0 left) → Judges g h d (class_named s m c) → Judges h k o (qualified s i.0 z c d) → FindsTaken s m f k o t left x
 unfolding FindsTaken
-find_qua s m f x i c t left is =
-    judges_as (judges_gives f outcome.Refused) (sym (ap (λ z. taken s m t.0 left (selector_syntax z)) is ∙ ap (taken s m t.0 left) (syntax-Qua i c)))
+find_qua s m f g h k x i c t left o z d is one two' last =
+    judges_as
+    (judges_next (side s t.0 left) (λ z. next (class_named s m c) (qualified s i.0 z c)) one
+    (judges_next (class_named s m c) (qualified s i.0 z c) two' last))
+    (sym (ap (λ z. taken s m t.0 left (selector_syntax z)) is ∙ ap (taken s m t.0 left) (syntax-Qua i c)))
 
 pub find_parentheses : (s : Tables) (m : Extent) (f g h : Findings) (x y : Expr) (i : TokenNo) (a : Box Expr Global) (t : TokenNo) (o p : Outcome) → x ≡ e.Parentheses i a → y ≡ a.value → Finds s m f g o y → FirstIs t y → Judges g h p (in_parentheses s t.0 o) → Finds s m f h p x
 unfolding judge Finds FirstIs
@@ -185,13 +196,21 @@ find_parentheses s m f g h x y i a t o p is ey one first two' =
     judges_as (judges_next (judge s m (syntax_of y)) (in_parentheses s t.0) one two')
     (ap (λ z. next (judge s m (syntax_of y)) (in_parentheses s z)) first ∙ ap (λ z. next (judge s m (syntax_of z)) (in_parentheses s (first_of (syntax_of z)))) ey ∙ sym (ap (judge s m) (ap syntax_of is ∙ v.syntax-Parentheses i a)))
 
-pub find_this : (s : Tables) (m : Extent) (f : Findings) (x : Expr) (i : TokenNo) (c : Identifier) → x ≡ e.This i c → Finds s m f f outcome.Refused x
+pub find_this : (s : Tables) (m : Extent) (f g h : Findings) (x : Expr) (i : TokenNo) (c : Identifier) (d : Option Denotation) (o : Outcome) → x ≡ e.This i c
+    → Judges f g d (class_named s m c) → Judges g h o (this_object s m i.0 c d) → Finds s m f h o x
 unfolding judge
-find_this s m f x i c is = found_as s m f f outcome.Refused x _ (ap syntax_of is ∙ v.syntax-This i c) (judges_gives f outcome.Refused)
+find_this s m f g h x i c d o is one last =
+    found_as s m f h o x _ (ap syntax_of is ∙ v.syntax-This i c) (judges_next (class_named s m c) (this_object s m i.0 c) one last)
 
-pub find_new : (s : Tables) (m : Extent) (f : Findings) (x : Expr) (i : TokenNo) (c : Identifier) (l : Vec Expr Global) → x ≡ e.New i c l → Finds s m f f outcome.Refused x
-unfolding judge
-find_new s m f x i c l is = found_as s m f f outcome.Refused x _ (ap syntax_of is ∙ v.syntax-New i c l) (judges_gives f outcome.Refused)
+pub find_new : (s : Tables) (m : Extent) (f g h k : Findings) (x : Expr) (i : TokenNo) (c : Identifier) (l : Vec Expr Global) (es : List Expr) (d : Option Denotation) (a : Actuals) (o : Outcome) → x ≡ e.New i c l → es ≡ l.items
+    → Judges f g d (class_named s m c) → FindsActuals s m g h d no_actuals a es → Judges h k o (new_object s i.0 c d a) → Finds s m f k o x
+unfolding judge FindsActuals
+find_new s m f g h k x i c l es d a o is ee one all last =
+    found_as s m f k o x _ (ap syntax_of is ∙ v.syntax-New i c l)
+    (judges_as
+    (judges_next (class_named s m c) (λ d. next (actuals s m d no_actuals (expressions (map syntax_of es))) (new_object s i.0 c d)) one
+    (judges_next (actuals s m d no_actuals (expressions (map syntax_of es))) (new_object s i.0 c d) all last))
+    (ap (λ z. next (class_named s m c) (λ d. next (actuals s m d no_actuals (expressions (map syntax_of z))) (new_object s i.0 c d))) ee))
 
 pub find_Integer : (s : Tables) (m : Extent) (f g : Findings) (x : Expr) (i : TokenNo) (n : ℤ) (o : Outcome) → x ≡ e.Integer i n → Judges f g o (has i.0 type.Integer) → Finds s m f g o x
 unfolding judge

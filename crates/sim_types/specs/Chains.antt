@@ -1,35 +1,30 @@
--- Classes on one prefix chain, and the common type of two arms.
-use Rattle.std.specs.Prelude.{◌≡◌, ℕ, Bool, ◌||◌, nat_eq, if◌then◌else◌, List, [], ◌∷◌, drop, Option, Some, None}
-use Rattle.std.specs.List.{list_any}
-use Rattle.std.specs.Option.{option_or}
+-- The innermost class that the prefix chains of two classes share.
+use Rattle.std.specs.Prelude.{◌≡◌, ℕ, true, Some, None}
 use Rattle.sim_base.specs.declared.numbering.DeclNo.{DeclNo}
-use Rattle.prefix_bind.specs.Classes.{levels_of}
-use Rattle.sim_scope.specs.declared.types.SimType.{SimType}
-use Rattle.sim_scope.specs.declared.types.SimType.TheVariants as t
-use Rattle.sim_scope.specs.Operators.{common_type}
+use Rattle.sim_scope.specs.Levels.{class_block, has_level, owner_of_level, shared_class}
+use Rattle.sim_scope.specs.Tables.{Tables}
 
--- A class is subordinate to itself, and to each class of its prefix chain.
-unfoldable pub subordinate : List (List DeclNo) → (inner outer : DeclNo) → Bool
-subordinate classes inner outer = nat_eq outer.0 inner.0 || list_any (λ d. nat_eq d.0 outer.0) (levels_of classes inner)
+-- Two classes have a class in common: it is a level of both, and each further level of both is one of its own levels, which lie further out.
+pub record HaveInCommon (s : Tables) (c d class : DeclNo) : Type 0 where
+  pub first : ℕ
+  pub first_is : class_block s c ≡ Some first
+  pub other : ℕ
+  pub other_is : class_block s d ≡ Some other
+  pub level : ℕ
+  pub owned : owner_of_level s (Some level) ≡ Some class
+  pub of_first : has_level s first level ≡ true
+  pub of_other : has_level s other level ≡ true
+  pub innermost : (block : ℕ) → has_level s first block ≡ true → has_level s other block ≡ true → has_level s level block ≡ true
 
--- the innermost of some levels to which a class is subordinate; they stand from the outermost inward
-unfoldable pub innermost : List (List DeclNo) → DeclNo → List DeclNo → Option DeclNo
-innermost classes class [] = None
-innermost classes class (d ∷ ds) = option_or (innermost classes class ds) (if subordinate classes class d then Some d else None)
+-- each level of a class is a class
+abbrev pub HasClasses : Tables → (block : ℕ) → Type 0
+HasClasses s block = (level : ℕ) → has_level s block level ≡ true → owner_of_level s (Some level) ≡ None → ⊥
 
--- the innermost class that stands in the prefix chains of both
-unfoldable pub common_class : List (List DeclNo) → (first second : DeclNo) → Option DeclNo
-common_class classes first second = if subordinate classes second first then Some first else innermost classes second (levels_of classes first)
+abbrev pub InnermostInCommon : Type 0
+InnermostInCommon = (s : Tables) (c d class : DeclNo) → shared_class s c d ≡ Some class → HaveInCommon s c d class
 
-abbrev pub reference_to : Option DeclNo → Option SimType
-reference_to None = None
-reference_to (Some d) = Some (t.Ref d)
-
--- The common type of two types: two references have the innermost class of both, `none` agrees with each reference, and others are the same.
-unfoldable pub common : List (List DeclNo) → (first second : SimType) → Option SimType
-common classes (t.Ref a) (t.Ref b) = reference_to (common_class classes a b)
-common classes a b = common_type a b
-
--- in a loop over levels: with what is found so far the rest gives what the whole gives
-unfoldable pub Rests : List (List DeclNo) → DeclNo → List DeclNo → (found : Option DeclNo) → ℕ → Type 0
-Rests classes class ds found i = option_or (innermost classes class (drop i ds)) found ≡ innermost classes class ds
+-- where they have none in common, no level is of both
+abbrev pub NoneInCommon : Type 0
+NoneInCommon =
+    (s : Tables) (c d : DeclNo) (first other level : ℕ) → shared_class s c d ≡ None → class_block s c ≡ Some first → class_block s d ≡ Some other
+    → HasClasses s first → has_level s first level ≡ true → has_level s other level ≡ true → ⊥

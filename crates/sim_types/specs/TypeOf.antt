@@ -18,12 +18,12 @@ use Rattle.sim_scope.specs.Tables.{Tables}
 abbrev pub least_in : Judged Side → Option Fault
 least_in j = (after (unknown 0) j.events).least
 
--- What refuses a type: the least rule that is broken; else, where there is no type, that the form is not built. (The expressions of classes break
--- no rule and have no type, until they are judged.)
+-- What refuses a type: the least rule that is broken. (Where no declaration breaks a rule, an expression that breaks none has a type; in other
+-- tables one without a type is of a wrong one.)
 abbrev pub refusing : Side → Option SimType → Option Fault → Option Fault
 refusing x ty (Some fault) = Some fault
 refusing x (Some ty) None = None
-refusing x None None = Some (record { token = x.first; rule = r.FormNotBuilt })
+refusing x None None = Some (record { token = x.first; rule = r.WrongType })
 
 abbrev pub IsTypeOf : Judged Side → Result SimType StaticRefusal → Type 0
 IsTypeOf j (Ok ty) = (least_in j ≡ None) × (j.value.ty ≡ Some ty)

@@ -1,172 +1,16 @@
 //! What an identifier is: alone, and with actual parameters or subscripts.
-ghost use Rattle.std.specs.Prelude.{◌≡◌, Some};
+ghost use Rattle.std.specs.Prelude.{◌≡◌, Some, nat_eq};
 ghost use Rattle.sim_scope.specs.Judged.{Judges};
-ghost use Rattle.sim_scope.specs.Calls.{alone, applied, attribute, attribute_found, attribute_of_type, attribute_of_value, barred, attribute_by_value, barred_declaration, bound as bound_to, declared_alone, declared_applied, element_of, formal_alone, formal_applied, formal_kind_alone, is_barred, is_fixed, parameter_count, procedure_alone, resulting, standard_applied, typed_if, used, used_or_barred};
+ghost use Rattle.sim_scope.specs.Calls.{alone, applied, attribute_count, declared_alone, declared_applied, element_of, formal_alone, formal_applied, in_its_match, inside_match, is_undotted, match_at, match_found, parameter_count, procedure_alone, resulting, standard_applied, typed_if, used};
 
-use crate::headings::{formals_of, is_inside};
-use crate::outcomes::{breaks, call_of, is_stream, side, varies};
+use crate::headings::{block_in, formals_of, is_inside};
+use crate::outcomes::{breaks, call_of, is_standard_class, is_stream, varies};
 use sim_base::{DeclNo, Rule, TokenNo};
 use sim_scope::{
-    Actuals, Denotation, Entry, Extent, Fault, Formal, FormalKind, Found, Outcome, Scopes, Side,
-    Signature, SimType, Standard, binding, block_at, entry_of, sysin_attribute, sysout_attribute,
-    text_attribute, undeclared,
+    Actuals, Denotation, Entry, Fault, Formal, FormalKind, Found, Outcome, Scopes, Signature,
+    SimType, Standard, block_at, declaration_from, entry_of,
 };
 use sim_tree::Identifier;
-
-/// Whether an array bound may use a declaration of its own block.
-fn is_fixed(entry: Entry) -> bool
-    ensures { result ≡ is_fixed entry }
-{
-    match entry {
-        Entry::Constant(_) => true,
-        Entry::Formal(_) => true,
-        _ => false,
-    }
-}
-
-fn barred_declared(scopes: &Scopes, token: TokenNo, declaration: DeclNo) -> bool
-    ensures { result ≡ barred scopes.now token.0 (Denotation.Declared declaration) }
-{
-    match scopes.declarations().get(declaration.0 as usize) {
-        Some(row) => match block_at(scopes, token) {
-            Some(place) => place == row.block && !is_fixed(row.entry),
-            None => false,
-        },
-        None => false,
-    }
-}
-
-/// Whether an identifier may not stand in a bound.
-#[tactic(auto, unfolding(sim_scope::specs::Calls::is_barred))]
-fn is_barred(scopes: &Scopes, extent: Extent, token: TokenNo, denotation: Denotation) -> bool
-    ensures { result ≡ is_barred scopes.now extent token.0 denotation }
-{
-    match (extent, denotation) {
-        (Extent::Statement, _) => false,
-        (Extent::Bound, Denotation::Declared(declaration)) => {
-            barred_declared(scopes, token, declaration)
-        }
-        (Extent::Bound, Denotation::Standard(_)) => false,
-    }
-}
-
-/// A use of an identifier, unless it may not stand there.
-#[tactic(auto, unfolding(sim_scope::specs::Judged::telling, sim_scope::specs::Runs::run))]
-fn used_or_barred(
-    found: &mut Found,
-    token: TokenNo,
-    denotation: Denotation,
-    barred: bool,
-) -> Option<Denotation>
-    ensures { Judges found.old found.new result (used_or_barred token.0 denotation barred) }
-{
-    if barred {
-        found.note(token, Rule::BoundDependsOnItsBlock);
-        None
-    } else {
-        found.bind(token, denotation);
-        Some(denotation)
-    }
-}
-
-/// What an identifier denotes.
-#[tactic(auto, unfolding(sim_scope::specs::Calls::bound, sim_scope::specs::Judged::telling, sim_scope::specs::Runs::run))]
-pub fn bound(
-    scopes: &Scopes,
-    extent: Extent,
-    found: &mut Found,
-    name: &Identifier,
-) -> Option<Denotation>
-    ensures { Judges found.old found.new result (bound_to scopes.now extent name.now) }
-{
-    match binding(scopes, name.token, name.name.as_bytes()) {
-        Some(denotation) => {
-            let barred = is_barred(scopes, extent, name.token, denotation);
-            used_or_barred(found, name.token, denotation, barred)
-        }
-        None => {
-            found.note(name.token, undeclared(name.name.as_bytes()));
-            None
-        }
-    }
-}
-
-/// An attribute that is looked for.
-#[tactic(auto, unfolding(sim_scope::specs::Judged::telling, sim_scope::specs::Runs::run))]
-fn attribute_found(
-    found: &mut Found,
-    name: &Identifier,
-    attribute: Option<Standard>,
-) -> Option<Denotation>
-    ensures { Judges found.old found.new result (attribute_found name.now attribute) }
-{
-    match attribute {
-        Some(standard) => {
-            found.bind(name.token, Denotation::Standard(standard));
-            Some(Denotation::Standard(standard))
-        }
-        None => {
-            found.note(name.token, undeclared(name.name.as_bytes()));
-            None
-        }
-    }
-}
-
-/// What an attribute of a value denotes.
-#[tactic(auto, unfolding(sim_scope::specs::Calls::attribute_of_value, sim_scope::specs::Judged::gives, sim_scope::specs::Judged::telling, sim_scope::specs::Runs::run))]
-fn attribute_of_value(found: &mut Found, name: &Identifier, value: Side) -> Option<Denotation>
-    ensures { Judges found.old found.new result (attribute_of_value name.now value) }
-{
-    match value.ty {
-        Some(SimType::Text) => {
-            attribute_found(found, name, text_attribute(name.name.as_bytes()))
-        }
-        Some(SimType::NoneType) => attribute_found(found, name, None),
-        Some(SimType::Ref(_)) => None,
-        Some(_) => {
-            found.note(value.first, Rule::WrongType);
-            None
-        }
-        None => None,
-    }
-}
-
-fn attribute_of_outcome(
-    scopes: &Scopes,
-    found: &mut Found,
-    name: &Identifier,
-    first: TokenNo,
-    outcome: Outcome,
-) -> Option<Denotation>
-    ensures { Judges found.old found.new result (attribute_by_value scopes.now name.now first.0 outcome) }
-{
-    let value = side(scopes, found, first, outcome);
-    attribute_of_value(found, name, value)
-}
-
-/// What an attribute behind a dot denotes.
-#[tactic(auto, unfolding(sim_scope::specs::Calls::attribute))]
-pub(crate) fn attribute(
-    scopes: &Scopes,
-    found: &mut Found,
-    name: &Identifier,
-    first: TokenNo,
-    outcome: Outcome,
-) -> Option<Denotation>
-    ensures { Judges found.old found.new result (attribute scopes.now name.now first.0 outcome) }
-{
-    match outcome {
-        Outcome::Standard {
-            name: Standard::Sysin,
-            ..
-        } => { attribute_found(found, name, sysin_attribute(name.name.as_bytes())) }
-        Outcome::Standard {
-            name: Standard::Sysout,
-            ..
-        } => { attribute_found(found, name, sysout_attribute(name.name.as_bytes())) }
-        _ => attribute_of_outcome(scopes, found, name, first, outcome),
-    }
-}
 
 /// The type of a call, where it has one.
 #[tactic(auto, unfolding(sim_scope::specs::Judged::gives, sim_scope::specs::Judged::telling, sim_scope::specs::Runs::run))]
@@ -196,6 +40,54 @@ fn formal_alone(found: &mut Found, naming: TokenNo, formal: Formal, outcome: Out
     }
 }
 
+/// Whether no dot stands in front of an identifier: then its own token names the expression.
+fn is_undotted(naming: TokenNo, name: &Identifier) -> bool
+    ensures { result ≡ is_undotted naming.0 name.now }
+{
+    naming == name.token
+}
+
+fn match_at(entry: Option<Entry>, declaration: Option<DeclNo>) -> Option<DeclNo>
+    ensures { result ≡ match_at entry declaration }
+{
+    match entry {
+        Some(Entry::Virtual { own, .. }) => own,
+        _ => declaration,
+    }
+}
+
+/// The match that a search for a virtual comes to.
+fn match_found(scopes: &Scopes, declaration: Option<DeclNo>) -> Option<DeclNo>
+    ensures { result ≡ match_found scopes.now declaration }
+{
+    match declaration {
+        Some(found) => match_at(entry_of(scopes, found), declaration),
+        None => None,
+    }
+}
+
+fn inside_match(scopes: &Scopes, token: TokenNo, declaration: Option<DeclNo>) -> bool
+    ensures { result ≡ inside_match scopes.now token.0 declaration }
+{
+    match declaration {
+        Some(declaration) => match block_in(entry_of(scopes, declaration)) {
+            Some(block) => is_inside(scopes, token, block),
+            None => false,
+        },
+        None => false,
+    }
+}
+
+/// Whether an identifier of a virtual stands in the text of its match, where it is the result as a left side.
+#[tactic(auto, unfolding(sim_scope::specs::Calls::in_its_match))]
+fn in_its_match(scopes: &Scopes, name: &Identifier) -> bool
+    ensures { result ≡ in_its_match scopes.now name.now }
+{
+    let place = block_at(scopes, name.token);
+    let declaration = declaration_from(scopes, Some(name.token.0), place, name.name.as_bytes());
+    inside_match(scopes, name.token, match_found(scopes, declaration))
+}
+
 /// A declared identifier alone.
 #[tactic(auto, unfolding(sim_scope::specs::Judged::gives, sim_scope::specs::Judged::telling, sim_scope::specs::Runs::run))]
 fn declared_alone(
@@ -216,7 +108,7 @@ fn declared_alone(
         }
         Some(Entry::Array { element, .. }) => Outcome::Array(element),
         Some(Entry::Procedure { result, block }) => {
-            let own = is_inside(scopes, name.token, block);
+            let own = is_undotted(naming, name) && is_inside(scopes, name.token, block);
             typed_if(
                 found,
                 naming,
@@ -226,6 +118,15 @@ fn declared_alone(
         }
         Some(Entry::Class { .. }) => Outcome::Class,
         Some(Entry::Virtual { result, .. }) => {
+            let own = is_undotted(naming, name) && in_its_match(scopes, name);
+            typed_if(
+                found,
+                naming,
+                result,
+                procedure_alone(declaration, name, own),
+            )
+        }
+        Some(Entry::Attribute { result, .. }) => {
             typed_if(
                 found,
                 naming,
@@ -257,6 +158,32 @@ fn procedure_alone(declaration: DeclNo, name: &Identifier, own: bool) -> Outcome
     }
 }
 
+/// A standard name alone.
+#[tactic(auto, unfolding(sim_scope::specs::Calls::alone, sim_scope::specs::Judged::gives, sim_scope::specs::Runs::run))]
+fn standard_alone(
+    scopes: &Scopes,
+    found: &mut Found,
+    naming: TokenNo,
+    name: &Identifier,
+    standard: Standard,
+) -> Outcome
+    ensures { Judges found.old found.new result (alone scopes.now naming.0 name.now (Denotation.Standard standard)) }
+{
+    if is_standard_class(standard) {
+        Outcome::Class
+    } else {
+        typed_if(
+            found,
+            naming,
+            standard.signature().result,
+            Outcome::Standard {
+                name: standard,
+                token: name.token,
+            },
+        )
+    }
+}
+
 /// An identifier alone.
 #[tactic(auto, unfolding(sim_scope::specs::Calls::alone))]
 fn alone(
@@ -273,15 +200,7 @@ fn alone(
             let entry = entry_of(scopes, declaration);
             declared_alone(scopes, found, naming, name, declaration, entry)
         }
-        Denotation::Standard(standard) => typed_if(
-            found,
-            naming,
-            standard.signature().result,
-            Outcome::Standard {
-                name: standard,
-                token: name.token,
-            },
-        ),
+        Denotation::Standard(standard) => standard_alone(scopes, found, naming, name, standard),
     }
 }
 
@@ -349,6 +268,16 @@ fn formal_applied(
     }
 }
 
+/// How many parameters an attribute of a standard class has.
+fn attribute_count(parameter: Option<SimType>) -> usize
+    ensures { result ≡ attribute_count parameter }
+{
+    match parameter {
+        Some(_) => 1,
+        None => 0,
+    }
+}
+
 /// A declared identifier with actuals.
 fn declared_applied(
     found: &mut Found,
@@ -381,6 +310,19 @@ fn declared_applied(
             }
         }
         Some(Entry::Virtual { result, .. }) => resulting(found, naming, actuals.misfit, result),
+        Some(
+            Entry::Attribute {
+                parameter,
+                result,
+                ..
+            },
+        ) => {
+            if attribute_count(parameter) == actuals.count {
+                resulting(found, naming, actuals.misfit, result)
+            } else {
+                breaks(found, token, Rule::WrongNumber)
+            }
+        }
         Some(Entry::Formal(formal)) => {
             formal_applied(found, naming, token, formal, actuals.misfit)
         }
@@ -401,6 +343,8 @@ fn standard_applied(
 {
     if is_stream(name) {
         breaks(found, token, Rule::StandardNameLeftOut)
+    } else if is_standard_class(name) {
+        breaks(found, token, Rule::WrongKind)
     } else if parameter_count(signature) == actuals.count {
         resulting(found, naming, actuals.misfit, signature.result)
     } else {

@@ -4,9 +4,11 @@ ghost use Rattle.sim_tree.specs.SyntaxOf.{factor_syntax, operand_syntax, selecto
 ghost use Rattle.sim_scope.specs.Actuals.{no_actuals};
 ghost use Rattle.sim_scope.specs.ExpressionWalk.{Finds, FindsActuals, FindsNamed, FindsNot, FindsSelected, FindsSide, FindsTail, FindsTaken};
 
-use crate::actuals::more;
-use crate::calls::{attribute, bound, used};
+use crate::bindings::{attribute, bound};
+use crate::calls::used;
 use crate::outcomes::{has, in_parentheses, one, side, three, two};
+use crate::parameters::more;
+use crate::references::{class_named, member, new_object, qualified, this_object};
 use sim_base::TokenNo;
 use sim_scope::{Actuals, Denotation, Extent, Found, Outcome, Scopes, Side, SimType};
 use sim_tree::{Expr, Factor, Identifier, Operand, Operator, Selector, Term, first_token};
@@ -27,7 +29,7 @@ pub fn judge(scopes: &Scopes, extent: Extent, found: &mut Found, expr: &Expr) ->
             let condition = operand(scopes, extent, found, condition);
             let first = operand(scopes, extent, found, first);
             let second = operand(scopes, extent, found, second);
-            three(found, *token, condition, first, second)
+            three(scopes, found, *token, condition, first, second)
         }
         Expr::OrElse { first, rest } => {
             let left = judge(scopes, extent, found, first);
@@ -167,12 +169,29 @@ pub fn judge(scopes: &Scopes, extent: Extent, found: &mut Found, expr: &Expr) ->
             let outcome = judge(scopes, extent, found, inner);
             in_parentheses(scopes, found, first_token(inner), outcome)
         }
-        Expr::Member { object, .. } => {
-            judge(scopes, extent, found, object);
-            Outcome::Refused
+        Expr::Member {
+            object,
+            token,
+            class,
+            ..
+        } => {
+            let object = operand(scopes, extent, found, object);
+            let named = class_named(scopes, extent, found, class);
+            member(scopes, found, *token, object, class, named)
         }
-        Expr::This { .. } => Outcome::Refused,
-        Expr::New { .. } => Outcome::Refused,
+        Expr::This { token, class } => {
+            let named = class_named(scopes, extent, found, class);
+            this_object(scopes, extent, found, *token, class, named)
+        }
+        Expr::New {
+            token,
+            class,
+            arguments,
+        } => {
+            let named = class_named(scopes, extent, found, class);
+            let actuals = actuals(scopes, extent, found, named, arguments);
+            new_object(scopes, found, *token, class, named, actuals)
+        }
     }
 }
 
@@ -319,11 +338,15 @@ fn selection(
             name,
             arguments,
         } => {
-            let denotation = attribute(scopes, found, name, first, object);
+            let denotation = attribute(scopes, extent, found, name, first, object);
             let actuals = actuals(scopes, extent, found, denotation, arguments);
             used(scopes, found, *token, name, denotation, actuals)
         }
-        Selector::Qua { .. } => Outcome::Refused,
+        Selector::Qua { token, class } => {
+            let object = side(scopes, found, first, object);
+            let named = class_named(scopes, extent, found, class);
+            qualified(scopes, found, *token, object, class, named)
+        }
     }
 }
 
@@ -347,7 +370,7 @@ fn named(
 /// Actual parameters or subscripts of what an identifier denotes.
 #[cycle(judge)]
 #[tactic(auto, using(crate::proofs::Walks::walks))]
-fn actuals(
+pub fn actuals(
     scopes: &Scopes,
     extent: Extent,
     found: &mut Found,

@@ -1,8 +1,9 @@
 //! How types fit operators.
 ghost use Rattle.std.specs.Prelude.{◌≡◌};
-ghost use Rattle.sim_scope.specs.Operators.{alike, both_are, common_type, is_reference, is_same, operands_fit, ordered, relates};
+ghost use Rattle.sim_scope.specs.Operators.{alike, both_are, common_type, is_reference, is_same, misfit_of, operands_fit, ordered, reference_misfit, reference_to, relates, wrong_type_unless};
 
-use sim_scope::{Fit, SimType};
+use sim_base::{DeclNo, Rule};
+use sim_scope::{Fit, Scopes, SimType, on_one_chain, shared_class};
 use sim_tree::{Operator, Relation};
 
 /// Whether two types are the same.
@@ -50,7 +51,8 @@ fn ordered(left: SimType, right: SimType) -> Fit
     }
 }
 
-fn is_reference(ty: SimType) -> bool
+/// Whether a type is one of references, or that of `none`.
+pub fn is_reference(ty: SimType) -> bool
     ensures { result ≡ is_reference ty }
 {
     match ty {
@@ -102,11 +104,24 @@ pub(crate) fn operands_fit(operator: Operator, left: SimType, right: SimType) ->
     }
 }
 
+fn reference_to(class: Option<DeclNo>) -> Option<SimType>
+    ensures { result ≡ reference_to class }
+{
+    match class {
+        Some(class) => Some(SimType::Ref(class)),
+        None => None,
+    }
+}
+
 /// The common type of two arms, if they have one.
-pub(crate) fn common_type(first: SimType, second: SimType) -> Option<SimType>
-    ensures { result ≡ common_type first second }
+#[tactic(auto, unfolding(sim_scope::specs::Operators::common_type))]
+pub(crate) fn common_type(scopes: &Scopes, first: SimType, second: SimType) -> Option<SimType>
+    ensures { result ≡ common_type scopes.now first second }
 {
     match (first, second) {
+        (SimType::Ref(first), SimType::Ref(second)) => {
+            reference_to(shared_class(scopes, first, second))
+        }
         (SimType::Ref(_), SimType::NoneType) => Some(first),
         (SimType::NoneType, SimType::Ref(_)) => Some(second),
         _ => {
@@ -116,5 +131,41 @@ pub(crate) fn common_type(first: SimType, second: SimType) -> Option<SimType>
                 None
             }
         }
+    }
+}
+
+fn wrong_type_unless(fits: bool) -> Option<Rule>
+    ensures { result ≡ wrong_type_unless fits }
+{
+    if fits { None } else { Some(Rule::WrongType) }
+}
+
+/// The rule that a value breaks which goes to a place for references of a class.
+fn reference_misfit(scopes: &Scopes, class: DeclNo, given: SimType) -> Option<Rule>
+    ensures { result ≡ reference_misfit scopes.now class given }
+{
+    match given {
+        SimType::Ref(given) => {
+            if on_one_chain(scopes, class, given) {
+                None
+            } else {
+                Some(Rule::DifferentChains)
+            }
+        }
+        SimType::NoneType => None,
+        _ => Some(Rule::WrongType),
+    }
+}
+
+/// The rule that a value breaks which goes to a place of another type: `S13`, and `S16` where both are references. The value stands in an
+/// assignment or as an actual parameter; the rule is told at its first token.
+#[tactic(auto, unfolding(sim_scope::specs::Operators::misfit_of))]
+pub fn misfit_of(scopes: &Scopes, wanted: SimType, given: SimType) -> Option<Rule>
+    ensures { result ≡ misfit_of scopes.now wanted given }
+{
+    match wanted {
+        SimType::Ref(class) => reference_misfit(scopes, class, given),
+        SimType::NoneType => wrong_type_unless(is_reference(given)),
+        _ => wrong_type_unless(is_same(wanted, given)),
     }
 }

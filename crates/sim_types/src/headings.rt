@@ -8,7 +8,7 @@ use sim_base::{DeclNo, TokenNo};
 use sim_scope::{Block, Entry, Formal, Scopes, SimType, entry_of};
 
 /// The block of a procedure or a class.
-fn block_in(entry: Option<Entry>) -> Option<u32>
+pub(crate) fn block_in(entry: Option<Entry>) -> Option<u32>
     ensures { result ≡ block_in entry }
 {
     match entry {
@@ -85,6 +85,7 @@ pub fn result_in(entry: Option<Entry>) -> Option<SimType>
         Some(Entry::Procedure { result, .. }) => result,
         Some(Entry::Virtual { result, .. }) => result,
         Some(Entry::Formal(formal)) => formal.ty,
+        Some(Entry::Attribute { result, .. }) => result,
         _ => None,
     }
 }

@@ -1,6 +1,7 @@
 //! What an expression is where a value is needed, and what operators make of operands.
 ghost use Rattle.std.specs.Prelude.{◌≡◌};
 ghost use Rattle.sim_scope.specs.Judged.{Judges};
+ghost use Rattle.sim_scope.specs.Standard.{is_standard_class};
 ghost use Rattle.sim_scope.specs.Outcomes.{breaks, call_of, called, has, in_parentheses, is_stream, one, parenthesized, procedure_called, side, side_of, signature_called, standard_called, three, two, type_in, value_of, valued, varies};
 
 use crate::fit::{common_type, is_same, operands_fit};
@@ -65,6 +66,19 @@ fn procedure_called(
         }
         Some(Entry::Virtual { result, .. }) => call_of(result),
         Some(Entry::Formal(formal)) => call_of(formal.ty),
+        Some(
+            Entry::Attribute {
+                parameter: None,
+                result,
+                ..
+            },
+        ) => call_of(result),
+        Some(
+            Entry::Attribute {
+                parameter: Some(_),
+                ..
+            },
+        ) => breaks(found, token, Rule::WrongNumber),
         _ => Outcome::Refused,
     }
 }
@@ -76,6 +90,18 @@ pub fn is_stream(name: Standard) -> bool
     match name {
         Standard::Sysin => true,
         Standard::Sysout => true,
+        _ => false,
+    }
+}
+
+/// Whether a standard name is the class `simset` or `simulation`.
+#[tactic(auto, unfolding(sim_scope::specs::Standard::is_standard_class))]
+pub fn is_standard_class(name: Standard) -> bool
+    ensures { result ≡ is_standard_class name }
+{
+    match name {
+        Standard::Simset => true,
+        Standard::Simulation => true,
         _ => false,
     }
 }
@@ -239,20 +265,21 @@ pub(crate) fn one(found: &mut Found, wanted: SimType, token: TokenNo, operand: S
 /// A condition and two arms.
 #[tactic(auto, unfolding(sim_scope::specs::Outcomes::three, sim_scope::specs::Judged::gives, sim_scope::specs::Runs::run))]
 pub(crate) fn three(
+    scopes: &Scopes,
     found: &mut Found,
     token: TokenNo,
     condition: Side,
     first: Side,
     second: Side,
 ) -> Outcome
-    ensures { Judges found.old found.new result (three token.0 condition first second) }
+    ensures { Judges found.old found.new result (three scopes.now token.0 condition first second) }
 {
     match (condition.ty, first.ty, second.ty) {
         (Some(ty), Some(one), Some(other)) => {
             if !is_same(ty, SimType::Boolean) {
                 return breaks(found, condition.first, Rule::WrongType);
             }
-            match common_type(one, other) {
+            match common_type(scopes, one, other) {
                 Some(ty) => has(found, token, ty),
                 None => breaks(found, second.first, Rule::WrongType),
             }

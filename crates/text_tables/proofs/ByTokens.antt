@@ -6,7 +6,7 @@ use Rattle.std.proofs.lemmas.Bool.Decides.{eqb_tells}
 use Rattle.sim_base.specs.declared.numbering.DeclNo.{DeclNo}
 use Rattle.sim_scope.specs.declared.bound.Bound.{Bound}
 use Rattle.sim_scope.specs.declared.scopes.Declaration.{Declaration}
-use Rattle.sim_scope.specs.Scopes.{joined}
+use Rattle.sim_scope.specs.Access.{joined}
 use Rattle.sim_scope.specs.Source.{source_of}
 use Rattle.sim_values.specs.Plain.{Plain}
 use Rattle.sim_code.specs.Rows.{text_value}

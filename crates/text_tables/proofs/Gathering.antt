@@ -10,7 +10,7 @@ use Rattle.sim_base.specs.declared.numbering.DeclNo.{DeclNo}
 use Rattle.sim_base.specs.declared.numbering.TokenNo.{TokenNo}
 use Rattle.sim_scope.specs.declared.bound.Bound.{Bound}
 use Rattle.sim_scope.specs.declared.scopes.Declaration.{Declaration as Row}
-use Rattle.sim_scope.specs.Scopes.{joined}
+use Rattle.sim_scope.specs.Access.{joined}
 use Rattle.sim_scope.specs.Source.{Source, source_of}
 use Rattle.sim_tree.specs.declared.expr.Identifier.{Identifier}
 use Rattle.sim_tree.specs.declared.program.BlockPrefix.{BlockPrefix}

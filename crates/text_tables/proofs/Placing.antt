@@ -11,7 +11,8 @@ use Rattle.sim_scope.specs.declared.bound.Bound.{Bound}
 use Rattle.sim_scope.specs.declared.scopes.Declaration.{Declaration}
 use Rattle.sim_scope.specs.declared.types.Entry.{Entry}
 use Rattle.sim_scope.specs.declared.types.Entry.TheVariants as entry
-use Rattle.sim_scope.specs.Scopes.{entry_in, entry_of, joined}
+use Rattle.sim_scope.specs.Access.{joined}
+use Rattle.sim_scope.specs.Scopes.{entry_in, entry_of}
 use Rattle.sim_scope.specs.Source.{Source, block_of, block_of_row, source_of}
 use Rattle.sim_tree.specs.declared.program.BlockPrefix.{BlockPrefix}
 use Rattle.sim_tree.specs.declared.stmt.Block.{Block}
@@ -151,6 +152,7 @@ module _ (s : Source) (k : ℕ) where
   one_cell d (Some (entry.Class block)) h = absurd (cc)
   one_cell d (Some (entry.Virtual result own)) h = absurd (cc)
   one_cell d (Some (entry.Unspecified written)) h = absurd (cc)
+  one_cell d (Some (entry.Attribute name parameter result)) h = absurd (cc)
 
   no_cell : (d : DeclNo) (e : Option Entry) → has_cell e ≡ false → with_cell d e [] ≡ []
   no_cell d None h = refl
@@ -162,6 +164,7 @@ module _ (s : Source) (k : ℕ) where
   no_cell d (Some (entry.Class block)) h = refl
   no_cell d (Some (entry.Virtual result own)) h = refl
   no_cell d (Some (entry.Unspecified written)) h = refl
+  no_cell d (Some (entry.Attribute name parameter result)) h = refl
 
   more_cells : (d : DeclNo) (e : Option Entry) (hs : List Held) → with_cell d e hs ≡ with_cell d e [] ++ hs
   more_cells d None hs = refl
@@ -173,6 +176,7 @@ module _ (s : Source) (k : ℕ) where
   more_cells d (Some (entry.Class block)) hs = refl
   more_cells d (Some (entry.Virtual result own)) hs = refl
   more_cells d (Some (entry.Unspecified written)) hs = refl
+  more_cells d (Some (entry.Attribute name parameter result)) hs = refl
 
   -- ---- cells behind cells
 

@@ -8,7 +8,8 @@ use Rattle.sim_scope.specs.declared.bound.Bound.{Bound}
 use Rattle.sim_scope.specs.declared.types.Entry.{Entry}
 use Rattle.sim_scope.specs.declared.types.Entry.TheVariants as entry
 use Rattle.sim_scope.specs.declared.types.Formal.{Formal}
-use Rattle.sim_scope.specs.Scopes.{entry_of, formals_in, joined}
+use Rattle.sim_scope.specs.Access.{joined}
+use Rattle.sim_scope.specs.Scopes.{entry_of, formals_in}
 use Rattle.sim_scope.specs.Source.{Source, block_of, source_of}
 use Rattle.sim_scope.specs.Tables.{BlockOf}
 use Rattle.sim_tree.specs.declared.stmt.TypeName.{TypeName}

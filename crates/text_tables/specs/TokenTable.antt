@@ -3,7 +3,7 @@ use Rattle.std.specs.Prelude.{◌≡◌, ◌≤◌, ℕ, ◌==◌, if◌then◌e
 use Rattle.sim_base.specs.declared.numbering.DeclNo.{DeclNo}
 use Rattle.sim_scope.specs.declared.bound.Bound.{Bound}
 use Rattle.sim_scope.specs.declared.scopes.Declaration.{Declaration}
-use Rattle.sim_scope.specs.Scopes.{joined}
+use Rattle.sim_scope.specs.Access.{joined}
 use Rattle.sim_scope.specs.Source.{source_of}
 use Rattle.sim_meaning.specs.Constants.{constant_from, text_constant}
 use Rattle.sim_meaning.specs.Texts.{declared_at, number_from}

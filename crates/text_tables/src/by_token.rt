@@ -1,7 +1,7 @@
 //! Declarations and text constants by token.
 ghost use Rattle.std.specs.Prelude.{◌≡◌, IfOk, OnOk, length, slice_get};
 ghost use Rattle.sim_meaning.specs.Texts.{declared_at as declared_at_of};
-ghost use Rattle.sim_scope.specs.Scopes.{joined};
+ghost use Rattle.sim_scope.specs.Access.{joined};
 ghost use Rattle.sim_scope.specs.Source.{source_of};
 ghost use Rattle.text_tables.specs.TokenTable.{AreDeclared, AreNumbered, Longer, Noted, NotedTo, NumberedTo};
 

@@ -17,6 +17,7 @@ fn next(block: &Block, number: u32) -> Result<u32, AllocError>
         BlockKind::Procedure => deeper(number),
         BlockKind::Class => deeper(number),
         BlockKind::Prefixed => deeper(number),
+        BlockKind::StandardClass(_) => deeper(number),
     }
 }
 

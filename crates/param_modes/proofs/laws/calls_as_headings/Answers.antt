@@ -1,5 +1,4 @@
 use Rattle.param_modes.proofs.AsJudged.{as_held, as_settled}
-use Rattle.param_modes.proofs.Gathering.{has_heading}
 use Rattle.param_modes.proofs.laws.calls_as_headings.Goals as goal
 
 pub returns-clause-actuals : goal.returns-clause-actuals
@@ -7,6 +6,3 @@ returns-clause-actuals c = as_held
 
 pub returns-clause-call : goal.returns-clause-call
 returns-clause-call c = as_settled
-
-pub returns-clause-headings : goal.returns-clause-headings
-returns-clause-headings c = has_heading

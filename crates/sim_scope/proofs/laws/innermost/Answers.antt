@@ -1,4 +1,4 @@
-use Rattle.sim_scope.proofs.Outward.{every_innermost, found_innermost}
+use Rattle.sim_scope.proofs.Searches.{every_innermost, found_innermost}
 use Rattle.sim_scope.proofs.laws.innermost.Goals as goal
 
 pub returns-clause-found : goal.returns-clause-found

@@ -1,6 +1,6 @@
 use Rattle.std.proofs.Common.{ap, ◌∙◌}
 use Rattle.std.specs.Prelude.{slice_get}
-use Rattle.sim_scope.specs.Scopes.{joined}
+use Rattle.sim_scope.specs.Access.{joined}
 use Rattle.text_tables.proofs.ByTokens as b
 use Rattle.text_tables.proofs.by_token.note.Goals as goal
 

@@ -1,0 +1,7 @@
+use Rattle.sim_scope.specs.Building.{marked}
+use Rattle.sim_scope.specs.Declare.{protected_marks}
+use Rattle.sim_scope.specs.Runs.{Leads}
+use Rattle.sim_scope.proofs.parts.protected.Given as goal
+
+abbrev pub invariant-loop-item : goal.invariant-loop-item
+invariant-loop-item l = Leads marked (protected_marks l.hides l.keeps) l.fn.tables l.list l.tables l.item-index

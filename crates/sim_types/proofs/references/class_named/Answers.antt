@@ -1,0 +1,7 @@
+use Rattle.sim_types.proofs.Steps.{class_named_in_steps}
+use Rattle.sim_types.proofs.references.class_named.Goals as goal
+
+pub returns : goal.returns
+returns c =
+    class_named_in_steps c.args.scopes.now c.args.extent c.args.name.now c.args.found.now c.bound-denotation.new.found c.as_class.new.found c.bound-denotation.result c.as_class.result
+    c.bound-denotation.ensures c.as_class.ensures

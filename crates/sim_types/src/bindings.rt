@@ -1,0 +1,310 @@
+//! What an identifier denotes: alone, and behind a dot.
+ghost use Rattle.std.specs.Prelude.{◌≡◌, Some};
+ghost use Rattle.sim_scope.specs.Judged.{Judges};
+ghost use Rattle.sim_scope.specs.Calls.{attribute, attribute_by_value, attribute_found, attribute_in, attribute_missing, attribute_of_value, barred, bound as bound_to, detach_or_none, is_barred, is_fixed, is_own_level, is_shown, missing, remote, remote_as, remote_in, remote_or_barred, used_or_barred};
+
+use crate::outcomes::side;
+use sim_base::{DeclNo, Rule, TokenNo};
+use sim_scope::{
+    Denotation, Entry, Extent, Found, Outcome, Scopes, Side, SimType, Standard, binding, block_at,
+    class_block, declared_or_standard, has_classes, has_level, is_detach, is_passed_over, shown,
+    sysin_attribute, sysout_attribute, text_attribute, undeclared,
+};
+use sim_tree::Identifier;
+
+/// Whether an array bound may use a declaration of its own block.
+fn is_fixed(entry: Entry) -> bool
+    ensures { result ≡ is_fixed entry }
+{
+    match entry {
+        Entry::Constant(_) => true,
+        Entry::Formal(_) => true,
+        _ => false,
+    }
+}
+
+/// Whether a block is one of the levels of the block around a token.
+fn is_own_level(scopes: &Scopes, place: Option<u32>, block: u32) -> bool
+    ensures { result ≡ is_own_level scopes.now place block }
+{
+    match place {
+        Some(place) => has_level(scopes, place, block),
+        None => false,
+    }
+}
+
+fn barred_declared(scopes: &Scopes, token: TokenNo, declaration: DeclNo) -> bool
+    ensures { result ≡ barred scopes.now token.0 (Denotation.Declared declaration) }
+{
+    match scopes.declarations().get(declaration.0 as usize) {
+        Some(row) => {
+            is_own_level(scopes, block_at(scopes, token), row.block) && !is_fixed(row.entry)
+        }
+        None => false,
+    }
+}
+
+/// Whether an identifier may not stand in a bound.
+#[tactic(auto, unfolding(sim_scope::specs::Calls::is_barred))]
+fn is_barred(scopes: &Scopes, extent: Extent, token: TokenNo, denotation: Denotation) -> bool
+    ensures { result ≡ is_barred scopes.now extent token.0 denotation }
+{
+    match (extent, denotation) {
+        (Extent::Statement, _) => false,
+        (Extent::Bound, Denotation::Declared(declaration)) => {
+            barred_declared(scopes, token, declaration)
+        }
+        (Extent::Bound, Denotation::Standard(_)) => false,
+    }
+}
+
+/// A use of an identifier, unless it may not stand there.
+#[tactic(auto, unfolding(sim_scope::specs::Judged::telling, sim_scope::specs::Runs::run))]
+fn used_or_barred(
+    found: &mut Found,
+    token: TokenNo,
+    denotation: Denotation,
+    barred: bool,
+) -> Option<Denotation>
+    ensures { Judges found.old found.new result (used_or_barred token.0 denotation barred) }
+{
+    if barred {
+        found.note(token, Rule::BoundDependsOnItsBlock);
+        None
+    } else {
+        found.bind(token, denotation);
+        Some(denotation)
+    }
+}
+
+/// The rule that an identifier breaks which is not found: `S11` where it was passed over, else `S10` or one of `N1` to `N4`.
+fn missing(passed: bool, name: &[u8]) -> Rule
+    ensures { result ≡ missing passed name.now }
+{
+    if passed {
+        Rule::NotAccessible
+    } else {
+        undeclared(name)
+    }
+}
+
+/// What an identifier denotes.
+#[tactic(auto, unfolding(sim_scope::specs::Calls::bound, sim_scope::specs::Judged::telling, sim_scope::specs::Runs::run))]
+pub fn bound(
+    scopes: &Scopes,
+    extent: Extent,
+    found: &mut Found,
+    name: &Identifier,
+) -> Option<Denotation>
+    ensures { Judges found.old found.new result (bound_to scopes.now extent name.now) }
+{
+    match binding(scopes, name.token, name.name.as_bytes()) {
+        Some(denotation) => {
+            let barred = is_barred(scopes, extent, name.token, denotation);
+            used_or_barred(found, name.token, denotation, barred)
+        }
+        None => {
+            let passed = is_passed_over(scopes, name.token, name.name.as_bytes());
+            found.note(name.token, missing(passed, name.name.as_bytes()));
+            None
+        }
+    }
+}
+
+/// An attribute that is looked for.
+#[tactic(auto, unfolding(sim_scope::specs::Judged::telling, sim_scope::specs::Runs::run))]
+fn attribute_found(
+    found: &mut Found,
+    name: &Identifier,
+    attribute: Option<Standard>,
+) -> Option<Denotation>
+    ensures { Judges found.old found.new result (attribute_found name.now attribute) }
+{
+    match attribute {
+        Some(standard) => {
+            found.bind(name.token, Denotation::Standard(standard));
+            Some(Denotation::Standard(standard))
+        }
+        None => {
+            found.note(name.token, undeclared(name.name.as_bytes()));
+            None
+        }
+    }
+}
+
+fn detach_or_none(name: &[u8]) -> Option<Standard>
+    ensures { result ≡ detach_or_none name.now }
+{
+    if is_detach(name) {
+        Some(Standard::Detach)
+    } else {
+        None
+    }
+}
+
+/// The attribute of an object whose class has this block, as it is seen from a token.
+#[tactic(auto, unfolding(sim_scope::specs::Calls::attribute_in))]
+fn attribute_in(scopes: &Scopes, token: TokenNo, block: u32, name: &[u8]) -> Option<Denotation>
+    ensures { result ≡ attribute_in scopes.now token.0 block name.now }
+{
+    let declaration = shown(scopes, Some(token.0), block, name);
+    declared_or_standard(scopes, declaration, detach_or_none(name))
+}
+
+fn is_shown(declaration: Option<DeclNo>) -> bool
+    ensures { result ≡ is_shown declaration }
+{
+    match declaration {
+        Some(_) => true,
+        None => false,
+    }
+}
+
+/// The rule that an identifier behind a dot breaks where the class shows no attribute of this name there.
+#[tactic(auto, unfolding(sim_scope::specs::Calls::attribute_missing))]
+fn attribute_missing(scopes: &Scopes, block: u32, name: &Identifier) -> Rule
+    ensures { result ≡ attribute_missing scopes.now block name.now }
+{
+    let passed = is_shown(shown(scopes, None, block, name.name.as_bytes()));
+    missing(passed, name.name.as_bytes())
+}
+
+/// An attribute of an object, unless its class has classes (`S17`) or it may not stand there (`S22`).
+#[tactic(auto, unfolding(sim_scope::specs::Judged::telling, sim_scope::specs::Runs::run))]
+fn remote_or_barred(
+    scopes: &Scopes,
+    found: &mut Found,
+    token: TokenNo,
+    block: u32,
+    denotation: Denotation,
+    barred: bool,
+) -> Option<Denotation>
+    ensures { Judges found.old found.new result (remote_or_barred scopes.now token.0 block denotation barred) }
+{
+    if has_classes(scopes, block) {
+        found.note(token, Rule::ClassWithClasses);
+        None
+    } else {
+        used_or_barred(found, token, denotation, barred)
+    }
+}
+
+#[tactic(auto, unfolding(sim_scope::specs::Judged::telling, sim_scope::specs::Runs::run))]
+fn remote_as(
+    scopes: &Scopes,
+    extent: Extent,
+    found: &mut Found,
+    name: &Identifier,
+    block: u32,
+    denotation: Option<Denotation>,
+) -> Option<Denotation>
+    ensures { Judges found.old found.new result (remote_as scopes.now extent name.now block denotation) }
+{
+    match denotation {
+        Some(denotation) => {
+            let barred = is_barred(scopes, extent, name.token, denotation);
+            remote_or_barred(scopes, found, name.token, block, denotation, barred)
+        }
+        None => {
+            found.note(name.token, attribute_missing(scopes, block, name));
+            None
+        }
+    }
+}
+
+#[tactic(auto, unfolding(sim_scope::specs::Judged::gives, sim_scope::specs::Runs::run))]
+fn remote_in(
+    scopes: &Scopes,
+    extent: Extent,
+    found: &mut Found,
+    name: &Identifier,
+    block: Option<u32>,
+) -> Option<Denotation>
+    ensures { Judges found.old found.new result (remote_in scopes.now extent name.now block) }
+{
+    match block {
+        Some(block) => {
+            let denotation = attribute_in(scopes, name.token, block, name.name.as_bytes());
+            remote_as(scopes, extent, found, name, block, denotation)
+        }
+        None => None,
+    }
+}
+
+/// What an attribute of an object of a class denotes.
+#[tactic(auto, unfolding(sim_scope::specs::Calls::remote))]
+fn remote(
+    scopes: &Scopes,
+    extent: Extent,
+    found: &mut Found,
+    name: &Identifier,
+    class: DeclNo,
+) -> Option<Denotation>
+    ensures { Judges found.old found.new result (remote scopes.now extent name.now class) }
+{
+    remote_in(scopes, extent, found, name, class_block(scopes, class))
+}
+
+/// What an attribute of a value denotes.
+#[tactic(auto, unfolding(sim_scope::specs::Calls::attribute_of_value, sim_scope::specs::Judged::gives, sim_scope::specs::Judged::telling, sim_scope::specs::Runs::run))]
+fn attribute_of_value(
+    scopes: &Scopes,
+    extent: Extent,
+    found: &mut Found,
+    name: &Identifier,
+    value: Side,
+) -> Option<Denotation>
+    ensures { Judges found.old found.new result (attribute_of_value scopes.now extent name.now value) }
+{
+    match value.ty {
+        Some(SimType::Text) => {
+            attribute_found(found, name, text_attribute(name.name.as_bytes()))
+        }
+        Some(SimType::NoneType) => attribute_found(found, name, None),
+        Some(SimType::Ref(class)) => remote(scopes, extent, found, name, class),
+        Some(_) => {
+            found.note(value.first, Rule::WrongType);
+            None
+        }
+        None => None,
+    }
+}
+
+fn attribute_of_outcome(
+    scopes: &Scopes,
+    extent: Extent,
+    found: &mut Found,
+    name: &Identifier,
+    first: TokenNo,
+    outcome: Outcome,
+) -> Option<Denotation>
+    ensures { Judges found.old found.new result (attribute_by_value scopes.now extent name.now first.0 outcome) }
+{
+    let value = side(scopes, found, first, outcome);
+    attribute_of_value(scopes, extent, found, name, value)
+}
+
+/// What an attribute behind a dot denotes.
+#[tactic(auto, unfolding(sim_scope::specs::Calls::attribute))]
+pub(crate) fn attribute(
+    scopes: &Scopes,
+    extent: Extent,
+    found: &mut Found,
+    name: &Identifier,
+    first: TokenNo,
+    outcome: Outcome,
+) -> Option<Denotation>
+    ensures { Judges found.old found.new result (attribute scopes.now extent name.now first.0 outcome) }
+{
+    match outcome {
+        Outcome::Standard {
+            name: Standard::Sysin,
+            ..
+        } => { attribute_found(found, name, sysin_attribute(name.name.as_bytes())) }
+        Outcome::Standard {
+            name: Standard::Sysout,
+            ..
+        } => { attribute_found(found, name, sysout_attribute(name.name.as_bytes())) }
+        _ => attribute_of_outcome(scopes, extent, found, name, first, outcome),
+    }
+}

@@ -1,0 +1,2 @@
+pub mod LastMatch
+pub mod Rows

@@ -1,0 +1,3 @@
+pub mod Qualifying
+pub mod Matching
+pub mod Protections
