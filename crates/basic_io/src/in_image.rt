@@ -111,7 +111,7 @@ impl InImage {
         }
         self.held.read_line(input)?;
         if self.held.is_empty() {
-            fill(texts, &mut self.image, &[END_MARK])?;
+            fill(texts, &mut self.image, &[END_MARK]);
             self.endfile = true;
             return Ok(());
         }
@@ -119,7 +119,7 @@ impl InImage {
         if line.len() > self.image.length as usize {
             return Err(IoFault::Run(RunError::InputLineTooLong));
         }
-        fill(texts, &mut self.image, line)?;
+        fill(texts, &mut self.image, line);
         self.held.drop_line();
         Ok(())
     }

@@ -74,7 +74,7 @@ impl OutImage {
         let content = texts.strip(self.image);
         write_all(out, texts.characters(content))?;
         write_all(out, b"\n")?;
-        fill(texts, &mut self.image, &[])?;
+        fill(texts, &mut self.image, &[]);
         Ok(())
     }
 

@@ -5,8 +5,8 @@ use Rattle.sim_base.specs.declared.numbering.TokenNo.{TokenNo}
 use Rattle.sim_scope.specs.declared.bound.Bound.{Bound}
 use Rattle.sim_scope.specs.declared.scopes.Denotation.{Denotation}
 use Rattle.sim_scope.specs.declared.scopes.Denotation.TheVariants as denotation
-use Rattle.sim_scope.specs.declared.standard.Standard.{Standard}
-use Rattle.sim_scope.specs.declared.standard.Attribute.{Attribute}
+use Rattle.sim_scope.specs.declared.standard.StandardName.{StandardName}
+use Rattle.sim_values.specs.declared.standard.Standard.{Standard}
 use Rattle.sim_scope.specs.declared.types.Entry.{Entry}
 use Rattle.sim_scope.specs.declared.types.Entry.TheVariants as entry
 use Rattle.sim_scope.specs.declared.types.Formal.{Formal}
@@ -260,7 +260,7 @@ module _ (b : Bound) (w : Spot) where
   pub declared_unspecified : (token : TokenNo) (d : DeclNo) (o : Option Entry) (m : Option WrittenMode) (es : List Expr) → o ≡ entry_of b.scopes d → o ≡ Some (entry.Unspecified m) → FindsDeclared b w token d es left.NotBuilt
   declared_unspecified token d o m es eo is = as_declared token d o _ es left.NotBuilt eo is (λ h. h)
 
-  pub declared_attribute : (token : TokenNo) (d : DeclNo) (o : Option Entry) (n : Attribute) (x y : Option SimType) (es : List Expr) → o ≡ entry_of b.scopes d → o ≡ Some (entry.Attribute n x y) → FindsDeclared b w token d es left.NotBuilt
+  pub declared_attribute : (token : TokenNo) (d : DeclNo) (o : Option Entry) (n : Standard) (x y : Option SimType) (es : List Expr) → o ≡ entry_of b.scopes d → o ≡ Some (entry.Attribute n x y) → FindsDeclared b w token d es left.NotBuilt
   declared_attribute token d o n x y es eo is = as_declared token d o _ es left.NotBuilt eo is (λ h. h)
 
   pub declared_nowhere : (token : TokenNo) (d : DeclNo) (o : Option Entry) (es : List Expr) → o ≡ entry_of b.scopes d → o ≡ None → FindsDeclared b w token d es left.NotBuilt
@@ -276,7 +276,7 @@ module _ (b : Bound) (w : Spot) where
   unfolding FindsDeclared
   left_declared token o d es r eo some f = as_named token o _ es r eo some f
 
-  pub left_standard : (token : TokenNo) (o : Option Denotation) (k : Standard) (es : List Expr) → o ≡ denoted (source_of b) token.0 → o ≡ Some (denotation.Standard k) → FindsLeft b w token es left.NotBuilt
+  pub left_standard : (token : TokenNo) (o : Option Denotation) (k : StandardName) (es : List Expr) → o ≡ denoted (source_of b) token.0 → o ≡ Some (denotation.Standard k) → FindsLeft b w token es left.NotBuilt
   left_standard token o k es eo some = as_named token o _ es left.NotBuilt eo some (λ h. h)
 
   pub left_nothing : (token : TokenNo) (o : Option Denotation) (es : List Expr) → o ≡ denoted (source_of b) token.0 → o ≡ None → FindsLeft b w token es left.NotBuilt

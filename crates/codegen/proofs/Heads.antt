@@ -3,7 +3,7 @@ use Rattle.std.proofs.Common.{◌≡◌, ℕ, List, [], ◌∷◌, ◌++◌, map
 use Rattle.std.specs.Prelude.{slice_get, take}
 use Rattle.sim_base.specs.declared.numbering.DeclNo.{DeclNo}
 use Rattle.sim_scope.specs.declared.bound.Bound.{Bound}
-use Rattle.sim_scope.specs.declared.standard.Attribute.{Attribute}
+use Rattle.sim_values.specs.declared.standard.Standard.{Standard}
 use Rattle.sim_scope.specs.declared.types.Entry.{Entry}
 use Rattle.sim_scope.specs.declared.types.Entry.TheVariants as entry
 use Rattle.sim_scope.specs.declared.types.Formal.{Formal}
@@ -73,7 +73,7 @@ pub push_unspecified : (old : List CodeType) (o : Option Entry) (x : Option Writ
 unfolding PushesCell
 push_unspecified old o x is d = sym (append-nil old) ∙ ap (λ z. old ++ map type_of_cell (with_cell d z [])) (sym is)
 
-pub push_attribute : (old : List CodeType) (o : Option Entry) (n : Attribute) (x y : Option SimType) → o ≡ Some (entry.Attribute n x y) → PushesCell old old o
+pub push_attribute : (old : List CodeType) (o : Option Entry) (n : Standard) (x y : Option SimType) → o ≡ Some (entry.Attribute n x y) → PushesCell old old o
 unfolding PushesCell
 push_attribute old o n x y is d = sym (append-nil old) ∙ ap (λ z. old ++ map type_of_cell (with_cell d z [])) (sym is)
 

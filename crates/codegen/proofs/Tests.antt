@@ -4,7 +4,7 @@ use Rattle.std.specs.Prelude.{slice_get}
 use Rattle.std.specs.Option.{option_copied}
 use Rattle.sim_base.specs.declared.numbering.DeclNo.{DeclNo}
 use Rattle.sim_scope.specs.declared.bound.Bound.{Bound}
-use Rattle.sim_scope.specs.declared.standard.Attribute.{Attribute}
+use Rattle.sim_values.specs.declared.standard.Standard.{Standard}
 use Rattle.sim_scope.specs.declared.types.Entry.{Entry}
 use Rattle.sim_scope.specs.declared.types.Entry.TheVariants as entry
 use Rattle.sim_scope.specs.declared.types.Formal.{Formal}
@@ -110,7 +110,7 @@ fits_formal b blocks d o x eo is = no_procedure b blocks d o eo (λ result k e. 
 pub fits_unspecified : (b : Bound) (blocks : List BlockOf) (d : DeclNo) (o : Option Entry) (x : Option WrittenMode) → o ≡ entry_of b.scopes d → o ≡ Some (entry.Unspecified x) → Tells true (FitsAt b blocks d)
 fits_unspecified b blocks d o x eo is = no_procedure b blocks d o eo (λ result k e. let f : Some (entry.Unspecified x) ≡ Some (entry.Procedure result k) = sym is ∙ e in cc)
 
-pub fits_attribute : (b : Bound) (blocks : List BlockOf) (d : DeclNo) (o : Option Entry) (n : Attribute) (x y : Option SimType) → o ≡ entry_of b.scopes d → o ≡ Some (entry.Attribute n x y) → Tells true (FitsAt b blocks d)
+pub fits_attribute : (b : Bound) (blocks : List BlockOf) (d : DeclNo) (o : Option Entry) (n : Standard) (x y : Option SimType) → o ≡ entry_of b.scopes d → o ≡ Some (entry.Attribute n x y) → Tells true (FitsAt b blocks d)
 fits_attribute b blocks d o n x y eo is = no_procedure b blocks d o eo (λ result k e. let f : Some (entry.Attribute n x y) ≡ Some (entry.Procedure result k) = sym is ∙ e in cc)
 
 pub fits_nothing : (b : Bound) (blocks : List BlockOf) (d : DeclNo) (o : Option Entry) → o ≡ entry_of b.scopes d → o ≡ None → Tells true (FitsAt b blocks d)

@@ -276,6 +276,7 @@ fn write(alloc: Global, bound: &Bound) -> Result<Option<Code>, AllocError>
 }
 
 /// The code of a program that breaks no rule. It is there for each program that is built, but for want of memory.
+/// That the tables agree with the texts is tested here, although those of each allowed program do: the answer holds for every `Bound`.
 #[tactic(auto, unfolding(crate::specs::EmitCode::Finds))]
 pub fn compile(alloc: Global, bound: &Bound) -> Result<Code, Uncompiled>
     ensures { Answers bound.now result }

@@ -8,7 +8,7 @@ use Rattle.sim_base.specs.declared.numbering.TokenNo.{TokenNo}
 use Rattle.sim_scope.specs.declared.bound.Bound.{Bound}
 use Rattle.sim_scope.specs.declared.scopes.Denotation.{Denotation}
 use Rattle.sim_scope.specs.declared.scopes.Denotation.TheVariants as denotation
-use Rattle.sim_scope.specs.declared.standard.Standard.{Standard}
+use Rattle.sim_scope.specs.declared.standard.StandardName.{StandardName}
 use Rattle.sim_scope.specs.declared.types.Entry.{Entry}
 use Rattle.sim_scope.specs.declared.types.Entry.TheVariants as entry
 use Rattle.sim_scope.specs.declared.types.FormalKind.{FormalKind}
@@ -90,36 +90,36 @@ module _ (b : Bound) (w : Spot) (n : ℕ) where
       (emits_then w _ _ (λ z site p q. ExprsAt s z site m es p q) (λ z site p q. At z (i.Std (pos row.number)) (line_at s token.0) p q × (n < site.room)) a c0 c f
       (emits_push_at w c0 c n (i.Std (pos row.number)) (line_at s token.0) (ec ∙ ap (λ z. with_push c0 n z line) ex ∙ ap (λ z. with_push c0 n (i.Std (pos row.number)) z) el) (λ z. cc) (numbered_runs o row h)))
 
-  pub alone_performed : (a c0 c : DraftOf) (token : TokenNo) (name : Standard) (es : List Expr) (o : Option StandardCode) (row : StandardCode) (line : ℕ) (x : Instr) → Numbered o (procedure_named name) → o ≡ Some row → length es ≡ row.operands → WritesList b w n a c0 es → x ≡ i.Std (pos row.number) → line ≡ line_at (source_of b) token.0 → c ≡ with_push c0 n x line → WritesAlone b w n a c token name es
+  pub alone_performed : (a c0 c : DraftOf) (token : TokenNo) (name : StandardName) (es : List Expr) (o : Option StandardCode) (row : StandardCode) (line : ℕ) (x : Instr) → Numbered o (procedure_named name) → o ≡ Some row → length es ≡ row.operands → WritesList b w n a c0 es → x ≡ i.Std (pos row.number) → line ≡ line_at (source_of b) token.0 → c ≡ with_push c0 n x line → WritesAlone b w n a c token name es
   unfolding WritesAlone
   alone_performed a c0 c token name es o row line x h some many f ex el ec =
       performed a c0 c token (procedure_named name) row es n _ line x (subst (λ z. Numbered z (procedure_named name)) some h) (count es ∙ many) f ex el ec
 
-  pub alone_no_number : (a c : DraftOf) (token : TokenNo) (name : Standard) (es : List Expr) (o : Option StandardCode) → Numbered o (procedure_named name) → o ≡ None → c ≡ given_up a → WritesAlone b w n a c token name es
+  pub alone_no_number : (a c : DraftOf) (token : TokenNo) (name : StandardName) (es : List Expr) (o : Option StandardCode) → Numbered o (procedure_named name) → o ≡ None → c ≡ given_up a → WritesAlone b w n a c token name es
   unfolding WritesAlone
   alone_no_number a c token name es o h none ec = emits_nothing w a c _ _ (λ t. no_number (procedure_named name) _ (subst (λ z. Numbered z (procedure_named name)) none h) t.0) ec
 
-  pub alone_other_number : (a c : DraftOf) (token : TokenNo) (name : Standard) (es : List Expr) (o : Option StandardCode) (row : StandardCode) → Numbered o (procedure_named name) → o ≡ Some row → length es ≢ row.operands → c ≡ given_up a → WritesAlone b w n a c token name es
+  pub alone_other_number : (a c : DraftOf) (token : TokenNo) (name : StandardName) (es : List Expr) (o : Option StandardCode) (row : StandardCode) → Numbered o (procedure_named name) → o ≡ Some row → length es ≢ row.operands → c ≡ given_up a → WritesAlone b w n a c token name es
   unfolding WritesAlone
   alone_other_number a c token name es o row h some other ec = emits_nothing w a c _ _ (λ t. other_number (procedure_named name) row _ (subst (λ z. Numbered z (procedure_named name)) some h) (λ z. other (sym (count es) ∙ z)) t.0) ec
 
   -- ---- behind a text
 
-  pub behind_performed : (a c0 c : DraftOf) (token : TokenNo) (name : Standard) (es : List Expr) (o : Option StandardCode) (row : StandardCode) (m line : ℕ) (x : Instr) → Numbered o (procedure_named name) → o ≡ Some row → row.operands ≢ 0 → length es ≡ row.operands - 1 → m ≡ suc n → WritesList b w m a c0 es → x ≡ i.Std (pos row.number) → line ≡ line_at (source_of b) token.0 → c ≡ with_push c0 n x line → WritesBehind b w n a c token name es
+  pub behind_performed : (a c0 c : DraftOf) (token : TokenNo) (name : StandardName) (es : List Expr) (o : Option StandardCode) (row : StandardCode) (m line : ℕ) (x : Instr) → Numbered o (procedure_named name) → o ≡ Some row → row.operands ≢ 0 → length es ≡ row.operands - 1 → m ≡ suc n → WritesList b w m a c0 es → x ≡ i.Std (pos row.number) → line ≡ line_at (source_of b) token.0 → c ≡ with_push c0 n x line → WritesBehind b w n a c token name es
   unfolding WritesBehind
   behind_performed a c0 c token name es o row m line x h some some' many em f ex el ec =
       let many' : suc (operands (expressions (map syntax_of es))) ≡ row.operands = ap suc (count es) ∙ (let q : suc (length es) ≡ row.operands = omega (arith, many, some') in q) in
       performed a c0 c token (procedure_named name) row es (suc n) _ line x (subst (λ z. Numbered z (procedure_named name)) some h) many' (subst (λ z. WritesList b w z a c0 es) em f) ex el ec
 
-  pub behind_no_number : (a c : DraftOf) (token : TokenNo) (name : Standard) (es : List Expr) (o : Option StandardCode) → Numbered o (procedure_named name) → o ≡ None → c ≡ given_up a → WritesBehind b w n a c token name es
+  pub behind_no_number : (a c : DraftOf) (token : TokenNo) (name : StandardName) (es : List Expr) (o : Option StandardCode) → Numbered o (procedure_named name) → o ≡ None → c ≡ given_up a → WritesBehind b w n a c token name es
   unfolding WritesBehind
   behind_no_number a c token name es o h none ec = emits_nothing w a c _ _ (λ t. no_number (procedure_named name) _ (subst (λ z. Numbered z (procedure_named name)) none h) t.0) ec
 
-  pub behind_no_operand : (a c : DraftOf) (token : TokenNo) (name : Standard) (es : List Expr) (o : Option StandardCode) (row : StandardCode) → Numbered o (procedure_named name) → o ≡ Some row → row.operands ≡ 0 → c ≡ given_up a → WritesBehind b w n a c token name es
+  pub behind_no_operand : (a c : DraftOf) (token : TokenNo) (name : StandardName) (es : List Expr) (o : Option StandardCode) (row : StandardCode) → Numbered o (procedure_named name) → o ≡ Some row → row.operands ≡ 0 → c ≡ given_up a → WritesBehind b w n a c token name es
   unfolding WritesBehind
   behind_no_operand a c token name es o row h some none ec = emits_nothing w a c _ _ (λ t. other_number (procedure_named name) row _ (subst (λ z. Numbered z (procedure_named name)) some h) (λ z. absurd (omega (arith, z, none))) t.0) ec
 
-  pub behind_other_number : (a c : DraftOf) (token : TokenNo) (name : Standard) (es : List Expr) (o : Option StandardCode) (row : StandardCode) → Numbered o (procedure_named name) → o ≡ Some row → length es ≢ row.operands - 1 → c ≡ given_up a → WritesBehind b w n a c token name es
+  pub behind_other_number : (a c : DraftOf) (token : TokenNo) (name : StandardName) (es : List Expr) (o : Option StandardCode) (row : StandardCode) → Numbered o (procedure_named name) → o ≡ Some row → length es ≢ row.operands - 1 → c ≡ given_up a → WritesBehind b w n a c token name es
   unfolding WritesBehind
   behind_other_number a c token name es o row h some other ec =
       emits_nothing w a c _ _ (λ t. other_number (procedure_named name) row _ (subst (λ z. Numbered z (procedure_named name)) some h) (λ z. let k = count es in other (let q : length es ≡ row.operands - 1 = omega (arith, z, k) in q)) t.0) ec
@@ -133,7 +133,7 @@ module _ (b : Bound) (w : Spot) (n : ℕ) where
       subst (λ z. Emits w a c (ImageNameBuilt z (on_image name) name NoMore P) (λ final site p q. NameAt final site n line img z (on_image name) name NoMore (A final site) (B final site) p q)) (sym h)
       (emits_as w _ _ _ _ a c (λ t. (tt, tt)) (λ t. tt) (λ final site p q _ _ r. (r.0, r.1, record { line = 0; is = r.2 })) f)
 
-  pub image_itself : (a c0 c : DraftOf) (img : ℕ) (token : TokenNo) (name : Standard) (es : List Expr) (k : OnImage) → OnImageIs k (procedure_named name) → k ≡ image.Itself → length es ≡ 0 → WritesImage w n a c0 img → c ≡ with_instr c0 i.Fetch 0 → WritesStandard b w n a c img token name es
+  pub image_itself : (a c0 c : DraftOf) (img : ℕ) (token : TokenNo) (name : StandardName) (es : List Expr) (k : OnImage) → OnImageIs k (procedure_named name) → k ≡ image.Itself → length es ≡ 0 → WritesImage w n a c0 img → c ≡ with_instr c0 i.Fetch 0 → WritesStandard b w n a c img token name es
   unfolding WritesStandard WritesImage
   image_itself a c0 c img token name [] k h is none f ec =
       itself_emits (procedure_named name) _ img _ _ _ a c (subst (λ z. OnImageIs z (procedure_named name)) is h)
@@ -144,7 +144,7 @@ module _ (b : Bound) (w : Spot) (n : ℕ) where
   itself_alone None e es P h t = h
   itself_alone (Some name) e es P h t = subst (λ z. ImageNameBuilt z (on_image name) name (Then e es) P) h t
 
-  pub image_with_operands : (a c : DraftOf) (img : ℕ) (token : TokenNo) (name : Standard) (es : List Expr) (k : OnImage) → OnImageIs k (procedure_named name) → k ≡ image.Itself → length es ≢ 0 → c ≡ given_up a → WritesStandard b w n a c img token name es
+  pub image_with_operands : (a c : DraftOf) (img : ℕ) (token : TokenNo) (name : StandardName) (es : List Expr) (k : OnImage) → OnImageIs k (procedure_named name) → k ≡ image.Itself → length es ≢ 0 → c ≡ given_up a → WritesStandard b w n a c img token name es
   unfolding WritesStandard
   image_with_operands a c img token name [] k h is some' ec = absurd (some' refl)
   image_with_operands a c img token name (y ∷ ys) k h is some' ec = emits_nothing w a c _ _ (itself_alone (procedure_named name) _ _ _ (subst (λ z. OnImageIs z (procedure_named name)) is h)) ec
@@ -158,13 +158,13 @@ module _ (b : Bound) (w : Spot) (n : ℕ) where
       (subst (λ z. Emits w a c (ImageNameBuilt false z name es P) (λ final site p q. NameAt final site n line img false z name es (A final site) (B final site) p q)) (sym g)
       (emits_as w _ _ _ _ a c (λ t. (tt, t)) (λ t. t.1) (λ final site p q _ _ r. (r.0, r.2.0, r.1, r.2.1, r.2.2)) f))
 
-  on_text_emits : (o u : Option Row) (other : Standard) (line img : ℕ) (es : Expressions) (P : Type 0) (A B : Part) (a c : DraftOf) → u ≡ procedure_named other → OnImageIs (image.OfText other) o
+  on_text_emits : (o u : Option Row) (other : StandardName) (line img : ℕ) (es : Expressions) (P : Type 0) (A B : Part) (a c : DraftOf) → u ≡ procedure_named other → OnImageIs (image.OfText other) o
       → Emits w a c (⊤ × (AloneBuilt u (suc (operands es)) × P)) (λ final site p q. (x : ℕ) × Pushes final site n (i.AddrImg (pos img)) p x × ((y : ℕ) × B final site x y × AloneAt final site n line u (suc (operands es)) y q))
       → Emits w a c (StandardBuilt o es P) (λ final site p q. StandardAt final site n line img o es (A final site) (B final site) p q)
   on_text_emits None u other line img es P A B a c eu h f = absurd h
   on_text_emits (Some name) u other line img es P A B a c eu h f = of_text_emits (Some name) u line img es P A B a c name h.0 (h.1 ∙ sym eu) (ap is_named eu ∙ h.2) f
 
-  pub image_of_text : (a c0 c : DraftOf) (img : ℕ) (token : TokenNo) (name other : Standard) (es : List Expr) (k : OnImage) → OnImageIs k (procedure_named name) → k ≡ image.OfText other → WritesImage w n a c0 img → WritesBehind b w n c0 c token other es → WritesStandard b w n a c img token name es
+  pub image_of_text : (a c0 c : DraftOf) (img : ℕ) (token : TokenNo) (name other : StandardName) (es : List Expr) (k : OnImage) → OnImageIs k (procedure_named name) → k ≡ image.OfText other → WritesImage w n a c0 img → WritesBehind b w n c0 c token other es → WritesStandard b w n a c img token name es
   unfolding WritesStandard WritesImage WritesBehind
   image_of_text a c0 c img token name other ys k h is f g =
       let s = source_of b in
@@ -180,7 +180,7 @@ module _ (b : Bound) (w : Spot) (n : ℕ) where
       subst (λ z. Emits w a c (ImageNameBuilt z (on_image name) name es P) (λ final site p q. NameAt final site n line img z (on_image name) name es (A final site) (B final site) p q)) (sym h.0)
       (subst (λ z. Emits w a c (ImageNameBuilt false z name es P) (λ final site p q. NameAt final site n line img false z name es (A final site) (B final site) p q)) (sym h.1) f)
 
-  pub image_nothing : (a c : DraftOf) (img : ℕ) (token : TokenNo) (name : Standard) (es : List Expr) (k : OnImage) → OnImageIs k (procedure_named name) → k ≡ image.Nothing → WritesAlone b w n a c token name es → WritesStandard b w n a c img token name es
+  pub image_nothing : (a c : DraftOf) (img : ℕ) (token : TokenNo) (name : StandardName) (es : List Expr) (k : OnImage) → OnImageIs k (procedure_named name) → k ≡ image.Nothing → WritesAlone b w n a c token name es → WritesStandard b w n a c img token name es
   unfolding WritesStandard WritesAlone
   image_nothing a c img token name ys k h is f =
       let s = source_of b in
@@ -290,7 +290,7 @@ module _ (b : Bound) (w : Spot) (n : ℕ) where
       lies_named a c x ys o eo (subst (LiesNamed a c x ys) (sym some)
       (lies_emits a c (line_at s x.token.0) d (entry_of s.tables d) es (AreBuilt s w.text es) (λ final site p q. ExprsAt s final site (suc n) es p q) (subst (Lies a c x.token d es) same f)))
 
-  pub place_standard : (a c : DraftOf) (x : Identifier) (es : List Expr) (o : Option Denotation) (k : Standard) → o ≡ denoted (source_of b) x.token.0 → o ≡ Some (denotation.Standard k) → WritesImage w n a c 1 → WritesNamedPlace b w n a c x es
+  pub place_standard : (a c : DraftOf) (x : Identifier) (es : List Expr) (o : Option Denotation) (k : StandardName) → o ≡ denoted (source_of b) x.token.0 → o ≡ Some (denotation.Standard k) → WritesImage w n a c 1 → WritesNamedPlace b w n a c x es
   unfolding WritesImage
   place_standard a c x es o k eo some f = lies_named a c x es o eo (subst (LiesNamed a c x es) (sym some) f)
 
@@ -300,18 +300,6 @@ module _ (b : Bound) (w : Spot) (n : ℕ) where
 
   place_as : (a c : DraftOf) (x y : Expression) → y ≡ x → PutsPlace (source_of b) w n a c x → PutsPlace (source_of b) w n a c y
   place_as a c x y e f = subst (PutsPlace (source_of b) w n a c) (sym e) f
-
-  pub place_named_form : (a c : DraftOf) (x : Expr) (f : Form) (k : Bor Identifier) (l : Bor (List Expr)) → FindsForm f x → f ≡ form.Named k l → WritesNamedPlace b w n a c k.now l.now → WritesPlace b w n a c x
-  unfolding FindsForm WritesPlace WritesNamedPlace
-  place_named_form a c x f k l h is g = let at : FormIs (form.Named k l) (syntax_of x) = subst (λ z. FormIs z (syntax_of x)) is h in place_as a c _ (syntax_of x) at g
-
-  pub place_taken_form : (a c : DraftOf) (x : Expr) (f : Form) (p : Bor Expr) (l : Bor (List Selector)) → FindsForm f x → f ≡ form.Taken p l → (length l.now ≢ 0 → PutsPlace (source_of b) w n a c (selected (syntax_of p.now) (map selector_syntax l.now))) → WritesPlace b w n a c x
-  unfolding FindsForm WritesPlace
-  place_taken_form a c x f p l h is g = let at : FormIs (form.Taken p l) (syntax_of x) = subst (λ z. FormIs z (syntax_of x)) is h in place_as a c _ (syntax_of x) at.0 (g at.1)
-
-  pub place_closed_form : (a c : DraftOf) (x : Expr) (f : Form) (p : Bor Expr) → FindsForm f x → f ≡ form.Closed p → c ≡ given_up a → WritesPlace b w n a c x
-  unfolding FindsForm WritesPlace PutsPlace
-  place_closed_form a c x f p h is ec = let at : FormIs (form.Closed p) (syntax_of x) = subst (λ z. FormIs z (syntax_of x)) is h in emits_nothing w a c _ _ (λ t. subst (PlaceBuilt (source_of b) w.text) at.1 t) ec
 
   no_place : (x : Expression) → IsOther x → PlaceBuilt (source_of b) w.text x → ⊥
   no_place (If i c a e) h t = t
@@ -383,4 +371,8 @@ module _ (b : Bound) (w : Spot) (n : ℕ) where
       let same : selected (syntax_of x) (map selector_syntax l) ≡ Qua j.0 (syntax_of x) k = ap (λ z. selected (syntax_of x) (map selector_syntax z)) (one_selector l y one is) ∙ ap (λ z. selected (syntax_of x) (z ∷ [])) (ap selector_syntax ey ∙ selector-Qua j k) in
       emits_nothing w a c _ _ (λ t. subst (PlaceBuilt (source_of b) w.text) same t) ec
 
-pub ruleset behind = (alone_performed, alone_no_number, alone_other_number, behind_performed, behind_no_number, behind_no_operand, behind_other_number, image_itself, image_with_operands, image_of_text, image_nothing, place_cell, place_no_slot, place_outside, place_variable, place_no_variable, place_element, place_array, place_constant, place_call, place_nothing, place_declared, place_standard, place_undeclared, place_named_form, place_taken_form, place_closed_form, place_other_form, image_several, image_there, image_not_there, image_cast)
+-- standard names
+pub ruleset behind = (alone_performed, alone_no_number, alone_other_number, behind_performed, behind_no_number, behind_no_operand, behind_other_number, image_itself, image_with_operands, image_of_text, image_nothing)
+
+-- where variables lie
+pub ruleset lies = (place_cell, place_no_slot, place_outside, place_variable, place_no_variable, place_element, place_array, place_constant, place_call, place_nothing, place_declared, place_standard, place_undeclared, image_several, image_there, image_not_there, image_cast)

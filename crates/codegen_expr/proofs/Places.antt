@@ -1,5 +1,5 @@
 -- Places, behind levels of operators that have no operator.
-use Rattle.std.proofs.Common.{◌≡◌, ◌≢◌, ℕ, ℤ, List, length, map, Option, Some, None, refl, sym, ap, ◌∙◌, subst}
+use Rattle.std.proofs.Common.{suc, ◌∷◌, [], ◌≡◌, ◌≢◌, ℕ, ℤ, List, length, map, Option, Some, None, refl, sym, ap, ◌∙◌, subst}
 use Rattle.std.specs.declared.alloc.Global.{Global}
 use Rattle.std.specs.declared.boxed.Box.{Box}
 use Rattle.std.specs.declared.vec.Vec.{Vec}
@@ -24,6 +24,7 @@ use Rattle.codegen_expr.specs.declared.spot.Spot.{Spot}
 use Rattle.codegen_expr.specs.Built.{PlaceBuilt}
 use Rattle.codegen_expr.specs.Drafts.{DraftOf, given_up}
 use Rattle.codegen_expr.specs.Emit.{PutsPlace, WritesNamedPlace, WritesPlace}
+use Rattle.codegen_expr.specs.PlaceAlone.{WritesPlaceAlone}
 use Rattle.codegen_expr.proofs.Behind.{place_other_form}
 use Rattle.codegen_expr.proofs.Formed as formed
 use Rattle.codegen_expr.proofs.Pieces.{emits_nothing}
@@ -31,43 +32,43 @@ use Rattle.codegen_expr.proofs.Pieces.{emits_nothing}
 module _ (b : Bound) (w : Spot) (n : ℕ) where
   -- ---- levels without operators
 
-  pub place_same_OrElse : (u d : DraftOf) (a x : Expr) (p : Box Expr Global) (l : Vec Operand Global) (ts : List Operand) → a ≡ e.OrElse p l → x ≡ p.value → ts ≡ l.items → length ts ≡ 0 → WritesPlace b w n u d x → WritesPlace b w n u d a
+  place_same_OrElse : (u d : DraftOf) (a x : Expr) (p : Box Expr Global) (l : Vec Operand Global) (ts : List Operand) → a ≡ e.OrElse p l → x ≡ p.value → ts ≡ l.items → length ts ≡ 0 → WritesPlace b w n u d x → WritesPlace b w n u d a
   unfolding WritesPlace
   place_same_OrElse u d a x p l ts h0 h1 h2 h3 f = subst (λ z. PutsPlace (source_of b) w n u d z) (sym (formed.level_OrElse a x p l ts h0 h1 h2 h3)) f
 
-  pub place_same_AndThen : (u d : DraftOf) (a x : Expr) (p : Box Expr Global) (l : Vec Operand Global) (ts : List Operand) → a ≡ e.AndThen p l → x ≡ p.value → ts ≡ l.items → length ts ≡ 0 → WritesPlace b w n u d x → WritesPlace b w n u d a
+  place_same_AndThen : (u d : DraftOf) (a x : Expr) (p : Box Expr Global) (l : Vec Operand Global) (ts : List Operand) → a ≡ e.AndThen p l → x ≡ p.value → ts ≡ l.items → length ts ≡ 0 → WritesPlace b w n u d x → WritesPlace b w n u d a
   unfolding WritesPlace
   place_same_AndThen u d a x p l ts h0 h1 h2 h3 f = subst (λ z. PutsPlace (source_of b) w n u d z) (sym (formed.level_AndThen a x p l ts h0 h1 h2 h3)) f
 
-  pub place_same_Eqv : (u d : DraftOf) (a x : Expr) (p : Box Expr Global) (l : Vec Operand Global) (ts : List Operand) → a ≡ e.Eqv p l → x ≡ p.value → ts ≡ l.items → length ts ≡ 0 → WritesPlace b w n u d x → WritesPlace b w n u d a
+  place_same_Eqv : (u d : DraftOf) (a x : Expr) (p : Box Expr Global) (l : Vec Operand Global) (ts : List Operand) → a ≡ e.Eqv p l → x ≡ p.value → ts ≡ l.items → length ts ≡ 0 → WritesPlace b w n u d x → WritesPlace b w n u d a
   unfolding WritesPlace
   place_same_Eqv u d a x p l ts h0 h1 h2 h3 f = subst (λ z. PutsPlace (source_of b) w n u d z) (sym (formed.level_Eqv a x p l ts h0 h1 h2 h3)) f
 
-  pub place_same_Imp : (u d : DraftOf) (a x : Expr) (p : Box Expr Global) (l : Vec Operand Global) (ts : List Operand) → a ≡ e.Imp p l → x ≡ p.value → ts ≡ l.items → length ts ≡ 0 → WritesPlace b w n u d x → WritesPlace b w n u d a
+  place_same_Imp : (u d : DraftOf) (a x : Expr) (p : Box Expr Global) (l : Vec Operand Global) (ts : List Operand) → a ≡ e.Imp p l → x ≡ p.value → ts ≡ l.items → length ts ≡ 0 → WritesPlace b w n u d x → WritesPlace b w n u d a
   unfolding WritesPlace
   place_same_Imp u d a x p l ts h0 h1 h2 h3 f = subst (λ z. PutsPlace (source_of b) w n u d z) (sym (formed.level_Imp a x p l ts h0 h1 h2 h3)) f
 
-  pub place_same_Or : (u d : DraftOf) (a x : Expr) (p : Box Expr Global) (l : Vec Operand Global) (ts : List Operand) → a ≡ e.Or p l → x ≡ p.value → ts ≡ l.items → length ts ≡ 0 → WritesPlace b w n u d x → WritesPlace b w n u d a
+  place_same_Or : (u d : DraftOf) (a x : Expr) (p : Box Expr Global) (l : Vec Operand Global) (ts : List Operand) → a ≡ e.Or p l → x ≡ p.value → ts ≡ l.items → length ts ≡ 0 → WritesPlace b w n u d x → WritesPlace b w n u d a
   unfolding WritesPlace
   place_same_Or u d a x p l ts h0 h1 h2 h3 f = subst (λ z. PutsPlace (source_of b) w n u d z) (sym (formed.level_Or a x p l ts h0 h1 h2 h3)) f
 
-  pub place_same_And : (u d : DraftOf) (a x : Expr) (p : Box Expr Global) (l : Vec Operand Global) (ts : List Operand) → a ≡ e.And p l → x ≡ p.value → ts ≡ l.items → length ts ≡ 0 → WritesPlace b w n u d x → WritesPlace b w n u d a
+  place_same_And : (u d : DraftOf) (a x : Expr) (p : Box Expr Global) (l : Vec Operand Global) (ts : List Operand) → a ≡ e.And p l → x ≡ p.value → ts ≡ l.items → length ts ≡ 0 → WritesPlace b w n u d x → WritesPlace b w n u d a
   unfolding WritesPlace
   place_same_And u d a x p l ts h0 h1 h2 h3 f = subst (λ z. PutsPlace (source_of b) w n u d z) (sym (formed.level_And a x p l ts h0 h1 h2 h3)) f
 
-  pub place_same_Concatenation : (u d : DraftOf) (a x : Expr) (p : Box Expr Global) (l : Vec Operand Global) (ts : List Operand) → a ≡ e.Concatenation p l → x ≡ p.value → ts ≡ l.items → length ts ≡ 0 → WritesPlace b w n u d x → WritesPlace b w n u d a
+  place_same_Concatenation : (u d : DraftOf) (a x : Expr) (p : Box Expr Global) (l : Vec Operand Global) (ts : List Operand) → a ≡ e.Concatenation p l → x ≡ p.value → ts ≡ l.items → length ts ≡ 0 → WritesPlace b w n u d x → WritesPlace b w n u d a
   unfolding WritesPlace
   place_same_Concatenation u d a x p l ts h0 h1 h2 h3 f = subst (λ z. PutsPlace (source_of b) w n u d z) (sym (formed.level_Concatenation a x p l ts h0 h1 h2 h3)) f
 
-  pub place_same_Power : (u d : DraftOf) (a x : Expr) (p : Box Expr Global) (l : Vec Operand Global) (ts : List Operand) → a ≡ e.Power p l → x ≡ p.value → ts ≡ l.items → length ts ≡ 0 → WritesPlace b w n u d x → WritesPlace b w n u d a
+  place_same_Power : (u d : DraftOf) (a x : Expr) (p : Box Expr Global) (l : Vec Operand Global) (ts : List Operand) → a ≡ e.Power p l → x ≡ p.value → ts ≡ l.items → length ts ≡ 0 → WritesPlace b w n u d x → WritesPlace b w n u d a
   unfolding WritesPlace
   place_same_Power u d a x p l ts h0 h1 h2 h3 f = subst (λ z. PutsPlace (source_of b) w n u d z) (sym (formed.level_Power a x p l ts h0 h1 h2 h3)) f
 
-  pub place_same_Product : (u d : DraftOf) (a x : Expr) (p : Box Expr Global) (l : Vec Factor Global) (ts : List Factor) → a ≡ e.Product p l → x ≡ p.value → ts ≡ l.items → length ts ≡ 0 → WritesPlace b w n u d x → WritesPlace b w n u d a
+  place_same_Product : (u d : DraftOf) (a x : Expr) (p : Box Expr Global) (l : Vec Factor Global) (ts : List Factor) → a ≡ e.Product p l → x ≡ p.value → ts ≡ l.items → length ts ≡ 0 → WritesPlace b w n u d x → WritesPlace b w n u d a
   unfolding WritesPlace
   place_same_Product u d a x p l ts h0 h1 h2 h3 f = subst (λ z. PutsPlace (source_of b) w n u d z) (sym (formed.level_Product a x p l ts h0 h1 h2 h3)) f
 
-  pub place_same_Sum : (u d : DraftOf) (a x : Expr) (m : Option LeadingSign) (p : Box Expr Global) (l : Vec Term Global) (ts : List Term) → a ≡ e.Sum m p l → m ≡ None → x ≡ p.value → ts ≡ l.items → length ts ≡ 0 → WritesPlace b w n u d x → WritesPlace b w n u d a
+  place_same_Sum : (u d : DraftOf) (a x : Expr) (m : Option LeadingSign) (p : Box Expr Global) (l : Vec Term Global) (ts : List Term) → a ≡ e.Sum m p l → m ≡ None → x ≡ p.value → ts ≡ l.items → length ts ≡ 0 → WritesPlace b w n u d x → WritesPlace b w n u d a
   unfolding WritesPlace
   place_same_Sum u d a x m p l ts h0 h1 h2 h3 h4 f = subst (λ z. PutsPlace (source_of b) w n u d z) (sym (formed.level_Sum a x m p l ts h0 h1 h2 h3 h4)) f
 
@@ -75,45 +76,98 @@ module _ (b : Bound) (w : Spot) (n : ℕ) where
   unfolding WritesPlace
   place_same_Postfix u d a x p l ts h0 h1 h2 h3 f = subst (λ z. PutsPlace (source_of b) w n u d z) (sym (formed.level_Postfix a x p l ts h0 h1 h2 h3)) f
 
-  pub place_same_Not : (u d : DraftOf) (a x : Expr) (p : Box Expr Global) (l : Vec TokenNo Global) (ts : List TokenNo) → a ≡ e.Not l p → x ≡ p.value → ts ≡ l.items → length ts ≡ 0 → WritesPlace b w n u d x → WritesPlace b w n u d a
+  place_same_Not : (u d : DraftOf) (a x : Expr) (p : Box Expr Global) (l : Vec TokenNo Global) (ts : List TokenNo) → a ≡ e.Not l p → x ≡ p.value → ts ≡ l.items → length ts ≡ 0 → WritesPlace b w n u d x → WritesPlace b w n u d a
   unfolding WritesPlace
   place_same_Not u d a x p l ts h0 h1 h2 h3 f = subst (λ z. PutsPlace (source_of b) w n u d z) (sym (formed.level_Not a x p l ts h0 h1 h2 h3)) f
 
-  pub place_other_OrElse : (u d : DraftOf) (a : Expr) (p : Box Expr Global) (l : Vec Operand Global) (ts : List Operand) → a ≡ e.OrElse p l → ts ≡ l.items → length ts ≢ 0 → d ≡ given_up u → WritesPlace b w n u d a
+  place_other_OrElse : (u d : DraftOf) (a : Expr) (p : Box Expr Global) (l : Vec Operand Global) (ts : List Operand) → a ≡ e.OrElse p l → ts ≡ l.items → length ts ≢ 0 → d ≡ given_up u → WritesPlace b w n u d a
   place_other_OrElse u d a p l ts h0 h1 h2 ed = place_other_form b w n u d a form.Other (formed.other_OrElse a p l ts h0 h1 h2) refl ed
 
-  pub place_other_AndThen : (u d : DraftOf) (a : Expr) (p : Box Expr Global) (l : Vec Operand Global) (ts : List Operand) → a ≡ e.AndThen p l → ts ≡ l.items → length ts ≢ 0 → d ≡ given_up u → WritesPlace b w n u d a
+  place_other_AndThen : (u d : DraftOf) (a : Expr) (p : Box Expr Global) (l : Vec Operand Global) (ts : List Operand) → a ≡ e.AndThen p l → ts ≡ l.items → length ts ≢ 0 → d ≡ given_up u → WritesPlace b w n u d a
   place_other_AndThen u d a p l ts h0 h1 h2 ed = place_other_form b w n u d a form.Other (formed.other_AndThen a p l ts h0 h1 h2) refl ed
 
-  pub place_other_Eqv : (u d : DraftOf) (a : Expr) (p : Box Expr Global) (l : Vec Operand Global) (ts : List Operand) → a ≡ e.Eqv p l → ts ≡ l.items → length ts ≢ 0 → d ≡ given_up u → WritesPlace b w n u d a
+  place_other_Eqv : (u d : DraftOf) (a : Expr) (p : Box Expr Global) (l : Vec Operand Global) (ts : List Operand) → a ≡ e.Eqv p l → ts ≡ l.items → length ts ≢ 0 → d ≡ given_up u → WritesPlace b w n u d a
   place_other_Eqv u d a p l ts h0 h1 h2 ed = place_other_form b w n u d a form.Other (formed.other_Eqv a p l ts h0 h1 h2) refl ed
 
-  pub place_other_Imp : (u d : DraftOf) (a : Expr) (p : Box Expr Global) (l : Vec Operand Global) (ts : List Operand) → a ≡ e.Imp p l → ts ≡ l.items → length ts ≢ 0 → d ≡ given_up u → WritesPlace b w n u d a
+  place_other_Imp : (u d : DraftOf) (a : Expr) (p : Box Expr Global) (l : Vec Operand Global) (ts : List Operand) → a ≡ e.Imp p l → ts ≡ l.items → length ts ≢ 0 → d ≡ given_up u → WritesPlace b w n u d a
   place_other_Imp u d a p l ts h0 h1 h2 ed = place_other_form b w n u d a form.Other (formed.other_Imp a p l ts h0 h1 h2) refl ed
 
-  pub place_other_Or : (u d : DraftOf) (a : Expr) (p : Box Expr Global) (l : Vec Operand Global) (ts : List Operand) → a ≡ e.Or p l → ts ≡ l.items → length ts ≢ 0 → d ≡ given_up u → WritesPlace b w n u d a
+  place_other_Or : (u d : DraftOf) (a : Expr) (p : Box Expr Global) (l : Vec Operand Global) (ts : List Operand) → a ≡ e.Or p l → ts ≡ l.items → length ts ≢ 0 → d ≡ given_up u → WritesPlace b w n u d a
   place_other_Or u d a p l ts h0 h1 h2 ed = place_other_form b w n u d a form.Other (formed.other_Or a p l ts h0 h1 h2) refl ed
 
-  pub place_other_And : (u d : DraftOf) (a : Expr) (p : Box Expr Global) (l : Vec Operand Global) (ts : List Operand) → a ≡ e.And p l → ts ≡ l.items → length ts ≢ 0 → d ≡ given_up u → WritesPlace b w n u d a
+  place_other_And : (u d : DraftOf) (a : Expr) (p : Box Expr Global) (l : Vec Operand Global) (ts : List Operand) → a ≡ e.And p l → ts ≡ l.items → length ts ≢ 0 → d ≡ given_up u → WritesPlace b w n u d a
   place_other_And u d a p l ts h0 h1 h2 ed = place_other_form b w n u d a form.Other (formed.other_And a p l ts h0 h1 h2) refl ed
 
-  pub place_other_Concatenation : (u d : DraftOf) (a : Expr) (p : Box Expr Global) (l : Vec Operand Global) (ts : List Operand) → a ≡ e.Concatenation p l → ts ≡ l.items → length ts ≢ 0 → d ≡ given_up u → WritesPlace b w n u d a
+  place_other_Concatenation : (u d : DraftOf) (a : Expr) (p : Box Expr Global) (l : Vec Operand Global) (ts : List Operand) → a ≡ e.Concatenation p l → ts ≡ l.items → length ts ≢ 0 → d ≡ given_up u → WritesPlace b w n u d a
   place_other_Concatenation u d a p l ts h0 h1 h2 ed = place_other_form b w n u d a form.Other (formed.other_Concatenation a p l ts h0 h1 h2) refl ed
 
-  pub place_other_Power : (u d : DraftOf) (a : Expr) (p : Box Expr Global) (l : Vec Operand Global) (ts : List Operand) → a ≡ e.Power p l → ts ≡ l.items → length ts ≢ 0 → d ≡ given_up u → WritesPlace b w n u d a
+  place_other_Power : (u d : DraftOf) (a : Expr) (p : Box Expr Global) (l : Vec Operand Global) (ts : List Operand) → a ≡ e.Power p l → ts ≡ l.items → length ts ≢ 0 → d ≡ given_up u → WritesPlace b w n u d a
   place_other_Power u d a p l ts h0 h1 h2 ed = place_other_form b w n u d a form.Other (formed.other_Power a p l ts h0 h1 h2) refl ed
 
-  pub place_other_Product : (u d : DraftOf) (a : Expr) (p : Box Expr Global) (l : Vec Factor Global) (ts : List Factor) → a ≡ e.Product p l → ts ≡ l.items → length ts ≢ 0 → d ≡ given_up u → WritesPlace b w n u d a
+  place_other_Product : (u d : DraftOf) (a : Expr) (p : Box Expr Global) (l : Vec Factor Global) (ts : List Factor) → a ≡ e.Product p l → ts ≡ l.items → length ts ≢ 0 → d ≡ given_up u → WritesPlace b w n u d a
   place_other_Product u d a p l ts h0 h1 h2 ed = place_other_form b w n u d a form.Other (formed.other_Product a p l ts h0 h1 h2) refl ed
 
-  pub place_other_Sum : (u d : DraftOf) (a : Expr) (m : Option LeadingSign) (p : Box Expr Global) (l : Vec Term Global) (ts : List Term) → a ≡ e.Sum m p l → ts ≡ l.items → length ts ≢ 0 → d ≡ given_up u → WritesPlace b w n u d a
+  place_other_Sum : (u d : DraftOf) (a : Expr) (m : Option LeadingSign) (p : Box Expr Global) (l : Vec Term Global) (ts : List Term) → a ≡ e.Sum m p l → ts ≡ l.items → length ts ≢ 0 → d ≡ given_up u → WritesPlace b w n u d a
   place_other_Sum u d a m p l ts h0 h1 h2 ed = place_other_form b w n u d a form.Other (formed.other_Sum a m p l ts h0 h1 h2) refl ed
 
   pub place_signed_Sum : (u d : DraftOf) (a : Expr) (m : Option LeadingSign) (k : LeadingSign) (p : Box Expr Global) (l : Vec Term Global) → a ≡ e.Sum m p l → m ≡ Some k → d ≡ given_up u → WritesPlace b w n u d a
   place_signed_Sum u d a m k p l h0 h1 ed = place_other_form b w n u d a form.Other (formed.signed_Sum a m k p l h0 h1) refl ed
 
-  pub place_other_Not : (u d : DraftOf) (a : Expr) (p : Box Expr Global) (l : Vec TokenNo Global) (ts : List TokenNo) → a ≡ e.Not l p → ts ≡ l.items → length ts ≢ 0 → d ≡ given_up u → WritesPlace b w n u d a
+  place_other_Not : (u d : DraftOf) (a : Expr) (p : Box Expr Global) (l : Vec TokenNo Global) (ts : List TokenNo) → a ≡ e.Not l p → ts ≡ l.items → length ts ≢ 0 → d ≡ given_up u → WritesPlace b w n u d a
   place_other_Not u d a p l ts h0 h1 h2 ed = place_other_form b w n u d a form.Other (formed.other_Not a p l ts h0 h1 h2) refl ed
+
+  -- ---- operands alone
+
+  pub alone_place : (u d : DraftOf) (k : ℕ) (x : Expr) → k ≡ 0 → WritesPlace b w n u d x → WritesPlaceAlone b w n u d k x
+  unfolding WritesPlaceAlone
+  alone_place u d k x none f = ((λ _. f), (λ some'. absurd (some' none)))
+
+  pub alone_no_place : (u d : DraftOf) (k : ℕ) (x : Expr) → k ≢ 0 → d ≡ given_up u → WritesPlaceAlone b w n u d k x
+  unfolding WritesPlaceAlone
+  alone_no_place u d k x some' ed = ((λ none. absurd (some' none)), (λ _. ed))
+
+  -- an operand of a level is the variable where no others stand beside it, and with others there is none
+  on_level : {A : Type 0} (u d : DraftOf) (a x : Expr) (ts : List A) (k : ℕ) → k ≡ length ts → (length ts ≡ 0 → WritesPlace b w n u d x → WritesPlace b w n u d a) → (length ts ≢ 0 → d ≡ given_up u → WritesPlace b w n u d a) → WritesPlaceAlone b w n u d k x → WritesPlace b w n u d a
+  unfolding WritesPlaceAlone
+  on_level u d a x [] k many same other f = same refl (f.0 many)
+  on_level u d a x (t ∷ ts) k many same other f =
+      let more : suc (length ts) ≢ 0 = λ z. cc in
+      other more (f.1 (λ z. more (sym many ∙ z)))
+
+  pub place_OrElse : (u d : DraftOf) (a x : Expr) (p : Box Expr Global) (l : Vec Operand Global) (ts : List Operand) (k : ℕ) → a ≡ e.OrElse p l → x ≡ p.value → ts ≡ l.items → k ≡ length ts → WritesPlaceAlone b w n u d k x → WritesPlace b w n u d a
+  place_OrElse u d a x p l ts k h0 h1 h2 many f = on_level u d a x ts k many (place_same_OrElse u d a x p l ts h0 h1 h2) (place_other_OrElse u d a p l ts h0 h2) f
+
+  pub place_AndThen : (u d : DraftOf) (a x : Expr) (p : Box Expr Global) (l : Vec Operand Global) (ts : List Operand) (k : ℕ) → a ≡ e.AndThen p l → x ≡ p.value → ts ≡ l.items → k ≡ length ts → WritesPlaceAlone b w n u d k x → WritesPlace b w n u d a
+  place_AndThen u d a x p l ts k h0 h1 h2 many f = on_level u d a x ts k many (place_same_AndThen u d a x p l ts h0 h1 h2) (place_other_AndThen u d a p l ts h0 h2) f
+
+  pub place_Eqv : (u d : DraftOf) (a x : Expr) (p : Box Expr Global) (l : Vec Operand Global) (ts : List Operand) (k : ℕ) → a ≡ e.Eqv p l → x ≡ p.value → ts ≡ l.items → k ≡ length ts → WritesPlaceAlone b w n u d k x → WritesPlace b w n u d a
+  place_Eqv u d a x p l ts k h0 h1 h2 many f = on_level u d a x ts k many (place_same_Eqv u d a x p l ts h0 h1 h2) (place_other_Eqv u d a p l ts h0 h2) f
+
+  pub place_Imp : (u d : DraftOf) (a x : Expr) (p : Box Expr Global) (l : Vec Operand Global) (ts : List Operand) (k : ℕ) → a ≡ e.Imp p l → x ≡ p.value → ts ≡ l.items → k ≡ length ts → WritesPlaceAlone b w n u d k x → WritesPlace b w n u d a
+  place_Imp u d a x p l ts k h0 h1 h2 many f = on_level u d a x ts k many (place_same_Imp u d a x p l ts h0 h1 h2) (place_other_Imp u d a p l ts h0 h2) f
+
+  pub place_Or : (u d : DraftOf) (a x : Expr) (p : Box Expr Global) (l : Vec Operand Global) (ts : List Operand) (k : ℕ) → a ≡ e.Or p l → x ≡ p.value → ts ≡ l.items → k ≡ length ts → WritesPlaceAlone b w n u d k x → WritesPlace b w n u d a
+  place_Or u d a x p l ts k h0 h1 h2 many f = on_level u d a x ts k many (place_same_Or u d a x p l ts h0 h1 h2) (place_other_Or u d a p l ts h0 h2) f
+
+  pub place_And : (u d : DraftOf) (a x : Expr) (p : Box Expr Global) (l : Vec Operand Global) (ts : List Operand) (k : ℕ) → a ≡ e.And p l → x ≡ p.value → ts ≡ l.items → k ≡ length ts → WritesPlaceAlone b w n u d k x → WritesPlace b w n u d a
+  place_And u d a x p l ts k h0 h1 h2 many f = on_level u d a x ts k many (place_same_And u d a x p l ts h0 h1 h2) (place_other_And u d a p l ts h0 h2) f
+
+  pub place_Concatenation : (u d : DraftOf) (a x : Expr) (p : Box Expr Global) (l : Vec Operand Global) (ts : List Operand) (k : ℕ) → a ≡ e.Concatenation p l → x ≡ p.value → ts ≡ l.items → k ≡ length ts → WritesPlaceAlone b w n u d k x → WritesPlace b w n u d a
+  place_Concatenation u d a x p l ts k h0 h1 h2 many f = on_level u d a x ts k many (place_same_Concatenation u d a x p l ts h0 h1 h2) (place_other_Concatenation u d a p l ts h0 h2) f
+
+  pub place_Power : (u d : DraftOf) (a x : Expr) (p : Box Expr Global) (l : Vec Operand Global) (ts : List Operand) (k : ℕ) → a ≡ e.Power p l → x ≡ p.value → ts ≡ l.items → k ≡ length ts → WritesPlaceAlone b w n u d k x → WritesPlace b w n u d a
+  place_Power u d a x p l ts k h0 h1 h2 many f = on_level u d a x ts k many (place_same_Power u d a x p l ts h0 h1 h2) (place_other_Power u d a p l ts h0 h2) f
+
+  pub place_Product : (u d : DraftOf) (a x : Expr) (p : Box Expr Global) (l : Vec Factor Global) (ts : List Factor) (k : ℕ) → a ≡ e.Product p l → x ≡ p.value → ts ≡ l.items → k ≡ length ts → WritesPlaceAlone b w n u d k x → WritesPlace b w n u d a
+  place_Product u d a x p l ts k h0 h1 h2 many f = on_level u d a x ts k many (place_same_Product u d a x p l ts h0 h1 h2) (place_other_Product u d a p l ts h0 h2) f
+
+  pub place_Not : (u d : DraftOf) (a x : Expr) (p : Box Expr Global) (l : Vec TokenNo Global) (ts : List TokenNo) (k : ℕ) → a ≡ e.Not l p → x ≡ p.value → ts ≡ l.items → k ≡ length ts → WritesPlaceAlone b w n u d k x → WritesPlace b w n u d a
+  place_Not u d a x p l ts k h0 h1 h2 many f = on_level u d a x ts k many (place_same_Not u d a x p l ts h0 h1 h2) (place_other_Not u d a p l ts h0 h2) f
+
+  pub place_Sum : (u d : DraftOf) (a x : Expr) (m : Option LeadingSign) (p : Box Expr Global) (l : Vec Term Global) (ts : List Term) (k : ℕ) → a ≡ e.Sum m p l → m ≡ None → x ≡ p.value → ts ≡ l.items → k ≡ length ts → WritesPlaceAlone b w n u d k x → WritesPlace b w n u d a
+  place_Sum u d a x m p l ts k h0 none h1 h2 many f = on_level u d a x ts k many (place_same_Sum u d a x m p l ts h0 none h1 h2) (place_other_Sum u d a m p l ts h0 h2) f
+
+  -- ---- what is no variable
 
   pub place_other_If : (u d : DraftOf) (a : Expr) (t : TokenNo) (p q y : Box Expr Global) → a ≡ e.If t p q y → d ≡ given_up u → WritesPlace b w n u d a
   place_other_If u d a t p q y h0 ed = place_other_form b w n u d a form.Other (formed.other_If a t p q y h0) refl ed
@@ -164,4 +218,6 @@ module _ (b : Bound) (w : Spot) (n : ℕ) where
   unfolding WritesPlace PutsPlace
   place_is_closed u d a t p is ed = emits_nothing w u d _ _ (λ h. subst (PlaceBuilt (source_of b) w.text) (ap syntax_of is ∙ v.syntax-Parentheses t p) h) ed
 
-pub ruleset places = (place_same_OrElse, place_same_AndThen, place_same_Eqv, place_same_Imp, place_same_Or, place_same_And, place_same_Concatenation, place_same_Power, place_same_Product, place_same_Sum, place_same_Postfix, place_same_Not, place_other_OrElse, place_other_AndThen, place_other_Eqv, place_other_Imp, place_other_Or, place_other_And, place_other_Concatenation, place_other_Power, place_other_Product, place_other_Sum, place_signed_Sum, place_other_Not, place_other_If, place_other_Related, place_other_Member, place_other_Integer, place_other_Character, place_other_Text, place_other_True, place_other_False, place_other_NoObject, place_other_Notext, place_other_This, place_other_New, place_is_named, place_is_taken, place_is_closed)
+pub ruleset places = (place_OrElse, place_AndThen, place_Eqv, place_Imp, place_Or, place_And, place_Concatenation, place_Power, place_Product, place_Not, place_Sum, place_same_Postfix, place_signed_Sum, place_other_If, place_other_Related, place_other_Member, place_other_Integer, place_other_Character, place_other_Text, place_other_True, place_other_False, place_other_NoObject, place_other_Notext, place_other_This, place_other_New, place_is_named, place_is_taken, place_is_closed)
+
+pub ruleset alone = (alone_place, alone_no_place)

@@ -6,7 +6,7 @@ use Rattle.sim_base.specs.declared.numbering.TokenNo.{TokenNo}
 use Rattle.sim_scope.specs.declared.bound.Bound.{Bound}
 use Rattle.sim_scope.specs.declared.scopes.Denotation.{Denotation}
 use Rattle.sim_scope.specs.declared.scopes.Denotation.TheVariants as denotation
-use Rattle.sim_scope.specs.declared.standard.Standard.{Standard}
+use Rattle.sim_scope.specs.declared.standard.StandardName.{StandardName}
 use Rattle.sim_scope.specs.declared.types.Entry.{Entry}
 use Rattle.sim_scope.specs.declared.types.Entry.TheVariants as entry
 use Rattle.sim_scope.specs.declared.types.Formal.{Formal}
@@ -294,7 +294,7 @@ module _ (b : Bound) (w : Spot) (n : ℕ) where
       subst (λ z. PutsNamed s w n a c token z es) (sym some)
       (seen_emits a c line d (entry_of s.tables d) es (AreBuilt s w.text es) (λ formals. ActualsBuilt s w.text es formals) (λ final site p q. ExprsAt s final site (suc n) es p q) (λ final site formals p q. ActualsAt s final site (suc n) line es formals p q) refl f')
 
-  pub see_standard : (a c : DraftOf) (token : TokenNo) (es : List Expr) (u : Option Denotation) (k : Standard) → u ≡ Some (denotation.Standard k) → WritesStandard b w n a c 1 token k es → WritesNamed b w n a c token u es
+  pub see_standard : (a c : DraftOf) (token : TokenNo) (es : List Expr) (u : Option Denotation) (k : StandardName) → u ≡ Some (denotation.Standard k) → WritesStandard b w n a c 1 token k es → WritesNamed b w n a c token u es
   unfolding WritesNamed PutsNamed WritesStandard
   see_standard a c token ys u k some f = subst (λ z. PutsNamed (source_of b) w n a c token z (expressions (map syntax_of ys))) (sym some) f
 

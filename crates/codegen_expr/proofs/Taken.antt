@@ -8,7 +8,7 @@ use Rattle.sim_base.specs.declared.numbering.TokenNo.{TokenNo}
 use Rattle.sim_scope.specs.declared.bound.Bound.{Bound}
 use Rattle.sim_scope.specs.declared.scopes.Denotation.{Denotation}
 use Rattle.sim_scope.specs.declared.scopes.Denotation.TheVariants as denotation
-use Rattle.sim_scope.specs.declared.standard.Standard.{Standard}
+use Rattle.sim_scope.specs.declared.standard.StandardName.{StandardName}
 use Rattle.sim_scope.specs.Source.{Source, denoted, line_at, source_of}
 use Rattle.sim_tree.specs.declared.expr.Expr.{Expr}
 use Rattle.sim_tree.specs.declared.expr.Identifier.{Identifier}
@@ -87,7 +87,7 @@ module _ (b : Bound) (w : Spot) (n : ℕ) where
       Emits w start c (DotBuilt d o (is_variable (source_of b) e) (expressions (map syntax_of ys)) (PlaceBuilt (source_of b) w.text e) (IsBuilt (source_of b) w.text e) (AreBuilt (source_of b) w.text (expressions (map syntax_of ys))))
       (λ final site p q. DotAt final site n (line_at (source_of b) x.token.0) d o (is_variable (source_of b) e) (expressions (map syntax_of ys)) (λ u v. PlaceAt (source_of b) final site n e u v) (λ u v. ExprAt (source_of b) final site n e u v) (λ u v. ExprsAt (source_of b) final site n (expressions (map syntax_of ys)) u v) (λ u v. ExprsAt (source_of b) final site (suc n) (expressions (map syntax_of ys)) u v) p q)
 
-  pub dot_of_stream : (a c : DraftOf) (o : Object) (x : Identifier) (ys : List Expr) (d : Option Denotation) (k : Standard) (img : ℕ) → d ≡ denoted (source_of b) x.token.0 → d ≡ Some (denotation.Standard k) → o ≡ object.Stream img → WritesStandard b w n a c img x.token k ys → WritesDot b w n a c o x ys
+  pub dot_of_stream : (a c : DraftOf) (o : Object) (x : Identifier) (ys : List Expr) (d : Option Denotation) (k : StandardName) (img : ℕ) → d ≡ denoted (source_of b) x.token.0 → d ≡ Some (denotation.Standard k) → o ≡ object.Stream img → WritesStandard b w n a c img x.token k ys → WritesDot b w n a c o x ys
   unfolding WritesDot WritesStandard
   dot_of_stream a c o x ys d k img ed some eo f start e before =
       let g = subst (λ z. PutsBefore (source_of b) w n start a (moves_denoted (denoted (source_of b) x.token.0)) z e) eo before in
@@ -105,7 +105,7 @@ module _ (b : Bound) (w : Spot) (n : ℕ) where
       subst (λ z. Emits w start c (NameBuilt name (suc (operands es)) × ObjectBuilt z P I × AreBuilt (source_of b) w.text es) (λ final site p q. (x : ℕ) × (y : ℕ) × ObjectAt z (A final site) (B final site) p x × C final site x y × StandardIs final site n line name (suc (operands es)) y q)) (sym is)
       (emits_as w _ _ _ _ start c (λ t. (t.1, (t.0, t.2))) (λ t. (t.1.0, t.0, t.1.1)) (λ final site p q _ _ r. (r.0, r.2.0, r.1, r.2.1, r.2.2)) f)
 
-  dot_behind : (start a c : DraftOf) (x : Identifier) (ys : List Expr) (e : Expression) (d : Option Denotation) (k : Standard) (place : Bool) → d ≡ denoted (source_of b) x.token.0 → d ≡ Some (denotation.Standard k) → stream_of (source_of b) e ≡ None → (moves_denoted (denoted (source_of b) x.token.0) && is_variable (source_of b) e) ≡ place
+  dot_behind : (start a c : DraftOf) (x : Identifier) (ys : List Expr) (e : Expression) (d : Option Denotation) (k : StandardName) (place : Bool) → d ≡ denoted (source_of b) x.token.0 → d ≡ Some (denotation.Standard k) → stream_of (source_of b) e ≡ None → (moves_denoted (denoted (source_of b) x.token.0) && is_variable (source_of b) e) ≡ place
       → Emits w start a (ObjectBuilt place (PlaceBuilt (source_of b) w.text e) (IsBuilt (source_of b) w.text e)) (λ final site p q. ObjectAt place (λ u v. PlaceAt (source_of b) final site n e u v) (λ u v. ExprAt (source_of b) final site n e u v) p q)
       → WritesBehind b w n a c x.token k ys → Dotted start c x ys e (denoted (source_of b) x.token.0) (stream_of (source_of b) e)
   unfolding WritesBehind
@@ -118,13 +118,13 @@ module _ (b : Bound) (w : Spot) (n : ℕ) where
       (object_emits (procedure_named k) (line_at s x.token.0) 0 place (is_variable s e) es _ _ (λ final site p q. PlaceAt s final site n e p q) (λ final site p q. ExprAt s final site n e p q) (λ final site p q. ExprsAt s final site (suc n) es p q) start c moves'
       (emits_then w _ _ (λ final site p q. ObjectAt place (λ u v. PlaceAt s final site n e u v) (λ u v. ExprAt s final site n e u v) p q) (λ final site p q. (y : ℕ) × ExprsAt s final site (suc n) es p y × AloneAt final site n (line_at s x.token.0) (procedure_named k) (suc (operands es)) y q) start a c f g)))
 
-  pub dot_of_place : (a c : DraftOf) (o : Object) (x : Identifier) (ys : List Expr) (d : Option Denotation) (k : Standard) → d ≡ denoted (source_of b) x.token.0 → d ≡ Some (denotation.Standard k) → o ≡ object.Place → WritesBehind b w n a c x.token k ys → WritesDot b w n a c o x ys
+  pub dot_of_place : (a c : DraftOf) (o : Object) (x : Identifier) (ys : List Expr) (d : Option Denotation) (k : StandardName) → d ≡ denoted (source_of b) x.token.0 → d ≡ Some (denotation.Standard k) → o ≡ object.Place → WritesBehind b w n a c x.token k ys → WritesDot b w n a c o x ys
   unfolding WritesDot PutsPlace
   dot_of_place a c o x ys d k ed some eo f start e before =
       let g = subst (λ z. PutsBefore (source_of b) w n start a (moves_denoted (denoted (source_of b) x.token.0)) z e) eo before in
       dot_behind start a c x ys e d k true ed some g.puts.1 g.placed g.puts.0 f
 
-  pub dot_of_value : (a c : DraftOf) (o : Object) (x : Identifier) (ys : List Expr) (d : Option Denotation) (k : Standard) → d ≡ denoted (source_of b) x.token.0 → d ≡ Some (denotation.Standard k) → o ≡ object.Value → WritesBehind b w n a c x.token k ys → WritesDot b w n a c o x ys
+  pub dot_of_value : (a c : DraftOf) (o : Object) (x : Identifier) (ys : List Expr) (d : Option Denotation) (k : StandardName) → d ≡ denoted (source_of b) x.token.0 → d ≡ Some (denotation.Standard k) → o ≡ object.Value → WritesBehind b w n a c x.token k ys → WritesDot b w n a c o x ys
   unfolding WritesDot Puts
   dot_of_value a c o x ys d k ed some eo f start e before =
       let g = subst (λ z. PutsBefore (source_of b) w n start a (moves_denoted (denoted (source_of b) x.token.0)) z e) eo before in

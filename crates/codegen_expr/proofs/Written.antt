@@ -485,4 +485,10 @@ from_back xs i d le =
     let two : k ≡ length xs - 1 - i = omega arith in
     drop_more xs k d (omega arith) ∙ ap (λ n. slice_index_or xs k d ∷ drop n xs) one ∙ ap (λ n. slice_index_or xs n d ∷ drop (length xs - i) xs) two
 
-pub ruleset writes = (write_if, write_plain, write_negated, write_or, write_and, write_joined, write_OrElse, write_AndThen, write_Eqv, write_Imp, write_Or, write_And, write_Concatenation, write_Power, write_product, write_sum, write_signed, write_plus, write_minus, write_related, write_not, write_postfix_alone, write_postfix_taken, write_named, write_element, write_load, write_no_slot, write_outside, write_Integer, write_Character, write_True, write_False, write_parentheses, write_Member, write_Text, write_NoObject, write_Notext, write_This, write_New)
+pub ruleset writes = (write_if, write_OrElse, write_AndThen, write_Eqv, write_Imp, write_Or, write_And, write_Concatenation, write_Power, write_product, write_sum, write_signed, write_related, write_not, write_postfix_alone, write_postfix_taken, write_named, write_Integer, write_Character, write_True, write_False, write_parentheses, write_Member, write_Text, write_NoObject, write_Notext, write_This, write_New)
+
+pub ruleset second_operands = (write_plain, write_negated, write_or, write_and, write_joined)
+
+pub ruleset of_cells = (write_element, write_load, write_no_slot, write_outside)
+
+pub ruleset leading_signs = (write_plus, write_minus)

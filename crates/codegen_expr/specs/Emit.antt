@@ -5,7 +5,7 @@ use Rattle.sim_base.specs.declared.numbering.TokenNo.{TokenNo}
 use Rattle.sim_scope.specs.declared.bound.Bound.{Bound}
 use Rattle.sim_scope.specs.declared.scopes.Denotation.{Denotation}
 use Rattle.sim_scope.specs.declared.scopes.Denotation.TheVariants as denotation
-use Rattle.sim_scope.specs.declared.standard.Standard.{Standard as Found}
+use Rattle.sim_scope.specs.declared.standard.StandardName.{StandardName}
 use Rattle.sim_scope.specs.declared.types.Entry.{Entry}
 use Rattle.sim_scope.specs.declared.types.Entry.TheVariants as entry
 use Rattle.sim_scope.specs.declared.types.Formal.{Formal}
@@ -230,7 +230,7 @@ AloneAt code site n line None count p q = ⊥
 AloneAt code site n line (Some name) count p q = StandardIs code site n line name count p q
 
 -- a standard name with its operands, where that of both images is done on this one; the token is that of the identifier
-unfoldable pub WritesStandard : Bound → Spot → (n : ℕ) → (old new : DraftOf) → (image : ℕ) → TokenNo → Found → List Expr → Type 0
+unfoldable pub WritesStandard : Bound → Spot → (n : ℕ) → (old new : DraftOf) → (image : ℕ) → TokenNo → StandardName → List Expr → Type 0
 WritesStandard b w n old new image token name ys =
     let s = source_of b in
     let es = expressions (map syntax_of ys) in
@@ -238,7 +238,7 @@ WritesStandard b w n old new image token name ys =
     (λ final site p q. StandardAt final site n (line_at s token.0) image (procedure_named name) es (λ x y. ExprsAt s final site n es x y) (λ x y. ExprsAt s final site (suc n) es x y) p q)
 
 -- the same of one that is done by itself
-unfoldable pub WritesAlone : Bound → Spot → (n : ℕ) → (old new : DraftOf) → TokenNo → Found → List Expr → Type 0
+unfoldable pub WritesAlone : Bound → Spot → (n : ℕ) → (old new : DraftOf) → TokenNo → StandardName → List Expr → Type 0
 WritesAlone b w n old new token name ys =
     let s = source_of b in
     let es = expressions (map syntax_of ys) in
@@ -246,7 +246,7 @@ WritesAlone b w n old new token name ys =
     (λ final site p q. (x : ℕ) × ExprsAt s final site n es p x × AloneAt final site n (line_at s token.0) (procedure_named name) (operands es) x q)
 
 -- a name of texts behind its text, which is on the stack
-unfoldable pub WritesBehind : Bound → Spot → (n : ℕ) → (old new : DraftOf) → TokenNo → Found → List Expr → Type 0
+unfoldable pub WritesBehind : Bound → Spot → (n : ℕ) → (old new : DraftOf) → TokenNo → StandardName → List Expr → Type 0
 WritesBehind b w n old new token name ys =
     let s = source_of b in
     let es = expressions (map syntax_of ys) in

@@ -4,4 +4,5 @@ pub mod Drafts
 pub mod Built
 pub mod Known
 pub mod Emit
+pub mod PlaceAlone
 pub mod Forms

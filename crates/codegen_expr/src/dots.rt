@@ -10,16 +10,17 @@ use crate::forms::{Form, form_of};
 use crate::lookups::denoted;
 use crate::names::moves_position;
 use crate::operators::Object;
-use sim_scope::{Bound, Denotation, Entry, FormalKind, Mode, Standard, entry_of};
+use sim_scope::{Bound, Denotation, Entry, FormalKind, Mode, StandardName, entry_of};
 use sim_tree::{Expr, Selector};
+use sim_values::Standard;
 
 /// The number of the image that what is denoted has, if it is `sysin` or `sysout`.
 fn stream_denoted(denotation: Option<Denotation>) -> Option<u32>
     ensures { result ≡ stream_denoted_of denotation }
 {
     match denotation {
-        Some(Denotation::Standard(Standard::Sysin)) => Some(0),
-        Some(Denotation::Standard(Standard::Sysout)) => Some(1),
+        Some(Denotation::Standard(StandardName::Sysin)) => Some(0),
+        Some(Denotation::Standard(StandardName::Sysout)) => Some(1),
         _ => None,
     }
 }
@@ -42,7 +43,7 @@ fn is_image(denotation: Option<Denotation>) -> bool
     ensures { result ≡ is_image_denoted denotation }
 {
     match denotation {
-        Some(Denotation::Standard(Standard::Image)) => true,
+        Some(Denotation::Standard(StandardName::Procedure(Standard::Image))) => true,
         _ => false,
     }
 }

@@ -19,7 +19,7 @@ use sim_tree::{Expr, Selector, Sign};
 use std::alloc::AllocError;
 
 /// A sign behind its operand.
-#[tactic(auto, using(crate::proofs::Written::writes))]
+#[tactic(auto, using(crate::proofs::Written::leading_signs))]
 pub(crate) fn emit_sign(
     bound: &Bound,
     cells: &Cells,
@@ -41,7 +41,7 @@ pub(crate) fn emit_sign(
 }
 
 /// The value of the cell of a declaration.
-#[tactic(auto, using(crate::proofs::Written::writes))]
+#[tactic(auto, using(crate::proofs::Written::of_cells))]
 pub fn emit_cell(
     bound: &Bound,
     cells: &Cells,
@@ -67,7 +67,7 @@ pub fn emit_cell(
 }
 
 /// The address of the cell of a declaration.
-#[tactic(auto, using(crate::proofs::Behind::behind))]
+#[tactic(auto, using(crate::proofs::Behind::lies))]
 pub(crate) fn emit_cell_place(
     bound: &Bound,
     cells: &Cells,
@@ -153,7 +153,7 @@ pub(crate) fn emit_image(
 }
 
 /// The address of the image that is taken of a stream.
-#[tactic(auto, using(crate::proofs::Behind::behind))]
+#[tactic(auto, using(crate::proofs::Behind::lies))]
 pub(crate) fn emit_image_taken(
     bound: &Bound,
     spot: Spot,

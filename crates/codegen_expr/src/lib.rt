@@ -1,6 +1,7 @@
 //! The code of expressions.
 #![tactic(auto)]
 
+mod calls;
 mod cells;
 mod dots;
 mod draft;
@@ -11,14 +12,17 @@ mod joining;
 mod leaves;
 mod lookups;
 mod names;
+mod operands;
 mod operators;
+mod selectors;
 mod spot;
+mod standard;
+mod variables;
 
+pub use calls::{emit_element, emit_named};
 pub use cells::{Cells, ConstantValue};
 pub use draft::{Draft, deeper};
-pub use emit::{
-    emit_before, emit_dot, emit_element, emit_expr, emit_list, emit_named, emit_standard,
-};
+pub use emit::emit_expr;
 pub use forms::{Form, form_of};
 pub use instructions::{
     call_instr, character_instr, element_instr, link_instr, load_instr, standard_instr, store_instr,
@@ -29,5 +33,8 @@ pub use lookups::{
     has_result, is_around, is_text, is_text_at, level_of, line_at, slot_of,
 };
 pub use names::{StandardCode, standard_leaves};
+pub use operands::emit_list;
 pub use operators::Object;
+pub use selectors::{emit_before, emit_dot};
 pub use spot::Spot;
+pub use standard::emit_standard;

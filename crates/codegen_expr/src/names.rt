@@ -1,10 +1,11 @@
 //! The standard names in code.
 ghost use Rattle.std.specs.Prelude.{◌≡◌, Some};
 ghost use Rattle.sim_meaning.specs.Names.{procedure_named};
-ghost use Rattle.sim_meaning.specs.Statements.{standard_leaves as standard_leaves_of};
+ghost use Rattle.sim_meaning.specs.Statements.{has_value, standard_leaves as standard_leaves_of};
 ghost use Rattle.codegen_expr.specs.Emit.{Numbered, OnImageIs, moves_named};
 
-use sim_scope::Standard;
+use sim_scope::StandardName;
+use sim_values::{Standard, StandardType};
 
 /// A standard name that is done by itself, in code.
 #[derive(Clone, Copy, Debug, PartialEq, Eq)]
@@ -22,10 +23,10 @@ fn built(number: u32, operands: usize) -> Option<StandardCode>
     Some(StandardCode { number, operands })
 }
 
-/// What code has of a standard name that is done by itself: not of those of both images, nor of the streams.
+/// What code has of a name of the table that is done by itself: not of those of both images.
 #[tactic(auto, unfolding(sim_values::specs::Standard::row_of))]
-pub(crate) fn standard_code(name: Standard) -> Option<StandardCode>
-    ensures { Numbered result (procedure_named name) }
+fn procedure_code(name: Standard) -> Option<StandardCode>
+    ensures { Numbered result (Some name) }
 {
     match name {
         Standard::Abs => built(0, 1),
@@ -69,18 +70,17 @@ pub(crate) fn standard_code(name: Standard) -> Option<StandardCode>
         Standard::Outchar => built(38, 1),
         Standard::Outtext => built(39, 1),
         Standard::Outint => built(40, 2),
-        Standard::Image => None,
-        Standard::Pos => None,
-        Standard::Setpos => None,
-        Standard::More => None,
-        Standard::Length => None,
-        Standard::Sysin => None,
-        Standard::Sysout => None,
-        Standard::Detach => None,
-        Standard::Call => None,
-        Standard::Resume => None,
-        Standard::Simset => None,
-        Standard::Simulation => None,
+        _ => None,
+    }
+}
+
+/// What code has of a standard name that is done by itself.
+pub(crate) fn standard_code(name: StandardName) -> Option<StandardCode>
+    ensures { Numbered result (procedure_named name) }
+{
+    match name {
+        StandardName::Procedure(procedure) => procedure_code(procedure),
+        _ => None,
     }
 }
 
@@ -90,191 +90,63 @@ pub(crate) enum OnImage {
     /// The image itself.
     Itself,
     /// A name of texts.
-    OfText(Standard),
+    OfText(StandardName),
     /// It is none of those names.
     Nothing,
 }
 
 /// What a standard name is on an image.
-pub(crate) fn on_image(name: Standard) -> OnImage
+pub(crate) fn on_image(name: StandardName) -> OnImage
     ensures { OnImageIs result (procedure_named name) }
 {
     match name {
-        Standard::Abs => OnImage::Nothing,
-        Standard::Sign => OnImage::Nothing,
-        Standard::Min => OnImage::Nothing,
-        Standard::Max => OnImage::Nothing,
-        Standard::Mod => OnImage::Nothing,
-        Standard::Rem => OnImage::Nothing,
-        Standard::Maxint => OnImage::Nothing,
-        Standard::Minint => OnImage::Nothing,
-        Standard::Char => OnImage::Nothing,
-        Standard::Rank => OnImage::Nothing,
-        Standard::Isochar => OnImage::Nothing,
-        Standard::Isorank => OnImage::Nothing,
-        Standard::Digit => OnImage::Nothing,
-        Standard::Letter => OnImage::Nothing,
-        Standard::Blanks => OnImage::Nothing,
-        Standard::Copy => OnImage::Nothing,
-        Standard::Upcase => OnImage::Nothing,
-        Standard::Lowcase => OnImage::Nothing,
-        Standard::TextConstant => OnImage::Nothing,
-        Standard::TextStart => OnImage::Nothing,
-        Standard::TextLength => OnImage::Nothing,
-        Standard::TextPos => OnImage::Nothing,
-        Standard::TextMore => OnImage::Nothing,
-        Standard::TextMain => OnImage::Nothing,
-        Standard::TextSetpos => OnImage::Nothing,
-        Standard::TextGetchar => OnImage::Nothing,
-        Standard::TextPutchar => OnImage::Nothing,
-        Standard::TextSub => OnImage::Nothing,
-        Standard::TextStrip => OnImage::Nothing,
-        Standard::TextGetint => OnImage::Nothing,
-        Standard::TextPutint => OnImage::Nothing,
-        Standard::Inimage => OnImage::Nothing,
-        Standard::Inchar => OnImage::Nothing,
-        Standard::Inint => OnImage::Nothing,
-        Standard::Intext => OnImage::Nothing,
-        Standard::Lastitem => OnImage::Nothing,
-        Standard::Endfile => OnImage::Nothing,
-        Standard::Outimage => OnImage::Nothing,
-        Standard::Outchar => OnImage::Nothing,
-        Standard::Outtext => OnImage::Nothing,
-        Standard::Outint => OnImage::Nothing,
-        Standard::Image => OnImage::Itself,
-        Standard::Pos => OnImage::OfText(Standard::TextPos),
-        Standard::Setpos => OnImage::OfText(Standard::TextSetpos),
-        Standard::More => OnImage::OfText(Standard::TextMore),
-        Standard::Length => OnImage::OfText(Standard::TextLength),
-        Standard::Sysin => OnImage::Nothing,
-        Standard::Sysout => OnImage::Nothing,
-        Standard::Detach => OnImage::Nothing,
-        Standard::Call => OnImage::Nothing,
-        Standard::Resume => OnImage::Nothing,
-        Standard::Simset => OnImage::Nothing,
-        Standard::Simulation => OnImage::Nothing,
+        StandardName::Procedure(Standard::Image) => OnImage::Itself,
+        StandardName::Procedure(Standard::Pos) => OnImage::OfText(StandardName::Procedure(
+            Standard::TextPos,
+        )),
+        StandardName::Procedure(Standard::Setpos) => OnImage::OfText(StandardName::Procedure(
+            Standard::TextSetpos,
+        )),
+        StandardName::Procedure(Standard::More) => OnImage::OfText(StandardName::Procedure(
+            Standard::TextMore,
+        )),
+        StandardName::Procedure(Standard::Length) => OnImage::OfText(StandardName::Procedure(
+            Standard::TextLength,
+        )),
+        _ => OnImage::Nothing,
     }
 }
 
 /// Whether a standard name moves the position of its text.
-pub(crate) fn moves_position(name: Standard) -> bool
+pub(crate) fn moves_position(name: StandardName) -> bool
     ensures { result ≡ moves_named (procedure_named name) }
 {
     match name {
-        Standard::Abs => false,
-        Standard::Sign => false,
-        Standard::Min => false,
-        Standard::Max => false,
-        Standard::Mod => false,
-        Standard::Rem => false,
-        Standard::Maxint => false,
-        Standard::Minint => false,
-        Standard::Char => false,
-        Standard::Rank => false,
-        Standard::Isochar => false,
-        Standard::Isorank => false,
-        Standard::Digit => false,
-        Standard::Letter => false,
-        Standard::Blanks => false,
-        Standard::Copy => false,
-        Standard::Upcase => false,
-        Standard::Lowcase => false,
-        Standard::TextConstant => false,
-        Standard::TextStart => false,
-        Standard::TextLength => false,
-        Standard::TextPos => false,
-        Standard::TextMore => false,
-        Standard::TextMain => false,
-        Standard::TextSetpos => true,
-        Standard::TextGetchar => true,
-        Standard::TextPutchar => true,
-        Standard::TextSub => false,
-        Standard::TextStrip => false,
-        Standard::TextGetint => true,
-        Standard::TextPutint => true,
-        Standard::Inimage => false,
-        Standard::Inchar => false,
-        Standard::Inint => false,
-        Standard::Intext => false,
-        Standard::Lastitem => false,
-        Standard::Endfile => false,
-        Standard::Outimage => false,
-        Standard::Outchar => false,
-        Standard::Outtext => false,
-        Standard::Outint => false,
-        Standard::Image => false,
-        Standard::Pos => false,
-        Standard::Setpos => false,
-        Standard::More => false,
-        Standard::Length => false,
-        Standard::Sysin => false,
-        Standard::Sysout => false,
-        Standard::Detach => false,
-        Standard::Call => false,
-        Standard::Resume => false,
-        Standard::Simset => false,
-        Standard::Simulation => false,
+        StandardName::Procedure(Standard::TextSetpos) => true,
+        StandardName::Procedure(Standard::TextGetchar) => true,
+        StandardName::Procedure(Standard::TextPutchar) => true,
+        StandardName::Procedure(Standard::TextGetint) => true,
+        StandardName::Procedure(Standard::TextPutint) => true,
+        _ => false,
     }
 }
 
 /// Whether a standard name leaves a value.
-#[tactic(auto, unfolding(sim_values::specs::Standard::row_of))]
-pub fn standard_leaves(name: Standard) -> bool
+pub fn standard_leaves(name: StandardName) -> bool
     ensures { result ≡ standard_leaves_of (procedure_named name) }
 {
     match name {
-        Standard::Abs => true,
-        Standard::Sign => true,
-        Standard::Min => true,
-        Standard::Max => true,
-        Standard::Mod => true,
-        Standard::Rem => true,
-        Standard::Maxint => true,
-        Standard::Minint => true,
-        Standard::Char => true,
-        Standard::Rank => true,
-        Standard::Isochar => true,
-        Standard::Isorank => true,
-        Standard::Digit => true,
-        Standard::Letter => true,
-        Standard::Blanks => true,
-        Standard::Copy => true,
-        Standard::Upcase => true,
-        Standard::Lowcase => true,
-        Standard::TextConstant => true,
-        Standard::TextStart => true,
-        Standard::TextLength => true,
-        Standard::TextPos => true,
-        Standard::TextMore => true,
-        Standard::TextMain => true,
-        Standard::TextSetpos => false,
-        Standard::TextGetchar => true,
-        Standard::TextPutchar => false,
-        Standard::TextSub => true,
-        Standard::TextStrip => true,
-        Standard::TextGetint => true,
-        Standard::TextPutint => false,
-        Standard::Inimage => false,
-        Standard::Inchar => true,
-        Standard::Inint => true,
-        Standard::Intext => true,
-        Standard::Lastitem => true,
-        Standard::Endfile => true,
-        Standard::Outimage => false,
-        Standard::Outchar => false,
-        Standard::Outtext => false,
-        Standard::Outint => false,
-        Standard::Image => true,
-        Standard::Pos => true,
-        Standard::Setpos => false,
-        Standard::More => true,
-        Standard::Length => true,
-        Standard::Sysin => false,
-        Standard::Sysout => false,
-        Standard::Detach => false,
-        Standard::Call => false,
-        Standard::Resume => false,
-        Standard::Simset => false,
-        Standard::Simulation => false,
+        StandardName::Procedure(procedure) => has_value(procedure.result()),
+        _ => false,
+    }
+}
+
+/// Whether there is a result.
+fn has_value(result_type: Option<StandardType>) -> bool
+    ensures { result ≡ has_value result_type }
+{
+    match result_type {
+        Some(_) => true,
+        None => false,
     }
 }

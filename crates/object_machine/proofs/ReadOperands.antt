@@ -1,10 +1,10 @@
 -- Operands that are read from a stack.
 use Rattle.std.proofs.Common.{◌≡◌, ℕ, zero, suc, ◌+◌, ◌-◌, ◌<◌, ◌≤◌, ◌⊎◌, inl, inr, List, [], ◌∷◌, length, set, get_or-set_same, get_or-set_other, sym, subst, refl, ap, ◌∙◌, arith}
-use Rattle.std.specs.Prelude.{Option, Some, None}
+use Rattle.std.specs.Prelude.{true, Option, Some, None}
 use Rattle.sim_values.specs.Plain.{Plain, Text}
 use Rattle.sim_values.specs.declared.value.TextVal.{TextVal}
 use Rattle.sim_code.specs.Events.{having, no_rule, pop_operands, popping, putting_back}
-use Rattle.sim_code.specs.Machine.{Frames, Machine, Of, Value, operand, place_in, plain}
+use Rattle.sim_code.specs.Machine.{Address, ArrayValue, Frames, Link, Machine, Of, ProcedureValue, ThunkValue, Value, operand, place_in, plain}
 use Rattle.sim_code.specs.Outcome.{Run, World}
 use Rattle.sim_code.specs.Instances.{CellPlace, ElementPlace, ImagePlace}
 use Rattle.sim_code.specs.Rows.{put_back, putting}
@@ -12,7 +12,7 @@ use Rattle.sim_base.specs.declared.limits.Limits.{Limits}
 use Rattle.frame_arena.specs.declared.slot.Slot.{Slot}
 use Rattle.frame_arena.specs.declared.slot.SlotKind.{SlotKind}
 use Rattle.frame_arena.specs.declared.slot.SlotKind.TheVariants as k
-use Rattle.frame_arena.specs.Slots.{count_of, empty_slot, value_by, value_of}
+use Rattle.frame_arena.specs.Slots.{count_of, empty_slot, is_plain, value_by, value_of}
 use Rattle.frame_arena.specs.Stacks.{slot_at, values_of}
 use Rattle.object_machine.specs.declared.machine.Storage.{Storage}
 use Rattle.object_machine.specs.declared.machine.Registers.{Registers}
@@ -24,6 +24,7 @@ use Rattle.object_machine.specs.Standing.{Outside}
 use Rattle.object_machine.specs.Arrayed.{value_there}
 use Rattle.object_machine.specs.Operands.{AllRead, OneUnread, first_slot, text_there}
 use Rattle.object_machine.proofs.ArrayRows.{none_at, top_at}
+use Rattle.object_machine.proofs.Scalars.{off}
 
 -- ---- one operand
 
@@ -36,6 +37,14 @@ module _ (o : World) (m : Frames) where
 
   pub operand_image : (j : SlotKind) (s : Slot) → j ≡ k.Image → operand o m (value_by j s) ≡ text_there (value_there o m (place_in (value_by j s)))
   operand_image j s e = subst (λ j. operand o m (value_by j s) ≡ text_there (value_there o m (place_in (value_by j s)))) (sym e) refl
+
+  pub operand_of_plain : (v : Value) → is_plain v ≡ true → operand o m v ≡ plain v
+  operand_of_plain (Of p) e = refl
+  operand_of_plain (Link j) e = absurd (off e)
+  operand_of_plain (Address a) e = absurd (off e)
+  operand_of_plain (ArrayValue a) e = absurd (off e)
+  operand_of_plain (ProcedureValue b h) e = absurd (off e)
+  operand_of_plain (ThunkValue t h) e = absurd (off e)
 
   pub operand_plain : (j : SlotKind) (s : Slot) → (j ≡ k.Cell → ⊥) → (j ≡ k.Element → ⊥) → (j ≡ k.Image → ⊥) → operand o m (value_by j s) ≡ plain (value_by j s)
   operand_plain k.Empty s h h2 h3 = refl
@@ -99,6 +108,17 @@ module _ (o : World) (m : Frames) (first : ℕ) where
     where
       other : (q : ℕ) → (first ≤ q → at + 1 ≤ q) → q ≡ at → ⊥
       other q a is = let y = a (omega (arith, h, is)) in omega (arith, y, is)
+
+  -- what is read as it stands
+  pub read_same : (at : ℕ) (old cur : List Slot) → first ≤ at → ReadTo o m first at old cur → is_plain (value_of (slot_at cur at)) ≡ true → ReadTo o m first (at + 1) old cur
+  read_same at old cur h r e = record {
+    read = λ q a b. elim (at_or_below q at (omega (arith, b))) [
+      | inl is ↦ subst (λ q. operand o m (value_of (slot_at old q)) ≡ plain (value_of (slot_at cur q))) (sym is)
+          (ap (λ x. operand o m (value_of x)) (sym (r.same at (λ x. omega arith))) ∙ operand_of_plain o m (value_of (slot_at cur at)) e)
+      | inr below ↦ r.read q a below
+    ];
+    same = λ q a. r.same q (λ x. let y = a x in omega (arith, y));
+  }
 
   pub all_read : (at end : ℕ) (old new : List Slot) → end ≤ at → ReadTo o m first at old new → AllRead o m first end old new
   all_read at end old new h r = record { read = λ q a b. r.read q a (omega (arith, b, h)); below = λ q b. r.same q (λ a. absurd (omega (arith, a, b))) }

@@ -121,7 +121,8 @@ fn read_operand(
     }
 }
 
-/// Puts what they are in the place of operands, from the first one to the end. It answers whether they all are something.
+/// Puts what they are in the place of operands, from the first one to the end; one that is plain stays. It answers whether they all are
+/// something.
 pub fn read_operands(
     frames: &[Frame],
     cells: &[Slot],
@@ -140,6 +141,9 @@ pub fn read_operands(
         OperandsRead result o m first end stack.old stack.new }
 {
     for at in first..end {
+        if stack[at].is_plain() {
+            continue;
+        }
         let Some(slot) = read_operand(frames, cells, arrays, images, stack[at]) else {
             return false;
         };

@@ -97,8 +97,7 @@ pub fn fits(
     let mut found = Found::new(alloc, 0)?;
     let given = held(scopes, &heading.formals, &mut found, actuals);
     settle(&mut found, heading.formals.len(), called, given);
-    let (least, uses, types) = found.into_parts();
-    match least {
+    match found.least() {
         Some(fault) => Err(StaticRefusal::Broken {
             rule: fault.rule,
             token: fault.token,

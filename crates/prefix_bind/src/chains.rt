@@ -1,10 +1,10 @@
 //! The rules on prefixes, and on the cells of all levels of an instance.
-ghost use Rattle.std.specs.Prelude.{◌≡◌, nat_eq, nat_lt, length, slice_get, IfOk};
+ghost use Rattle.std.specs.Prelude.{◌≡◌, ◌&&◌, not, nat_eq, nat_lt, length, slice_get, IfOk};
 ghost use Rattle.sim_scope.specs.Levels.{base, holds, is_standard_class, some_level as some_level_spec};
 ghost use Rattle.sim_scope.specs.Runs.{Runs};
 ghost use Rattle.sim_scope.specs.Access.{is_kind};
 ghost use Rattle.prefix_bind.specs.Cells.{most_cells};
-ghost use Rattle.prefix_bind.specs.Sums.{Knows, comes_later, is_past};
+ghost use Rattle.prefix_bind.specs.Sums.{Settled, comes_later, is_past};
 ghost use Rattle.prefix_bind.specs.Prefixes.{breaks_cells, breaks_prefix, breaks_rule, faults_of, has_broken_chain, has_wrong_prefix, is_in_own_chain, is_known, is_prefixed_block, is_wrong_prefix, least_of, level_cells, noted, prefix_faults, prefix_token, prefixed, row_faults, where_true};
 
 use crate::cells::{MOST_CELLS, base_of, cells_at};
@@ -63,7 +63,7 @@ fn breaks_prefix(scopes: &Scopes, block: &Block) -> bool
 }
 
 #[tactic(auto, unfolding(crate::specs::Prefixes::has_wrong_prefix))]
-fn has_wrong_prefix(scopes: &Scopes, block: usize) -> bool
+pub(crate) fn has_wrong_prefix(scopes: &Scopes, block: usize) -> bool
     ensures { result ≡ has_wrong_prefix scopes.now block }
 {
     match scopes.blocks().get(block) {
@@ -74,7 +74,7 @@ fn has_wrong_prefix(scopes: &Scopes, block: usize) -> bool
 
 /// Whether a class is one of the levels of its own prefix.
 #[tactic(auto, unfolding(crate::specs::Prefixes::is_in_own_chain))]
-fn is_in_own_chain(scopes: &Scopes, block: usize) -> bool
+pub(crate) fn is_in_own_chain(scopes: &Scopes, block: usize) -> bool
     ensures { result ≡ is_in_own_chain scopes.now block }
 {
     match base_of(scopes, block) {
@@ -83,22 +83,22 @@ fn is_in_own_chain(scopes: &Scopes, block: usize) -> bool
     }
 }
 
-/// The same, where the chain of the class is not known to end.
-#[tactic(auto, using(crate::proofs::Ending::no_cycle))]
+/// The same, with what is known of the chain of the class.
+#[tactic(auto, using(crate::proofs::Settling::own_chains))]
 fn breaks_own_chain(scopes: &Scopes, rows: &[Chain], block: usize) -> bool
-    requires { Knows scopes.now rows.now }
+    requires { Settled scopes.now rows.now }
     ensures { result ≡ is_in_own_chain scopes.now block }
 {
     match chain_at(scopes, rows, block) {
-        Chain::Cells(_) => false,
-        Chain::Endless => is_in_own_chain(scopes, block),
+        Chain::Ends { .. } => false,
+        Chain::Cyclic(levels) => levels == 0,
         Chain::Unknown => is_in_own_chain(scopes, block),
     }
 }
 
 /// Whether the prefix of a block breaks a rule.
 fn breaks_rule(scopes: &Scopes, rows: &[Chain], block: usize) -> bool
-    requires { Knows scopes.now rows.now }
+    requires { Settled scopes.now rows.now }
     ensures { result ≡ breaks_rule scopes.now block }
 {
     has_wrong_prefix(scopes, block) || breaks_own_chain(scopes, rows, block)
@@ -106,7 +106,7 @@ fn breaks_rule(scopes: &Scopes, rows: &[Chain], block: usize) -> bool
 
 /// Whether the prefix of a block breaks a rule, or that of a level of its prefix.
 fn has_broken_chain(scopes: &Scopes, rows: &[Chain], block: usize) -> bool
-    requires { Knows scopes.now rows.now }
+    requires { Settled scopes.now rows.now }
     ensures { result ≡ has_broken_chain scopes.now block }
 {
     breaks_rule(scopes, rows, block) || has_broken_level(scopes, rows, base_of(scopes, block))
@@ -114,7 +114,7 @@ fn has_broken_chain(scopes: &Scopes, rows: &[Chain], block: usize) -> bool
 
 /// Whether the prefix of a level breaks a rule.
 fn has_broken_level(scopes: &Scopes, rows: &[Chain], base: Option<u32>) -> bool
-    requires { Knows scopes.now rows.now }
+    requires { Settled scopes.now rows.now }
     ensures { result ≡ holds (λ b. some_level_spec scopes.now (breaks_rule scopes.now) b) base }
 {
     match base {
@@ -122,7 +122,7 @@ fn has_broken_level(scopes: &Scopes, rows: &[Chain], base: Option<u32>) -> bool
             scopes,
             block,
             |b|
-                requires { Knows scopes.now rows.now }
+                requires { Settled scopes.now rows.now }
             { breaks_rule(scopes, rows, b as usize) },
         ),
         None => false,
@@ -149,25 +149,24 @@ fn is_overfull(scopes: &Scopes, block: usize) -> bool
     false
 }
 
-/// The same, with what is known of the chain of the block.
-#[tactic(auto, using(crate::proofs::Ending::all_cells))]
-fn has_too_many_cells(scopes: &Scopes, rows: &[Chain], block: usize) -> bool
-    requires { Knows scopes.now rows.now }
-    ensures { result ≡ nat_lt most_cells (level_cells scopes.now block) }
+/// Whether so many cells break `L2`, where a chain is broken or not.
+fn is_too_many(cells: usize, broken: bool) -> bool
+    ensures { result ≡ (nat_lt most_cells cells && not broken) }
 {
-    match chain_at(scopes, rows, block) {
-        Chain::Cells(all) => all > MOST_CELLS,
-        Chain::Endless => is_overfull(scopes, block),
-        Chain::Unknown => is_overfull(scopes, block),
-    }
+    cells > MOST_CELLS && !broken
 }
 
 /// Whether an instance breaks `L2`. It does not where the prefix of a level breaks a rule.
+#[tactic(auto, using(crate::proofs::Settling::cell_rules))]
 fn breaks_cells(scopes: &Scopes, rows: &[Chain], block: usize) -> bool
-    requires { Knows scopes.now rows.now }
+    requires { Settled scopes.now rows.now }
     ensures { result ≡ breaks_cells scopes.now block }
 {
-    has_too_many_cells(scopes, rows, block) && !has_broken_chain(scopes, rows, block)
+    match chain_at(scopes, rows, block) {
+        Chain::Ends { cells, broken } => is_too_many(cells, broken),
+        Chain::Cyclic(_) => false,
+        Chain::Unknown => { is_overfull(scopes, block) && !has_broken_chain(scopes, rows, block) }
+    }
 }
 
 /// Whether a fault so far comes before all at a token.
@@ -222,7 +221,7 @@ fn with_row(
     block: usize,
     row: &Block,
 ) -> Option<Fault>
-    requires { Knows scopes.now rows.now }
+    requires { Settled scopes.now rows.now }
     ensures { Runs noted least result (row_faults scopes.now block row.now) }
 {
     let wrong = breaks_prefix(scopes, row);
@@ -246,7 +245,7 @@ fn with_row_if(
     block: usize,
     row: &Block,
 ) -> Option<Fault>
-    requires { Knows scopes.now rows.now }
+    requires { Settled scopes.now rows.now }
     ensures { Runs noted least result (row_faults scopes.now block row.now) }
 {
     if comes_later(least, row) {
@@ -258,7 +257,7 @@ fn with_row_if(
 
 #[tactic(auto, unfolding(crate::specs::Prefixes::faults_of, sim_scope::specs::Runs::Runs, sim_scope::specs::Runs::run))]
 fn with_block(scopes: &Scopes, rows: &[Chain], least: Option<Fault>, block: usize) -> Option<Fault>
-    requires { Knows scopes.now rows.now }
+    requires { Settled scopes.now rows.now }
     ensures { Runs noted least result (faults_of scopes.now block) }
 {
     match scopes.blocks().get(block) {
@@ -270,7 +269,7 @@ fn with_block(scopes: &Scopes, rows: &[Chain], least: Option<Fault>, block: usiz
 /// The least of the rules that prefixes and the cells of instances break.
 #[tactic(auto, unfolding(crate::specs::Prefixes::prefix_faults, crate::specs::Prefixes::least_of, sim_scope::specs::Runs::run), using(crate::proofs::Numbers::numbers))]
 fn least_fault(scopes: &Scopes, rows: &[Chain]) -> Option<Fault>
-    requires { Knows scopes.now rows.now }
+    requires { Settled scopes.now rows.now }
     ensures { result ≡ least_of (prefix_faults scopes.now) }
 {
     let mut least = None;

@@ -516,4 +516,10 @@ add_prefixed_program a b c p x k es some same ee empty f g =
     ∙ ap (λ z. expressions_constants (expressions (map syntax_of x.arguments.items)) ++ block_constants (block_syntax z)) same
     ∙ sym (ap (λ z. prefix_constants (option_map prefix_syntax z) ++ block_constants (block_syntax p.block)) some)
 
-pub ruleset gathered = (owes_all, owes_next, owes_next_two, owes_end, add_OrElse, add_AndThen, add_Eqv, add_Imp, add_Or, add_And, add_Concatenation, add_Power, add_Integer, add_Character, add_True, add_False, add_NoObject, add_Notext, add_This, add_Text, add_If, add_Not, add_Related, add_Member, add_Sum, add_Product, add_Postfix, add_Named, add_New, add_Parentheses, add_Dot, add_Qua, add_value, add_step, add_while_element, add_reference_value, add_reference_while, add_no_timing, add_at, add_delay, add_before, add_after, add_text_constant, add_no_constant, add_integer_constant, add_character_constant, add_true_constant, add_false_constant, add_empty, add_inner, add_compound, add_prefixed, add_call, add_assignment, add_choose, add_while, add_for, add_for_reference, add_inspect, add_inspect_when, add_activation, add_some, add_no_branch, owes_next_arm, add_block, add_variables, add_arrays, add_procedure, add_class, add_program, add_prefixed_program)
+pub ruleset expression_rules = (owes_all, owes_next, owes_end, add_OrElse, add_AndThen, add_Eqv, add_Imp, add_Or, add_And, add_Concatenation, add_Power, add_Integer, add_Character, add_True, add_False, add_NoObject, add_Notext, add_This, add_Text, add_If, add_Not, add_Related, add_Member, add_Sum, add_Product, add_Postfix, add_Named, add_New, add_Parentheses, add_Dot, add_Qua)
+
+pub ruleset part_rules = (owes_all, owes_next, owes_end, owes_next_two, add_value, add_step, add_while_element, add_reference_value, add_reference_while, add_no_timing, add_at, add_delay, add_before, add_after, add_text_constant, add_no_constant, add_integer_constant, add_character_constant, add_true_constant, add_false_constant)
+
+pub ruleset statement_rules = (owes_all, owes_next, owes_end, owes_next_arm, add_empty, add_inner, add_compound, add_prefixed, add_call, add_assignment, add_choose, add_while, add_for, add_for_reference, add_inspect, add_inspect_when, add_activation, add_some, add_no_branch, add_block, add_variables, add_arrays, add_procedure, add_class)
+
+pub ruleset program_rules = (add_program, add_prefixed_program)

@@ -21,7 +21,7 @@ pub struct ConstantTree<'a> {
 
 /// Those in an expression.
 #[cycle(expr)]
-#[tactic(auto, using(crate::proofs::Gathered::gathered))]
+#[tactic(auto, using(crate::proofs::Gathered::expression_rules))]
 fn expr<'a>(list: &mut Vec<ConstantTree<'a>>, tree: &'a Expr) -> Result<(), AllocError>
     ensures { OnOk result (Adds list.old.items list.new.items (of_expr tree.now)) }
 {
@@ -107,7 +107,7 @@ fn expr<'a>(list: &mut Vec<ConstantTree<'a>>, tree: &'a Expr) -> Result<(), Allo
 }
 
 #[cycle(expr)]
-#[tactic(auto, using(crate::proofs::Gathered::gathered))]
+#[tactic(auto, using(crate::proofs::Gathered::expression_rules))]
 fn exprs<'a>(list: &mut Vec<ConstantTree<'a>>, trees: &'a [Expr]) -> Result<(), AllocError>
     ensures { OnOk result (Adds list.old.items list.new.items (each of_expr trees.now)) }
 {
@@ -118,7 +118,7 @@ fn exprs<'a>(list: &mut Vec<ConstantTree<'a>>, trees: &'a [Expr]) -> Result<(), 
 }
 
 #[cycle(expr)]
-#[tactic(auto, using(crate::proofs::Gathered::gathered))]
+#[tactic(auto, using(crate::proofs::Gathered::expression_rules))]
 fn operands<'a>(list: &mut Vec<ConstantTree<'a>>, trees: &'a [Operand]) -> Result<(), AllocError>
     ensures { OnOk result (Adds list.old.items list.new.items (each of_operand trees.now)) }
 {
@@ -129,7 +129,7 @@ fn operands<'a>(list: &mut Vec<ConstantTree<'a>>, trees: &'a [Operand]) -> Resul
 }
 
 #[cycle(expr)]
-#[tactic(auto, using(crate::proofs::Gathered::gathered))]
+#[tactic(auto, using(crate::proofs::Gathered::expression_rules))]
 fn terms<'a>(list: &mut Vec<ConstantTree<'a>>, trees: &'a [Term]) -> Result<(), AllocError>
     ensures { OnOk result (Adds list.old.items list.new.items (each of_term trees.now)) }
 {
@@ -140,7 +140,7 @@ fn terms<'a>(list: &mut Vec<ConstantTree<'a>>, trees: &'a [Term]) -> Result<(), 
 }
 
 #[cycle(expr)]
-#[tactic(auto, using(crate::proofs::Gathered::gathered))]
+#[tactic(auto, using(crate::proofs::Gathered::expression_rules))]
 fn factors<'a>(list: &mut Vec<ConstantTree<'a>>, trees: &'a [Factor]) -> Result<(), AllocError>
     ensures { OnOk result (Adds list.old.items list.new.items (each of_factor trees.now)) }
 {
@@ -152,7 +152,7 @@ fn factors<'a>(list: &mut Vec<ConstantTree<'a>>, trees: &'a [Factor]) -> Result<
 
 /// Those in what is taken of an object.
 #[cycle(expr)]
-#[tactic(auto, using(crate::proofs::Gathered::gathered))]
+#[tactic(auto, using(crate::proofs::Gathered::expression_rules))]
 fn selector<'a>(list: &mut Vec<ConstantTree<'a>>, tree: &'a Selector) -> Result<(), AllocError>
     ensures { OnOk result (Adds list.old.items list.new.items (of_selector tree.now)) }
 {
@@ -163,7 +163,7 @@ fn selector<'a>(list: &mut Vec<ConstantTree<'a>>, tree: &'a Selector) -> Result<
 }
 
 #[cycle(expr)]
-#[tactic(auto, using(crate::proofs::Gathered::gathered))]
+#[tactic(auto, using(crate::proofs::Gathered::expression_rules))]
 fn selectors<'a>(list: &mut Vec<ConstantTree<'a>>, trees: &'a [Selector]) -> Result<(), AllocError>
     ensures { OnOk result (Adds list.old.items list.new.items (each of_selector trees.now)) }
 {
@@ -173,7 +173,7 @@ fn selectors<'a>(list: &mut Vec<ConstantTree<'a>>, trees: &'a [Selector]) -> Res
     Ok(())
 }
 
-#[tactic(auto, using(crate::proofs::Gathered::gathered))]
+#[tactic(auto, using(crate::proofs::Gathered::part_rules))]
 fn right_sides<'a>(
     list: &mut Vec<ConstantTree<'a>>,
     trees: &'a [Assigned],
@@ -187,7 +187,7 @@ fn right_sides<'a>(
 }
 
 /// Those in an element of a `for` list.
-#[tactic(auto, using(crate::proofs::Gathered::gathered))]
+#[tactic(auto, using(crate::proofs::Gathered::part_rules))]
 fn element<'a>(list: &mut Vec<ConstantTree<'a>>, tree: &'a ForElement) -> Result<(), AllocError>
     ensures { OnOk result (Adds list.old.items list.new.items (of_element tree.now)) }
 {
@@ -214,7 +214,7 @@ fn element<'a>(list: &mut Vec<ConstantTree<'a>>, tree: &'a ForElement) -> Result
     }
 }
 
-#[tactic(auto, using(crate::proofs::Gathered::gathered))]
+#[tactic(auto, using(crate::proofs::Gathered::part_rules))]
 fn elements<'a>(list: &mut Vec<ConstantTree<'a>>, trees: &'a [ForElement]) -> Result<(), AllocError>
     ensures { OnOk result (Adds list.old.items list.new.items (each of_element trees.now)) }
 {
@@ -225,7 +225,7 @@ fn elements<'a>(list: &mut Vec<ConstantTree<'a>>, trees: &'a [ForElement]) -> Re
 }
 
 /// The same of a list over references.
-#[tactic(auto, using(crate::proofs::Gathered::gathered))]
+#[tactic(auto, using(crate::proofs::Gathered::part_rules))]
 fn reference_element<'a>(
     list: &mut Vec<ConstantTree<'a>>,
     tree: &'a ReferenceElement,
@@ -245,7 +245,7 @@ fn reference_element<'a>(
     }
 }
 
-#[tactic(auto, using(crate::proofs::Gathered::gathered))]
+#[tactic(auto, using(crate::proofs::Gathered::part_rules))]
 fn reference_elements<'a>(
     list: &mut Vec<ConstantTree<'a>>,
     trees: &'a [ReferenceElement],
@@ -259,7 +259,7 @@ fn reference_elements<'a>(
 }
 
 /// Those in the time of an activation.
-#[tactic(auto, using(crate::proofs::Gathered::gathered))]
+#[tactic(auto, using(crate::proofs::Gathered::part_rules))]
 fn timing<'a>(list: &mut Vec<ConstantTree<'a>>, tree: &'a Option<Timing>) -> Result<(), AllocError>
     ensures { OnOk result (Adds list.old.items list.new.items (of_timing tree.now)) }
 {
@@ -273,7 +273,7 @@ fn timing<'a>(list: &mut Vec<ConstantTree<'a>>, tree: &'a Option<Timing>) -> Res
 }
 
 /// The text that a declared constant is.
-#[tactic(auto, using(crate::proofs::Gathered::gathered))]
+#[tactic(auto, using(crate::proofs::Gathered::part_rules))]
 fn variable<'a>(list: &mut Vec<ConstantTree<'a>>, tree: &'a Variable) -> Result<(), AllocError>
     ensures { OnOk result (Adds list.old.items list.new.items (of_variable tree.now)) }
 {
@@ -293,7 +293,7 @@ fn variable<'a>(list: &mut Vec<ConstantTree<'a>>, tree: &'a Variable) -> Result<
     }
 }
 
-#[tactic(auto, using(crate::proofs::Gathered::gathered))]
+#[tactic(auto, using(crate::proofs::Gathered::part_rules))]
 fn variables<'a>(list: &mut Vec<ConstantTree<'a>>, trees: &'a [Variable]) -> Result<(), AllocError>
     ensures { OnOk result (Adds list.old.items list.new.items (each of_variable trees.now)) }
 {
@@ -303,7 +303,7 @@ fn variables<'a>(list: &mut Vec<ConstantTree<'a>>, trees: &'a [Variable]) -> Res
     Ok(())
 }
 
-#[tactic(auto, using(crate::proofs::Gathered::gathered))]
+#[tactic(auto, using(crate::proofs::Gathered::part_rules))]
 fn bounds<'a>(list: &mut Vec<ConstantTree<'a>>, trees: &'a [Bounds]) -> Result<(), AllocError>
     ensures { OnOk result (Adds list.old.items list.new.items (each of_bounds trees.now)) }
 {
@@ -314,7 +314,7 @@ fn bounds<'a>(list: &mut Vec<ConstantTree<'a>>, trees: &'a [Bounds]) -> Result<(
     Ok(())
 }
 
-#[tactic(auto, using(crate::proofs::Gathered::gathered))]
+#[tactic(auto, using(crate::proofs::Gathered::part_rules))]
 fn segments<'a>(
     list: &mut Vec<ConstantTree<'a>>,
     trees: &'a [ArraySegment],
@@ -329,7 +329,7 @@ fn segments<'a>(
 
 /// Those in a statement.
 #[cycle(stmt)]
-#[tactic(auto, using(crate::proofs::Gathered::gathered))]
+#[tactic(auto, using(crate::proofs::Gathered::statement_rules))]
 fn statement<'a>(list: &mut Vec<ConstantTree<'a>>, stmt: &'a Stmt) -> Result<(), AllocError>
     ensures { OnOk result (Adds list.old.items list.new.items (of_statement stmt.now)) }
 {
@@ -412,7 +412,7 @@ fn statement<'a>(list: &mut Vec<ConstantTree<'a>>, stmt: &'a Stmt) -> Result<(),
 }
 
 #[cycle(stmt)]
-#[tactic(auto, using(crate::proofs::Gathered::gathered))]
+#[tactic(auto, using(crate::proofs::Gathered::statement_rules))]
 fn branch<'a>(
     list: &mut Vec<ConstantTree<'a>>,
     stmt: &'a Option<Box<Stmt>>,
@@ -426,7 +426,7 @@ fn branch<'a>(
 }
 
 #[cycle(stmt)]
-#[tactic(auto, using(crate::proofs::Gathered::gathered))]
+#[tactic(auto, using(crate::proofs::Gathered::statement_rules))]
 fn arms<'a>(list: &mut Vec<ConstantTree<'a>>, whens: &'a [When]) -> Result<(), AllocError>
     ensures { OnOk result (Adds list.old.items list.new.items (each of_arm whens.now)) }
 {
@@ -437,7 +437,7 @@ fn arms<'a>(list: &mut Vec<ConstantTree<'a>>, whens: &'a [When]) -> Result<(), A
 }
 
 #[cycle(stmt)]
-#[tactic(auto, using(crate::proofs::Gathered::gathered))]
+#[tactic(auto, using(crate::proofs::Gathered::statement_rules))]
 fn statements<'a>(list: &mut Vec<ConstantTree<'a>>, stmts: &'a [Stmt]) -> Result<(), AllocError>
     ensures { OnOk result (Adds list.old.items list.new.items (each of_statement stmts.now)) }
 {
@@ -448,7 +448,7 @@ fn statements<'a>(list: &mut Vec<ConstantTree<'a>>, stmts: &'a [Stmt]) -> Result
 }
 
 #[cycle(stmt)]
-#[tactic(auto, using(crate::proofs::Gathered::gathered))]
+#[tactic(auto, using(crate::proofs::Gathered::statement_rules))]
 fn block<'a>(list: &mut Vec<ConstantTree<'a>>, block: &'a Block) -> Result<(), AllocError>
     ensures { OnOk result (Adds list.old.items list.new.items (of_block block.now)) }
 {
@@ -457,7 +457,7 @@ fn block<'a>(list: &mut Vec<ConstantTree<'a>>, block: &'a Block) -> Result<(), A
 }
 
 #[cycle(stmt)]
-#[tactic(auto, using(crate::proofs::Gathered::gathered))]
+#[tactic(auto, using(crate::proofs::Gathered::statement_rules))]
 fn declarations<'a>(list: &mut Vec<ConstantTree<'a>>, decls: &'a [Decl]) -> Result<(), AllocError>
     ensures { OnOk result (Adds list.old.items list.new.items (each of_declaration decls.now)) }
 {
@@ -468,7 +468,7 @@ fn declarations<'a>(list: &mut Vec<ConstantTree<'a>>, decls: &'a [Decl]) -> Resu
 }
 
 #[cycle(stmt)]
-#[tactic(auto, using(crate::proofs::Gathered::gathered))]
+#[tactic(auto, using(crate::proofs::Gathered::statement_rules))]
 fn declaration<'a>(list: &mut Vec<ConstantTree<'a>>, decl: &'a Decl) -> Result<(), AllocError>
     ensures { OnOk result (Adds list.old.items list.new.items (of_declaration decl.now)) }
 {
@@ -487,7 +487,7 @@ fn declaration<'a>(list: &mut Vec<ConstantTree<'a>>, decl: &'a Decl) -> Result<(
 }
 
 /// The text constants of a program in their order. Time and memory are linear in the program.
-#[tactic(auto, using(crate::proofs::Gathered::gathered))]
+#[tactic(auto, using(crate::proofs::Gathered::program_rules))]
 pub fn text_constants<'a>(
     alloc: Global,
     program: &'a Program,

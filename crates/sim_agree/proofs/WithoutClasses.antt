@@ -12,7 +12,7 @@ use Rattle.sim_tree.specs.declared.expr.Identifier.{Identifier}
 use Rattle.sim_scope.specs.declared.scopes.Declaration.{Declaration}
 use Rattle.sim_scope.specs.declared.scopes.Denotation.{Denotation}
 use Rattle.sim_scope.specs.declared.scopes.Denotation.TheVariants as denotation
-use Rattle.sim_scope.specs.declared.standard.Standard.{Standard}
+use Rattle.sim_scope.specs.declared.standard.StandardName.{StandardName}
 use Rattle.sim_scope.specs.declared.types.Entry.{Entry}
 use Rattle.sim_scope.specs.declared.types.StandardPrefix.{StandardPrefix}
 use Rattle.sim_scope.specs.Access.{accessible, accessible_row, block_at, encloser, holds_at, is_kind, is_open, is_so, kind_in, protects, protects_in, some_around, some_around_of}
@@ -175,17 +175,17 @@ module _ (s : Tables) (w : WithoutClasses s) where
   unfolding binding
   declared_is token name d is = go (declaration_from s (Some token) (block_at s token) name) (standard_at s token name) is
     where
-      go : (o : Option DeclNo) (k : Option Standard) → declared_or_standard s o k ≡ Some (denotation.Declared d) → o ≡ Some d
+      go : (o : Option DeclNo) (k : Option StandardName) → declared_or_standard s o k ≡ Some (denotation.Declared d) → o ≡ Some d
       go (Some f) k e = ap Some (sym (stands_for_itself f) ∙ (let h : represented s f ≡ d = cc in h))
       go None (Some k) e = absurd (cc)
       go None None e = absurd (cc)
 
 -- a standard name that is denoted is one that is written alone
-pub standard_is : (s : Tables) (token : ℕ) (name : List ℕ) (k : Standard) → binding s token name ≡ Some (denotation.Standard k) → standard_name name ≡ Some k
+pub standard_is : (s : Tables) (token : ℕ) (name : List ℕ) (k : StandardName) → binding s token name ≡ Some (denotation.Standard k) → standard_name name ≡ Some k
 unfolding binding standard_at
 standard_is s token name k is = go (declaration_from s (Some token) (block_at s token) name) (is_detach name && not (some_around s (is_kind has_detach s) token)) (standard_name name) is
   where
-    go : (o : Option DeclNo) (c : Bool) (q : Option Standard) → declared_or_standard s o (if c then None else q) ≡ Some (denotation.Standard k) → q ≡ Some k
+    go : (o : Option DeclNo) (c : Bool) (q : Option StandardName) → declared_or_standard s o (if c then None else q) ≡ Some (denotation.Standard k) → q ≡ Some k
     go (Some d) c q e = absurd (cc)
     go None true q e = absurd (cc)
     go None false (Some p) e = (let h : p ≡ k = cc in ap Some h)

@@ -15,7 +15,7 @@ use Rattle.sim_scope.specs.declared.outcome.Parameter.TheVariants as parameter
 use Rattle.sim_scope.specs.declared.scopes.Denotation.{Denotation}
 use Rattle.sim_scope.specs.declared.scopes.Denotation.TheVariants as denotation
 use Rattle.sim_scope.specs.declared.standard.Signature.{Signature}
-use Rattle.sim_scope.specs.declared.standard.Standard.{Standard}
+use Rattle.sim_scope.specs.declared.standard.StandardName.{StandardName}
 use Rattle.sim_scope.specs.declared.types.Entry.{Entry}
 use Rattle.sim_scope.specs.declared.types.Entry.TheVariants as entry
 use Rattle.sim_scope.specs.declared.types.Formal.{Formal}
@@ -336,12 +336,12 @@ same_type_at g zero = refl
 same_type_at g (suc zero) = refl
 same_type_at g (suc (suc n)) = refl
 
-held : (s : Source) (from : Option ℕ) (name : Standard) (n : ℕ) (es : Expressions) → AllFit s from (Some (denotation.Standard name)) n es → AllHeld s from (signature name).first (signature name).second n es
+held : (s : Source) (from : Option ℕ) (name : StandardName) (n : ℕ) (es : Expressions) → AllFit s from (Some (denotation.Standard name)) n es → AllHeld s from (signature name).first (signature name).second n es
 unfolding parameter_at
 held s from name n NoMore fit = tt
 held s from name n (Then e es) fit = (subst (λ p. FitsAs s from e (typed_or_none p)) (same_type_at (signature name) n) fit.0, held s from name (n + 1) es fit.1)
 
-pub all_operands : (s : Source) (from : Option ℕ) (name : Standard) (es : Expressions) → parameter_count (signature name) ≡ size es → AllFit s from (Some (denotation.Standard name)) 0 es → AreOf s from es (kinds_of (signature name))
+pub all_operands : (s : Source) (from : Option ℕ) (name : StandardName) (es : Expressions) → parameter_count (signature name) ≡ size es → AllFit s from (Some (denotation.Standard name)) 0 es → AreOf s from es (kinds_of (signature name))
 all_operands s from name es same fit = go (signature name).first (signature name).second es same (held s from name 0 es fit)
   where
     go : (first second : Option SimType) (es : Expressions) → (elim first as (λ z. ℕ) [ None ↦ 0 | Some a ↦ elim second as (λ z. ℕ) [ None ↦ 1 | Some b ↦ 2 ] ]) ≡ size es

@@ -50,9 +50,9 @@ pub record Passed (tables : Tables) (uses : List (Option Denotation)) (types : L
 abbrev AsDeclared : (n : ℕ) → Program → Tables → Type 0
 AsDeclared n p t = (judged n t p).least ≡ None
 
-pub passed : (n : ℕ) (p : Program) → Plain p → (tables : Tables) (uses : List (Option Denotation)) (types : List (Option SimType)) → answer n p ≡ Allowed tables uses types → Passed tables uses types n p
+pub passed : (n : ℕ) (p : Program) → Plain p → (tables : Tables) (uses : List (Option Denotation)) (found_in : List (Option ℕ)) (types : List (Option SimType)) → answer n p ≡ Allowed tables uses found_in types → Passed tables uses types n p
 unfolding answer
-passed n p plain tables uses types e = first (first_least (declared_by p)) refl e
+passed n p plain tables uses found_in types e = first (first_least (declared_by p)) refl e
   where
     t : Tables
     t = completed (declared_by p).tables p
@@ -60,7 +60,7 @@ passed n p plain tables uses types e = first (first_least (declared_by p)) refl 
     same : completed (declared_by p).tables p ≡ (declared_by p).tables
     same = complete (declared_by p).tables p (program_agrees p plain).fine.bare plain
 
-    last : (o : Option Fault) → (judged n t p).least ≡ o → first_least (declared_by p) ≡ None → last_answer t (judged n t p) o ≡ Allowed tables uses types → Passed tables uses types n p
+    last : (o : Option Fault) → (judged n t p).least ≡ o → first_least (declared_by p) ≡ None → last_answer t (judged n t p) o ≡ Allowed tables uses found_in types → Passed tables uses types n p
     last None clean none e = record {
       tables_are = (let is : tables ≡ t = cc in is ∙ same);
       unbroken = (neither (declared_by p).least (least_of (prefix_faults (prefixed (declared_by p).tables))) none).0;
@@ -70,11 +70,11 @@ passed n p plain tables uses types e = first (first_least (declared_by p)) refl 
     }
     last (Some f) clean none e = absurd (cc)
 
-    second : (o : Option Fault) → first_least (declared_by p) ≡ None → second_answer n p t o ≡ Allowed tables uses types → Passed tables uses types n p
+    second : (o : Option Fault) → first_least (declared_by p) ≡ None → second_answer n p t o ≡ Allowed tables uses found_in types → Passed tables uses types n p
     second None none e = last (judged n t p).least refl none e
     second (Some f) none e = absurd (cc)
 
-    first : (o : Option Fault) → first_least (declared_by p) ≡ o → first_answer n p (declared_by p).tables o ≡ Allowed tables uses types → Passed tables uses types n p
+    first : (o : Option Fault) → first_least (declared_by p) ≡ o → first_answer n p (declared_by p).tables o ≡ Allowed tables uses found_in types → Passed tables uses types n p
     first None none e = second (second_least t) none e
     first (Some f) none e = absurd (cc)
 
@@ -92,11 +92,11 @@ within_text : (s : Tables) (p : Program) (n : ℕ) → Plain p → AllBelow n (i
 unfolding Fills
 within_text s p n plain all k i le = let most = program_fills s p plain k i in below n i (in_block p.block []) all (omega (arith, most, le))
 
-pub allowed_typed : (ws : List Word) (tree : Tree) (s : Source) → IsTree ws tree → s.program ≡ program_syntax tree → check_of tree ≡ Allowed s.tables s.uses s.types → Plain s.program → Typed s
+pub allowed_typed : (ws : List Word) (tree : Tree) (s : Source) → IsTree ws tree → s.program ≡ program_syntax tree → check_of tree ≡ Allowed s.tables s.uses s.found_in s.types → Plain s.program → Typed s
 unfolding judged
 allowed_typed ws tree s is same allowed plain =
     let n = length tree.lines.items in
-    let x = subst (λ z. Passed s.tables s.uses s.types n z) (sym same) (passed n (program_syntax tree) (subst Plain same plain) s.tables s.uses s.types allowed) in
+    let x = subst (λ z. Passed s.tables s.uses s.types n z) (sym same) (passed n (program_syntax tree) (subst Plain same plain) s.tables s.uses s.found_in s.types allowed) in
     let order = subst InOrder (sym same) (in_order ws tree is) in
     let filled = subst Filled (sym same) (program_filled ws tree is) in
     let lines : n ≡ length ws = ap length is.lines ∙ length-map ws line in
@@ -107,6 +107,6 @@ allowed_typed ws tree s is same allowed plain =
     (told_once s.tables s.program plain order) (within_text s.tables s.program n plain inside) in
     said_typed s (record { tables = x.tables_are; unbroken = x.unbroken }) plain filled order said
 
-pub allowed_never_no_rule : (ws : List Word) (tree : Tree) (s : Source) → IsTree ws tree → s.program ≡ program_syntax tree → check_of tree ≡ Allowed s.tables s.uses s.types → Plain s.program
+pub allowed_never_no_rule : (ws : List Word) (tree : Tree) (s : Source) → IsTree ws tree → s.program ≡ program_syntax tree → check_of tree ≡ Allowed s.tables s.uses s.found_in s.types → Plain s.program
     → (l : Limits) (input : List ℕ) (n : ℕ) (o : World) → run s l input n ≡ Ended o NoRule → ⊥
 allowed_never_no_rule ws tree s is same allowed plain = never_no_rule s (allowed_typed ws tree s is same allowed plain)

@@ -11,7 +11,7 @@ use Rattle.sim_scope.specs.declared.outcome.LeftSides.{LeftSides}
 use Rattle.sim_scope.specs.declared.outcome.Outcome.{Outcome}
 use Rattle.sim_scope.specs.declared.outcome.Outcome.TheVariants as is
 use Rattle.sim_scope.specs.declared.outcome.Side.{Side}
-use Rattle.sim_scope.specs.declared.standard.Standard.{Standard}
+use Rattle.sim_scope.specs.declared.standard.StandardName.{StandardName}
 use Rattle.sim_scope.specs.declared.types.Entry.TheVariants as entry
 use Rattle.sim_scope.specs.declared.types.SimType.{SimType}
 use Rattle.sim_scope.specs.declared.types.SimType.TheVariants as t
@@ -128,7 +128,7 @@ module _ (s : Source) (known : Tabled s) (k : ℕ) (e : Expression) (sign : Assi
       go true said = call_is o m own said
       go false said = absurd said.0
 
-  standard_is : (name : Standard) (token : TokenNo) → StandardIs s (Some k) e name → AllSay s (standard_assigned s.tables sign first (is.Standard name token) name).events → TargetIs s k sign e (standard_assigned s.tables sign first (is.Standard name token) name).value
+  standard_is : (name : StandardName) (token : TokenNo) → StandardIs s (Some k) e name → AllSay s (standard_assigned s.tables sign first (is.Standard name token) name).events → TargetIs s k sign e (standard_assigned s.tables sign first (is.Standard name token) name).value
   standard_is name token m said = go (is_stream name) said
     where
       go : (b : Bool) → AllSay s (if b then call_assigned s.tables sign first (is.Standard name token) else result_assigned s.tables sign first (is.Standard name token) (signature name).result).events

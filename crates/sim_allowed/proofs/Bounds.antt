@@ -17,7 +17,7 @@ use Rattle.sim_scope.specs.Runs.{each}
 use Rattle.sim_scope.specs.Access.{block_at, encloser}
 use Rattle.sim_scope.specs.Scopes.{entry_in, entry_of}
 use Rattle.sim_scope.specs.Source.{Source, block_of, block_of_row}
-use Rattle.sim_scope.specs.Statements.{array_events, judging, pair_events, required}
+use Rattle.sim_scope.specs.Statements.{array_events, judging, pair_events, required, type_events}
 use Rattle.sim_scope.specs.Tables.{Tables}
 use Rattle.sim_scope.specs.Walk.{declaration_events, declarations_events}
 use Rattle.sim_tree.specs.Syntax.{Arrayed, Arrays, BoundPair, Declarations, DeclareClass, DeclareProcedure, Expression, NoDeclaration, Variables, With}
@@ -124,8 +124,9 @@ module _ (s : Source) (known : Tabled s) (k : ℕ) (none : NoFormalIn s k) where
   arrays_typed NoDeclaration p l n there said = tt
   arrays_typed (With (Arrays type i segments) ds) p l n there said =
       let c = both_there s (segments_constants segments) (declarations_constants ds) there in
-      let parts = both_say s (each (array_events s.tables) segments) (declarations_events (judging s.tables) ds) said in
-      (segments_are (kind_named type) segments p.0.1 l.0 n.0 c.0 parts.0, arrays_typed ds p.1 l.1 n.1 c.1 parts.1)
+      let parts = both_say s (type_events s.tables type ++ each (array_events s.tables) segments) (declarations_events (judging s.tables) ds) said in
+      let own = both_say s (type_events s.tables type) (each (array_events s.tables) segments) parts.0 in
+      (segments_are (kind_named type) segments p.0.1 l.0 n.0 c.0 own.1, arrays_typed ds p.1 l.1 n.1 c.1 parts.1)
   arrays_typed (With (Variables type vs) ds) p l n there said =
       let c = both_there s (declaration_constants (Variables type vs)) (declarations_constants ds) there in
       let parts = both_say s (declaration_events (judging s.tables) (Variables type vs)) (declarations_events (judging s.tables) ds) said in

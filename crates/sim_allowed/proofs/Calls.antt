@@ -9,7 +9,7 @@ use Rattle.sim_scope.specs.declared.outcome.Outcome.{Outcome}
 use Rattle.sim_scope.specs.declared.outcome.Outcome.TheVariants as is
 use Rattle.sim_scope.specs.declared.outcome.Side.{Side}
 use Rattle.sim_scope.specs.declared.scopes.Denotation.TheVariants as denotation
-use Rattle.sim_scope.specs.declared.standard.Standard.{Standard}
+use Rattle.sim_scope.specs.declared.standard.StandardName.{StandardName}
 use Rattle.sim_scope.specs.declared.types.Entry.{Entry}
 use Rattle.sim_scope.specs.declared.types.Entry.TheVariants as entry
 use Rattle.sim_scope.specs.declared.types.Formal.{Formal}
@@ -58,7 +58,7 @@ declared_call s from x es d result k says e sees fit = (
 )
 
 -- an expression that names a standard procedure, with its operands
-pub standard_call : (s : Source) (from : Option ℕ) (x : Identifier) (es : Expressions) (name : Standard) → denoted s x.token.0 ≡ Some (denotation.Standard name)
+pub standard_call : (s : Source) (from : Option ℕ) (x : Identifier) (es : Expressions) (name : StandardName) → denoted s x.token.0 ≡ Some (denotation.Standard name)
     → IsProcedure name → AreOf s from es (kinds_of (signature name)) → CallsFor s from (syntax.Named x es) (given_by (signature name).result)
 standard_call s from x es name says p are = (
   subst (λ z. NamedGives s from z es (AreIntegers s from es) (λ ks. AreOf s from es ks) (λ fs. ActualsFit s from es fs) (given_by (signature name).result)) (sym says)
@@ -102,7 +102,7 @@ procedure_means s known from e d token own alone p none said =
     go true zero said = call_means s from (syntax.Named p.name NoMore) p.result p.typed (declared_call s from p.name NoMore d p.result p.block p.says p.declared p.sees (fit (grind (arith, nat_tests)))) alone none
     go false other said = absurd said.0
 
-standard_means : (s : Source) (from : Option ℕ) (e : Expression) (name : Standard) (token : TokenNo) (alone : Bool) → StandardIs s from e name → Unowned alone s e
+standard_means : (s : Source) (from : Option ℕ) (e : Expression) (name : StandardName) (token : TokenNo) (alone : Bool) → StandardIs s from e name → Unowned alone s e
     → AllSay s (called s.tables (is.Standard name token)).events → Means alone s from e (called s.tables (is.Standard name token)).value
 unfolding called breaks gives telling
 standard_means s from e name token alone p none said = go (is_stream name) refl said

@@ -17,8 +17,8 @@ use Rattle.sim_scope.specs.declared.outcome.Side.{Side}
 use Rattle.sim_scope.specs.declared.scopes.Denotation.{Denotation}
 use Rattle.sim_scope.specs.declared.scopes.Denotation.TheVariants as denotation
 use Rattle.sim_scope.specs.declared.standard.Signature.{Signature}
-use Rattle.sim_scope.specs.declared.standard.Standard.{Standard}
-use Rattle.sim_scope.specs.declared.standard.Standard.TheVariants as found
+use Rattle.sim_scope.specs.declared.standard.StandardName.{StandardName}
+use Rattle.sim_scope.specs.declared.standard.StandardName.TheVariants as found
 use Rattle.sim_scope.specs.declared.types.Entry.{Entry}
 use Rattle.sim_scope.specs.declared.types.Entry.TheVariants as entry
 use Rattle.sim_scope.specs.declared.types.Formal.{Formal}
@@ -27,13 +27,13 @@ use Rattle.sim_scope.specs.declared.types.FormalKind.TheVariants as shape
 use Rattle.sim_scope.specs.declared.types.SimType.{SimType}
 use Rattle.sim_scope.specs.declared.types.SimType.TheVariants as t
 use Rattle.sim_scope.specs.Actuals.{actual, array_actual, as_value, misfitting, more, parameter_at, passed_procedure, procedure_actual, standard_actual, value_fits, with_actual}
-use Rattle.sim_scope.specs.Calls.{alone, applied, attribute, attribute_by_value, attribute_count, attribute_found, attribute_in, attribute_missing, attribute_of_type, attribute_of_value, bound, declared_alone, declared_applied, element_of, formal_alone, formal_applied, found_as, in_its_match, is_barred, is_inside, is_undotted, misfitting_or, missing, parameter_count, procedure_alone, remote, remote_as, remote_in, resulting, standard_applied, typed_if, used, used_or_barred}
-use Rattle.sim_scope.specs.Found.{Event, Broken, Typed, Uses}
+use Rattle.sim_scope.specs.Calls.{alone, applied, attribute, attribute_by_value, attribute_count, attribute_found, attribute_in, attribute_missing, attribute_of_type, attribute_of_value, bound, declared_alone, declared_applied, element_of, formal_alone, formal_applied, found_as, in_its_match, is_barred, is_inside, is_undotted, located, misfitting_or, missing, parameter_count, procedure_alone, remote, remote_as, remote_in, resulting, standard_applied, typed_if, used, used_in, used_or_barred}
+use Rattle.sim_scope.specs.Found.{Event, Broken, FoundIn, Typed, Uses}
 use Rattle.sim_scope.specs.Judged.{Judged, gives, next, telling}
 use Rattle.sim_scope.specs.Levels.{class_block, has_classes}
 use Rattle.sim_scope.specs.Operators.{common_type, is_same, operands_fit}
 use Rattle.sim_scope.specs.Outcomes.{arms_fit, breaks, call_of, called, fitted, has, in_common, in_parentheses, is_stream, one, parenthesized, procedure_called, side, side_of, signature_called, standard_called, three, two, type_in, type_wanted, types_fit, value_of, valued, varies}
-use Rattle.sim_scope.specs.Scopes.{binding, entry_of, formals_of, is_passed_over}
+use Rattle.sim_scope.specs.Scopes.{binding, entry_of, formals_of, found_in, is_passed_over}
 use Rattle.sim_scope.specs.Standard.{is_standard_class, signature, sysin_attribute, sysout_attribute, text_attribute, undeclared}
 use Rattle.sim_scope.specs.Tables.{Tables}
 use Rattle.sim_tree.specs.declared.expr.Identifier.{Identifier}
@@ -54,6 +54,7 @@ types_at false t i = here t i
 abbrev pub tells : Bool → ℕ → Event → ℕ
 tells k t (Broken token rule) = 0
 tells k t (Uses token d) = uses_at k t token
+tells k t (FoundIn token block) = 0
 tells k t (Typed token ty) = types_at k t token
 
 -- how often a list of events tells of a token
@@ -128,7 +129,7 @@ call_silent token n (Some (entry.Unspecified w)) = silent_none
 call_silent token n (Some (entry.Attribute name None result)) = silent_none
 call_silent token n (Some (entry.Attribute name (Some ty) result)) = silent_break token r.WrongNumber
 
-standard_silent : (token : ℕ) (name : Standard) → Silent (standard_called token name).events
+standard_silent : (token : ℕ) (name : StandardName) → Silent (standard_called token name).events
 unfolding gives breaks telling
 standard_silent token name = go (is_stream name)
   where
@@ -246,8 +247,17 @@ three_types s i x y z = go x.ty y.ty z.ty
 
 -- ---- identifiers
 
+located_silent : (token : ℕ) (block : Option ℕ) → Silent (located token block).events
+unfolding located gives telling Silent told
+located_silent token None k t = refl
+located_silent token (Some block) k t = refl
+
+after_silent : (i : ℕ) (xs ys : List Event) → Silent xs → Using i ys → Using i (xs ++ ys)
+unfolding Silent Using
+after_silent i xs ys h j k t = let a = told_both k t xs ys in let b = h k t in let c = j k t in omega (arith, a, b, c)
+
 pub bound_uses : (s : Tables) (x : Extent) (name : Identifier) → Using name.token.0 (bound s x name).events
-unfolding bound telling
+unfolding bound used_in next telling
 bound_uses s x name = go (binding s name.token.0 name.name)
   where
     barred : (d : Denotation) (b : Bool) → Using name.token.0 (used_or_barred name.token.0 d b).events
@@ -256,9 +266,11 @@ bound_uses s x name = go (binding s name.token.0 name.name)
 
     go : (o : Option Denotation) → Using name.token.0 (found_as s x name.token.0 name.name o).events
     go None = using_silent name.token.0 (Broken name.token.0 (missing (is_passed_over s name.token.0 name.name) name.name) ∷ []) (silent_break name.token.0 (missing (is_passed_over s name.token.0 name.name) name.name))
-    go (Some d) = barred d (is_barred s x name.token.0 d)
+    go (Some d) =
+        after_silent name.token.0 (located name.token.0 (found_in s name.token.0 name.name)).events (used_or_barred name.token.0 d (is_barred s x name.token.0 d)).events
+        (located_silent name.token.0 (found_in s name.token.0 name.name)) (barred d (is_barred s x name.token.0 d))
 
-attribute_uses_found : (x : Identifier) (o : Option Standard) → Using x.token.0 (attribute_found x o).events
+attribute_uses_found : (x : Identifier) (o : Option StandardName) → Using x.token.0 (attribute_found x o).events
 unfolding telling
 attribute_uses_found x None = using_silent x.token.0 (Broken x.token.0 (undeclared x.name) ∷ []) (silent_break x.token.0 (undeclared x.name))
 attribute_uses_found x (Some name) = using_one x.token.0 (denotation.Standard name)
@@ -400,7 +412,7 @@ module _ (s : Tables) (naming : ℕ) (x : Identifier) where
   declared_applied_types token (Some (entry.Unspecified w)) n a = broken_types token r.WrongKind
   declared_applied_types token (Some (entry.Attribute name parameter result)) n a = if_types (nat_eq (attribute_count parameter) a.count) (resulting naming a.misfit result) token r.WrongNumber (result_types a.misfit result)
 
-  standard_applied_types : (token : ℕ) (name : Standard) (g : Signature) (a : Actuals) → Typing naming (standard_applied naming token name g a).events
+  standard_applied_types : (token : ℕ) (name : StandardName) (g : Signature) (a : Actuals) → Typing naming (standard_applied naming token name g a).events
   unfolding breaks telling
   standard_applied_types token name g a = go (is_stream name) (is_standard_class name)
     where

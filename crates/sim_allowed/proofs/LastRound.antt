@@ -6,7 +6,7 @@ use Rattle.std.specs.Prelude.{nat_eq, replicate, slice_get}
 use Rattle.sim_scope.specs.declared.found.Fault.{Fault}
 use Rattle.sim_scope.specs.declared.scopes.Denotation.{Denotation}
 use Rattle.sim_scope.specs.declared.types.SimType.{SimType}
-use Rattle.sim_scope.specs.Found.{Broken, Event, Findings, Typed, Uses, after, found, unknown}
+use Rattle.sim_scope.specs.Found.{Broken, Event, Findings, FoundIn, Typed, Uses, after, found, unknown}
 use Rattle.sim_scope.specs.Least.{IsLeast, faults, least, nothing}
 use Rattle.sim_scope.specs.Runs.{run}
 use Rattle.sim_scope.specs.Access.{joined}
@@ -22,6 +22,7 @@ abbrev Unbroken : List Event → Type 0
 Unbroken [] = Unit {0}
 Unbroken (Broken token rule ∷ es) = ⊥
 Unbroken (Uses token d ∷ es) = Unbroken es
+Unbroken (FoundIn token block ∷ es) = Unbroken es
 Unbroken (Typed token ty ∷ es) = Unbroken es
 
 none_of : (xs : List Fault) (o : Option Fault) → IsLeast xs o → o ≡ None → xs ≡ []
@@ -32,10 +33,11 @@ unbroken : (es : List Event) → faults es ≡ [] → Unbroken es
 unbroken [] e = tt
 unbroken (Broken token rule ∷ es) e = absurd (cc)
 unbroken (Uses token d ∷ es) e = unbroken es e
+unbroken (FoundIn token block ∷ es) e = unbroken es e
 unbroken (Typed token ty ∷ es) e = unbroken es e
 
 no_faults : (n : ℕ) (es : List Event) → (after (unknown n) es).least ≡ None → Unbroken es
-no_faults n es e = unbroken es (none_of (faults es) (after (unknown n) es).least (least_law es (replicate n None) (replicate n None)) e)
+no_faults n es e = unbroken es (none_of (faults es) (after (unknown n) es).least (least_law es (replicate n None) (replicate n None) (replicate n None)) e)
 
 -- ---- rows
 
@@ -56,6 +58,7 @@ use_stays [] f k e = refl
 use_stays (Broken token rule ∷ es) f k e = use_stays es (found f (Broken token rule)) k (none_more 0 (told true k es) e)
 use_stays (Uses i d ∷ es) f k e =
     use_stays es (found f (Uses i d)) k (none_more (here k i) (told true k es) e) ∙ set_other f.uses i k (Some d) (other_token k i (told true k es) e)
+use_stays (FoundIn i b ∷ es) f k e = use_stays es (found f (FoundIn i b)) k (none_more 0 (told true k es) e)
 use_stays (Typed i ty ∷ es) f k e = use_stays es (found f (Typed i ty)) k (none_more 0 (told true k es) e)
 
 type_stays : (es : List Event) (f : Findings) (k : ℕ) → told false k es ≡ 0 → slice_get (after f es).types k ≡ slice_get f.types k
@@ -64,6 +67,7 @@ type_stays [] f k e = refl
 type_stays (Broken token rule ∷ es) f k e = type_stays es (found f (Broken token rule)) k (none_more 0 (told false k es) e)
 type_stays (Typed i ty ∷ es) f k e =
     type_stays es (found f (Typed i ty)) k (none_more (here k i) (told false k es) e) ∙ set_other f.types i k (Some ty) (other_token k i (told false k es) e)
+type_stays (FoundIn i b ∷ es) f k e = type_stays es (found f (FoundIn i b)) k (none_more 0 (told false k es) e)
 type_stays (Uses i d ∷ es) f k e = type_stays es (found f (Uses i d)) k (none_more 0 (told false k es) e)
 
 row_within : {A : Type 0} (xs : List A) (k : ℕ) → k < length xs → (x : A) × (slice_get xs k ≡ Some x)
@@ -98,6 +102,7 @@ use_told (e ∷ es) f k d le within (inl is) =
 use_told (Broken i rule ∷ es) f k d le within (inr h) = use_told es (found f (Broken i rule)) k d (one_less 0 (told true k es) le) within h
 use_told (Uses i c ∷ es) f k d le within (inr h) =
     use_told es (found f (Uses i c)) k d (one_less (here k i) (told true k es) le) (let same = length-set f.uses i (Some c) in omega (arith, within, same)) h
+use_told (FoundIn i b ∷ es) f k d le within (inr h) = use_told es (found f (FoundIn i b)) k d (one_less 0 (told true k es) le) within h
 use_told (Typed i ty ∷ es) f k d le within (inr h) = use_told es (found f (Typed i ty)) k d (one_less 0 (told true k es) le) within h
 
 type_told : (es : List Event) (f : Findings) (k : ℕ) (ty : SimType) → told false k es ≤ 1 → k < length f.types → HasEvent (Typed k ty) es → slice_get (after f es).types k ≡ Some (Some ty)
@@ -107,6 +112,7 @@ type_told (e ∷ es) f k ty le within (inl is) =
     subst (λ z. slice_get (after (found f z) es).types k ≡ Some (Some ty)) is
     (type_stays es (found f (Typed k ty)) k (last_one k (told false k es) (subst (λ z. tells false k z + told false k es ≤ 1) (sym is) le)) ∙ (let row = row_within f.types k within in set_here f.types k row.0 (Some ty) row.1))
 type_told (Broken i rule ∷ es) f k ty le within (inr h) = type_told es (found f (Broken i rule)) k ty (one_less 0 (told false k es) le) within h
+type_told (FoundIn i b ∷ es) f k ty le within (inr h) = type_told es (found f (FoundIn i b)) k ty (one_less 0 (told false k es) le) within h
 type_told (Uses i c ∷ es) f k ty le within (inr h) = type_told es (found f (Uses i c)) k ty (one_less 0 (told false k es) le) within h
 type_told (Typed i c ∷ es) f k ty le within (inr h) =
     type_told es (found f (Typed i c)) k ty (one_less (here k i) (told false k es) le) (let same = length-set f.types i (Some c) in omega (arith, within, same)) h
@@ -125,6 +131,7 @@ all_say : (s : Source) (es whole : List Event) → Unbroken es → ((e : Event) 
 all_say s [] whole ok part uses types = tt
 all_say s (Broken i rule ∷ es) whole ok part uses types = absurd ok
 all_say s (Uses i d ∷ es) whole ok part uses types = (uses i d (part (Uses i d) (inl refl)), all_say s es whole ok (λ e h. part e (inr h)) uses types)
+all_say s (FoundIn i b ∷ es) whole ok part uses types = (tt, all_say s es whole ok (λ e h. part e (inr h)) uses types)
 all_say s (Typed i ty ∷ es) whole ok part uses types = (types i ty (part (Typed i ty) (inl refl)), all_say s es whole ok (λ e h. part e (inr h)) uses types)
 
 -- events of a round over so many tokens, each told at most once, and of none past the last

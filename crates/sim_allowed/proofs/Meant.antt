@@ -5,7 +5,7 @@ use Rattle.sim_base.specs.declared.numbering.TokenNo.{TokenNo}
 use Rattle.sim_scope.specs.declared.outcome.Outcome.{Outcome}
 use Rattle.sim_scope.specs.declared.outcome.Outcome.TheVariants as is
 use Rattle.sim_scope.specs.declared.scopes.Denotation.TheVariants as denotation
-use Rattle.sim_scope.specs.declared.standard.Standard.{Standard}
+use Rattle.sim_scope.specs.declared.standard.StandardName.{StandardName}
 use Rattle.sim_scope.specs.declared.types.Entry.TheVariants as entry
 use Rattle.sim_scope.specs.declared.types.SimType.{SimType}
 use Rattle.sim_scope.specs.Calls.{is_inside}
@@ -69,7 +69,7 @@ pub record ProcedureIs (s : Source) (from : Option ℕ) (e : Expression) (d : De
   pub sees : Sees s.tables from (block_of s d)
 
 -- a standard name alone
-pub record StandardIs (s : Source) (from : Option ℕ) (e : Expression) (standard : Standard) : Type 0 where
+pub record StandardIs (s : Source) (from : Option ℕ) (e : Expression) (standard : StandardName) : Type 0 where
   pub calls : is_stream standard ≡ false → (signature standard).first ≡ None → CallsFor s from e (given_by (signature standard).result)
   pub typed : TypeThere s e (signature standard).result
   pub stream : stream_of s e ≡ stream_named standard

@@ -1,20 +1,28 @@
 -- The standard names, as the rules and as the meaning have them.
-use Rattle.std.proofs.Common.{◌≡◌, ℕ, Bool, true, false, List, [], ◌∷◌, Option, Some, None, refl, sym, ◌∙◌, subst, if◌then◌else◌}
+use Rattle.std.proofs.Common.{◌≡◌, ℕ, Bool, true, false, List, [], ◌∷◌, Option, Some, None, refl, sym, ◌∙◌, ap, subst, if◌then◌else◌}
 use Rattle.std.proofs.lemmas.Bool.{false≢true}
-use Rattle.std.specs.Prelude.{◌||◌, codes}
+use Rattle.std.proofs.lemmas.Slice.Eq.{bytes_eq-Decides}
+use Rattle.std.specs.Prelude.{◌||◌, ◌&&◌, codes}
 use Rattle.std.specs.List.{list_any}
 use Rattle.std.specs.Str.{bytes_eq}
+use Rattle.sim_scope.specs.declared.standard.Place.{Place}
+use Rattle.sim_scope.specs.declared.standard.Place.TheVariants as place
 use Rattle.sim_scope.specs.declared.standard.Signature.{Signature}
-use Rattle.sim_scope.specs.declared.standard.Standard.{Standard as Found}
-use Rattle.sim_scope.specs.declared.standard.Standard.TheVariants as found
+use Rattle.sim_scope.specs.declared.standard.StandardName.{StandardName}
+use Rattle.sim_scope.specs.declared.standard.StandardName.TheVariants as found
 use Rattle.sim_scope.specs.declared.types.SimType.{SimType}
+use Rattle.sim_scope.specs.declared.types.StandardPrefix.TheVariants as prefix
 use Rattle.sim_scope.specs.ClassNames.{is_name_of_classes, names_of_classes, names_of_simulation}
-use Rattle.sim_scope.specs.Standard.{Entries, attributes_of_sysin, attributes_of_sysout, attributes_of_texts, entry_named, is_standard_class, names_alone, signature, standard_name, sysin_attribute, sysout_attribute, text_attribute}
+use Rattle.sim_scope.specs.Standard.{first_named, is_seen, is_standard_class, named_beside, plain_or_none, prefix_or_none, procedure_or, signature, standard_name, standard_prefix, sysin_attribute, sysout_attribute, text_attribute}
 use Rattle.sim_values.specs.declared.kind.Kind.{Kind}
 use Rattle.sim_values.specs.declared.kind.Kind.TheVariants as kind
+use Rattle.sim_values.specs.declared.standard.Standard.{Standard}
+use Rattle.sim_values.specs.declared.standard.Standard.TheVariants as name
+use Rattle.sim_values.specs.declared.standard.StandardType.{StandardType}
+use Rattle.sim_values.specs.declared.standard.TheConstants.{STANDARD_NAMES}
 use Rattle.sim_values.specs.Standard.{row_of}
 use Rattle.sim_meaning.specs.Names.{procedure_named}
-use Rattle.sim_meaning.specs.Statements.{standard_leaves}
+use Rattle.sim_meaning.specs.Statements.{has_value, standard_leaves}
 use Rattle.sim_meaning.specs.Texts.{kind_of_type}
 use Rattle.sim_sound.specs.Typed.{AttributeGives, Holds, Simply, StandardGives, is_given}
 use Rattle.sim_agree.specs.Facts.{ProperResult}
@@ -35,80 +43,46 @@ abbrev pub given_by : Option SimType → Option Holds
 given_by None = None
 given_by (Some ty) = Some (Simply (kind_of_type ty))
 
+-- a name of the table that is seen alone, and none of classes
+abbrev pub IsAlone : Standard → Type 0
+IsAlone x = (is_seen place.Alone (row_of x).owner ≡ true) × (is_name_of_classes (row_of x).spelling ≡ false)
+
 -- a name that is no attribute of texts, and none of classes
-abbrev pub NoAttribute : Found → Type 0
-NoAttribute found.TextConstant = ⊥
-NoAttribute found.TextStart = ⊥
-NoAttribute found.TextLength = ⊥
-NoAttribute found.TextPos = ⊥
-NoAttribute found.TextMore = ⊥
-NoAttribute found.TextMain = ⊥
-NoAttribute found.TextSetpos = ⊥
-NoAttribute found.TextGetchar = ⊥
-NoAttribute found.TextPutchar = ⊥
-NoAttribute found.TextSub = ⊥
-NoAttribute found.TextStrip = ⊥
-NoAttribute found.TextGetint = ⊥
-NoAttribute found.TextPutint = ⊥
-NoAttribute found.Detach = ⊥
-NoAttribute found.Call = ⊥
-NoAttribute found.Resume = ⊥
-NoAttribute found.Simset = ⊥
-NoAttribute found.Simulation = ⊥
-NoAttribute _ = Unit {0}
+abbrev pub NoAttribute : StandardName → Type 0
+NoAttribute (found.Procedure x) = IsAlone x
+NoAttribute found.Sysin = Unit {0}
+NoAttribute found.Sysout = Unit {0}
+NoAttribute (found.Prefix which) = ⊥
 
 -- an attribute of texts
-abbrev pub OfTexts : Found → Type 0
-OfTexts found.TextConstant = Unit {0}
-OfTexts found.TextStart = Unit {0}
-OfTexts found.TextLength = Unit {0}
-OfTexts found.TextPos = Unit {0}
-OfTexts found.TextMore = Unit {0}
-OfTexts found.TextMain = Unit {0}
-OfTexts found.TextSetpos = Unit {0}
-OfTexts found.TextGetchar = Unit {0}
-OfTexts found.TextPutchar = Unit {0}
-OfTexts found.TextSub = Unit {0}
-OfTexts found.TextStrip = Unit {0}
-OfTexts found.TextGetint = Unit {0}
-OfTexts found.TextPutint = Unit {0}
+abbrev pub OfTexts : StandardName → Type 0
+OfTexts (found.Procedure x) = is_seen place.Text (row_of x).owner ≡ true
 OfTexts _ = ⊥
 
 -- a procedure that is no attribute of texts, and none of classes
-abbrev pub IsProcedure : Found → Type 0
-IsProcedure found.Sysin = ⊥
-IsProcedure found.Sysout = ⊥
-IsProcedure found.Detach = ⊥
-IsProcedure found.Call = ⊥
-IsProcedure found.Resume = ⊥
-IsProcedure found.Simset = ⊥
-IsProcedure found.Simulation = ⊥
-IsProcedure name = NoAttribute name
+abbrev pub IsProcedure : StandardName → Type 0
+IsProcedure (found.Procedure x) = IsAlone x
+IsProcedure _ = ⊥
 
-abbrev Every : (Found → Type 0) → Entries → Type 0
-Every P [] = Unit {0}
-Every P (e ∷ es) = P e.1 × Every P es
+-- what the table finds is seen there, and spelt so
+abbrev Seen : Place → List ℕ → Standard → Type 0
+Seen place name x = (is_seen place (row_of x).owner ≡ true) × (bytes_eq name (row_of x).spelling ≡ true)
 
-found_every : (P : Found → Type 0) (name : List ℕ) (k : Found) (es : Entries) → Every P es → entry_named name es ≡ Some k → P k
-found_every P name k [] all e = absurd (cc)
-found_every P name k (x ∷ xs) all e = go (λ h. found_every P name k xs all.1 h) (bytes_eq name x.0) e
+first_seen : (place : Place) (name : List ℕ) (k : Standard) (xs : List Standard) → first_named place name xs ≡ Some k → Seen place name k
+first_seen place name k [] e = absurd (cc)
+first_seen place name k (x ∷ xs) e = go (λ h. first_seen place name k xs h) (is_seen place (row_of x).owner) (bytes_eq name (row_of x).spelling) refl refl e
   where
-    go : (entry_named name xs ≡ Some k → P k) → (b : Bool) → (if b then Some x.1 else entry_named name xs) ≡ Some k → P k
-    go deep true e = let same : x.1 ≡ k = cc in subst P same all.0
-    go deep false e = deep e
+    go : (first_named place name xs ≡ Some k → Seen place name k) → (a b : Bool) → is_seen place (row_of x).owner ≡ a → bytes_eq name (row_of x).spelling ≡ b → (if a && b then Some x else first_named place name xs) ≡ Some k → Seen place name k
+    go deep true true seen same e = let is : x ≡ k = cc in subst (Seen place name) is (seen, same)
+    go deep true false seen same e = deep e
+    go deep false b seen same e = deep e
 
--- the same where only the names that are spelt so count
-abbrev EverySpelt : (Found → Type 0) → List ℕ → Entries → Type 0
-EverySpelt P name [] = Unit {0}
-EverySpelt P name (e ∷ es) = (bytes_eq name e.0 ≡ true → P e.1) × EverySpelt P name es
-
-found_spelt : (P : Found → Type 0) (name : List ℕ) (k : Found) (es : Entries) → EverySpelt P name es → entry_named name es ≡ Some k → P k
-found_spelt P name k [] all e = absurd (cc)
-found_spelt P name k (x ∷ xs) all e = go (λ h. found_spelt P name k xs all.1 h) (bytes_eq name x.0) refl e
+found_behind : (P : StandardName → Type 0) (place : Place) (name : List ℕ) (k : StandardName) → ((x : Standard) → is_seen place (row_of x).owner ≡ true → P (found.Procedure x)) → procedure_or (first_named place name STANDARD_NAMES) None ≡ Some k → P k
+found_behind P place name k all e = go (first_named place name STANDARD_NAMES) refl e
   where
-    go : (entry_named name xs ≡ Some k → P k) → (b : Bool) → bytes_eq name x.0 ≡ b → (if b then Some x.1 else entry_named name xs) ≡ Some k → P k
-    go deep true is e = let same : x.1 ≡ k = cc in subst P same (all.0 is)
-    go deep false is e = deep e
+    go : (o : Option Standard) → first_named place name STANDARD_NAMES ≡ o → procedure_or o None ≡ Some k → P k
+    go None is e = absurd (cc)
+    go (Some x) is e = let same : found.Procedure x ≡ k = cc in subst P same (all x (first_seen place name x STANDARD_NAMES is).0)
 
 -- a name that is none of a list
 abbrev NoneIs : List ℕ → List (List ℕ) → Type 0
@@ -126,229 +100,204 @@ none_is name (x ∷ xs) e = let b = either (bytes_eq name x) (list_any (bytes_eq
 not_both : (P : Type 0) (b : Bool) → b ≡ false → b ≡ true → P
 not_both P b e f = absurd (false≢true (sym e ∙ f))
 
-pub alone_name : (name : List ℕ) (k : Found) → is_name_of_classes name ≡ false → standard_name name ≡ Some k → NoAttribute k
-unfolding standard_name is_name_of_classes
-alone_name name k plain e =
+no_prefix : (name : List ℕ) (k : StandardName) → is_name_of_classes name ≡ false → prefix_or_none (standard_prefix name) ≡ Some k → NoAttribute k
+unfolding standard_prefix is_name_of_classes
+no_prefix name k plain e =
     let both = either (list_any (bytes_eq name) names_of_classes) (list_any (bytes_eq name) names_of_simulation) plain in
-    let classes = none_is name names_of_classes both.0 in
-    let simulation = none_is name names_of_simulation both.1 in
-    found_spelt NoAttribute name k names_alone (λ h. tt, (λ h. tt, (λ h. tt, (λ h. tt, (λ h. tt, (λ h. tt, (λ h. tt, (λ h. tt, (λ h. tt, (λ h. tt, (λ h. tt, (λ h. tt, (λ h. tt, (λ h. tt, (λ h. tt, (λ h. tt, (λ h. tt, (λ h. tt, (λ h. tt, (λ h. tt, (λ h. tt, (λ h. tt, (λ h. tt, (λ h. tt, (λ h. tt, (λ h. tt, (λ h. tt, (λ h. tt, (λ h. tt, (λ h. tt, (λ h. tt, (λ h. tt, (λ h. tt, (λ h. tt, (λ h. tt, (λ h. not_both ⊥ (bytes_eq name (codes "detach")) classes.0 h, (λ h. not_both ⊥ (bytes_eq name (codes "call")) classes.1.0 h, (λ h. not_both ⊥ (bytes_eq name (codes "resume")) classes.1.1.0 h, (λ h. not_both ⊥ (bytes_eq name (codes "simset")) classes.1.1.1.0 h, (λ h. not_both ⊥ (bytes_eq name (codes "simulation")) simulation.1.1.1.1.1.0 h, tt)))))))))))))))))))))))))))))))))))))))) e
+    go (bytes_eq name (codes "simset")) (bytes_eq name (codes "simulation")) (none_is name names_of_classes both.0).1.1.1.0 (none_is name names_of_simulation both.1).1.1.1.1.1.0 e
+  where
+    go : (a b : Bool) → a ≡ false → b ≡ false → prefix_or_none (if a then Some prefix.Simset else if b then Some prefix.Simulation else None) ≡ Some k → NoAttribute k
+    go true b sets other e = absurd (false≢true (sym sets))
+    go false true sets other e = absurd (false≢true (sym other))
+    go false false sets other e = absurd (cc)
 
-pub text_name : (name : List ℕ) (k : Found) → text_attribute name ≡ Some k → OfTexts k
+beside_name : (name : List ℕ) (k : StandardName) → is_name_of_classes name ≡ false → named_beside name ≡ Some k → NoAttribute k
+beside_name name k plain e = go (bytes_eq name (codes "sysin")) (bytes_eq name (codes "sysout")) e
+  where
+    go : (a b : Bool) → (if a then Some found.Sysin else if b then Some found.Sysout else prefix_or_none (standard_prefix name)) ≡ Some k → NoAttribute k
+    go true b e = let same : found.Sysin ≡ k = cc in subst NoAttribute same tt
+    go false true e = let same : found.Sysout ≡ k = cc in subst NoAttribute same tt
+    go false false e = no_prefix name k plain e
+
+pub alone_name : (name : List ℕ) (k : StandardName) → is_name_of_classes name ≡ false → standard_name name ≡ Some k → NoAttribute k
+unfolding standard_name
+alone_name name k plain e = go (first_named place.Alone name STANDARD_NAMES) refl e
+  where
+    go : (o : Option Standard) → first_named place.Alone name STANDARD_NAMES ≡ o → procedure_or o (named_beside name) ≡ Some k → NoAttribute k
+    go None is e = beside_name name k plain e
+    go (Some x) is e =
+        let seen = first_seen place.Alone name x STANDARD_NAMES is in
+        let same : found.Procedure x ≡ k = cc in
+        subst NoAttribute same (seen.0, subst (λ z. is_name_of_classes z ≡ false) ((bytes_eq-Decides name (row_of x).spelling).0 seen.1) plain)
+
+pub text_name : (name : List ℕ) (k : StandardName) → text_attribute name ≡ Some k → OfTexts k
 unfolding text_attribute
-text_name name k e = found_every OfTexts name k attributes_of_texts (tt, (tt, (tt, (tt, (tt, (tt, (tt, (tt, (tt, (tt, (tt, (tt, (tt, tt))))))))))))) e
+text_name name k e = found_behind OfTexts place.Text name k (λ x seen. seen) e
 
-pub sysin_name : (name : List ℕ) (k : Found) → sysin_attribute name ≡ Some k → IsProcedure k
+-- the names of sysin and sysout are seen alone
+sysin_alone : (x : Standard) → is_seen place.Sysin (row_of x).owner ≡ true → IsAlone x
+unfolding row_of is_name_of_classes
+sysin_alone name.Inimage seen = (refl, refl)
+sysin_alone name.Inchar seen = (refl, refl)
+sysin_alone name.Inint seen = (refl, refl)
+sysin_alone name.Intext seen = (refl, refl)
+sysin_alone name.Lastitem seen = (refl, refl)
+sysin_alone name.Endfile seen = (refl, refl)
+sysin_alone name.Image seen = (refl, refl)
+sysin_alone name.Pos seen = (refl, refl)
+sysin_alone name.Setpos seen = (refl, refl)
+sysin_alone name.More seen = (refl, refl)
+sysin_alone name.Length seen = (refl, refl)
+sysin_alone _ seen = absurd (false≢true seen)
+
+sysout_alone : (x : Standard) → is_seen place.Sysout (row_of x).owner ≡ true → IsAlone x
+unfolding row_of is_name_of_classes
+sysout_alone name.Outimage seen = (refl, refl)
+sysout_alone name.Outchar seen = (refl, refl)
+sysout_alone name.Outtext seen = (refl, refl)
+sysout_alone name.Outint seen = (refl, refl)
+sysout_alone name.Image seen = (refl, refl)
+sysout_alone name.Pos seen = (refl, refl)
+sysout_alone name.Setpos seen = (refl, refl)
+sysout_alone name.More seen = (refl, refl)
+sysout_alone name.Length seen = (refl, refl)
+sysout_alone _ seen = absurd (false≢true seen)
+
+pub sysin_name : (name : List ℕ) (k : StandardName) → sysin_attribute name ≡ Some k → IsProcedure k
 unfolding sysin_attribute
-sysin_name name k e = found_every IsProcedure name k attributes_of_sysin (tt, (tt, (tt, (tt, (tt, (tt, (tt, (tt, (tt, (tt, (tt, tt))))))))))) e
+sysin_name name k e = found_behind IsProcedure place.Sysin name k sysin_alone e
 
-pub sysout_name : (name : List ℕ) (k : Found) → sysout_attribute name ≡ Some k → IsProcedure k
+pub sysout_name : (name : List ℕ) (k : StandardName) → sysout_attribute name ≡ Some k → IsProcedure k
 unfolding sysout_attribute
-sysout_name name k e = found_every IsProcedure name k attributes_of_sysout (tt, (tt, (tt, (tt, (tt, (tt, (tt, (tt, (tt, tt))))))))) e
+sysout_name name k e = found_behind IsProcedure place.Sysout name k sysout_alone e
 
 -- what a name alone, or behind `sysin` or `sysout`, gives
-pub standard_gives : (name : Found) → IsProcedure name → (Operands : List Kind → Type 0) → Operands (kinds_of (signature name)) → StandardGives (procedure_named name) Operands (given_by (signature name).result)
-unfolding signature row_of
-standard_gives found.Abs p Operands a = ((refl, refl), a)
-standard_gives found.Sign p Operands a = ((refl, refl), a)
-standard_gives found.Min p Operands a = ((refl, refl), a)
-standard_gives found.Max p Operands a = ((refl, refl), a)
-standard_gives found.Mod p Operands a = ((refl, refl), a)
-standard_gives found.Rem p Operands a = ((refl, refl), a)
-standard_gives found.Maxint p Operands a = ((refl, refl), a)
-standard_gives found.Minint p Operands a = ((refl, refl), a)
-standard_gives found.Char p Operands a = ((refl, refl), a)
-standard_gives found.Rank p Operands a = ((refl, refl), a)
-standard_gives found.Isochar p Operands a = ((refl, refl), a)
-standard_gives found.Isorank p Operands a = ((refl, refl), a)
-standard_gives found.Digit p Operands a = ((refl, refl), a)
-standard_gives found.Letter p Operands a = ((refl, refl), a)
-standard_gives found.Blanks p Operands a = ((refl, refl), a)
-standard_gives found.Copy p Operands a = ((refl, refl), a)
-standard_gives found.Upcase p Operands a = ((refl, refl), a)
-standard_gives found.Lowcase p Operands a = ((refl, refl), a)
-standard_gives found.Inimage p Operands a = ((refl, refl), a)
-standard_gives found.Inchar p Operands a = ((refl, refl), a)
-standard_gives found.Inint p Operands a = ((refl, refl), a)
-standard_gives found.Intext p Operands a = ((refl, refl), a)
-standard_gives found.Lastitem p Operands a = ((refl, refl), a)
-standard_gives found.Endfile p Operands a = ((refl, refl), a)
-standard_gives found.Outimage p Operands a = ((refl, refl), a)
-standard_gives found.Outchar p Operands a = ((refl, refl), a)
-standard_gives found.Outtext p Operands a = ((refl, refl), a)
-standard_gives found.Outint p Operands a = ((refl, refl), a)
-standard_gives found.Image p Operands a = (refl, a)
-standard_gives found.Pos p Operands a = ((refl, refl), [], refl, a)
-standard_gives found.Setpos p Operands a = ((refl, refl), kind.Integer ∷ [], refl, a)
-standard_gives found.More p Operands a = ((refl, refl), [], refl, a)
-standard_gives found.Length p Operands a = ((refl, refl), [], refl, a)
-standard_gives found.TextConstant p Operands a = absurd p
-standard_gives found.TextStart p Operands a = absurd p
-standard_gives found.TextLength p Operands a = absurd p
-standard_gives found.TextPos p Operands a = absurd p
-standard_gives found.TextMore p Operands a = absurd p
-standard_gives found.TextMain p Operands a = absurd p
-standard_gives found.TextSetpos p Operands a = absurd p
-standard_gives found.TextGetchar p Operands a = absurd p
-standard_gives found.TextPutchar p Operands a = absurd p
-standard_gives found.TextSub p Operands a = absurd p
-standard_gives found.TextStrip p Operands a = absurd p
-standard_gives found.TextGetint p Operands a = absurd p
-standard_gives found.TextPutint p Operands a = absurd p
-standard_gives found.Sysin p Operands a = absurd p
-standard_gives found.Sysout p Operands a = absurd p
-standard_gives found.Detach p Operands a = absurd p
-standard_gives found.Call p Operands a = absurd p
-standard_gives found.Resume p Operands a = absurd p
-standard_gives found.Simset p Operands a = absurd p
-standard_gives found.Simulation p Operands a = absurd p
+row_gives : (x : Standard) → IsAlone x → (Operands : List Kind → Type 0) → Operands (kinds_of (signature (found.Procedure x))) → StandardGives (Some x) Operands (given_by (signature (found.Procedure x)).result)
+unfolding signature row_of is_name_of_classes
+row_gives name.Abs p Operands a = ((refl, refl), a)
+row_gives name.Sign p Operands a = ((refl, refl), a)
+row_gives name.Min p Operands a = ((refl, refl), a)
+row_gives name.Max p Operands a = ((refl, refl), a)
+row_gives name.Mod p Operands a = ((refl, refl), a)
+row_gives name.Rem p Operands a = ((refl, refl), a)
+row_gives name.Maxint p Operands a = ((refl, refl), a)
+row_gives name.Minint p Operands a = ((refl, refl), a)
+row_gives name.Char p Operands a = ((refl, refl), a)
+row_gives name.Rank p Operands a = ((refl, refl), a)
+row_gives name.Isochar p Operands a = ((refl, refl), a)
+row_gives name.Isorank p Operands a = ((refl, refl), a)
+row_gives name.Digit p Operands a = ((refl, refl), a)
+row_gives name.Letter p Operands a = ((refl, refl), a)
+row_gives name.Blanks p Operands a = ((refl, refl), a)
+row_gives name.Copy p Operands a = ((refl, refl), a)
+row_gives name.Upcase p Operands a = ((refl, refl), a)
+row_gives name.Lowcase p Operands a = ((refl, refl), a)
+row_gives name.Inimage p Operands a = ((refl, refl), a)
+row_gives name.Inchar p Operands a = ((refl, refl), a)
+row_gives name.Inint p Operands a = ((refl, refl), a)
+row_gives name.Intext p Operands a = ((refl, refl), a)
+row_gives name.Lastitem p Operands a = ((refl, refl), a)
+row_gives name.Endfile p Operands a = ((refl, refl), a)
+row_gives name.Outimage p Operands a = ((refl, refl), a)
+row_gives name.Outchar p Operands a = ((refl, refl), a)
+row_gives name.Outtext p Operands a = ((refl, refl), a)
+row_gives name.Outint p Operands a = ((refl, refl), a)
+row_gives name.Image p Operands a = (refl, a)
+row_gives name.Pos p Operands a = ((refl, refl), [], refl, a)
+row_gives name.Setpos p Operands a = ((refl, refl), kind.Integer ∷ [], refl, a)
+row_gives name.More p Operands a = ((refl, refl), [], refl, a)
+row_gives name.Length p Operands a = ((refl, refl), [], refl, a)
+row_gives name.Detach p Operands a = absurd (false≢true (sym p.1))
+row_gives name.Call p Operands a = absurd (false≢true (sym p.1))
+row_gives name.Resume p Operands a = absurd (false≢true (sym p.1))
+row_gives _ p Operands a = absurd (false≢true p.0)
+
+pub standard_gives : (k : StandardName) → IsProcedure k → (Operands : List Kind → Type 0) → Operands (kinds_of (signature k)) → StandardGives (procedure_named k) Operands (given_by (signature k).result)
+standard_gives (found.Procedure x) p Operands a = row_gives x p Operands a
+standard_gives _ p Operands a = absurd p
 
 -- what an attribute of texts gives
-pub attribute_gives : (name : Found) → OfTexts name → (Object : Type 0) → Object → (Operands : List Kind → Type 0) → Operands (kinds_of (signature name)) → AttributeGives (procedure_named name) Object Operands (given_by (signature name).result)
+row_of_text_gives : (x : Standard) → OfTexts (found.Procedure x) → (Object : Type 0) → Object → (Operands : List Kind → Type 0) → Operands (kinds_of (signature (found.Procedure x))) → AttributeGives (Some x) Object Operands (given_by (signature (found.Procedure x)).result)
 unfolding signature row_of
-attribute_gives found.TextConstant p Object t Operands a = (t, ((refl, refl), [], refl, a))
-attribute_gives found.TextStart p Object t Operands a = (t, ((refl, refl), [], refl, a))
-attribute_gives found.TextLength p Object t Operands a = (t, ((refl, refl), [], refl, a))
-attribute_gives found.TextPos p Object t Operands a = (t, ((refl, refl), [], refl, a))
-attribute_gives found.TextMore p Object t Operands a = (t, ((refl, refl), [], refl, a))
-attribute_gives found.TextMain p Object t Operands a = (t, ((refl, refl), [], refl, a))
-attribute_gives found.TextSetpos p Object t Operands a = (t, ((refl, refl), kind.Integer ∷ [], refl, a))
-attribute_gives found.TextGetchar p Object t Operands a = (t, ((refl, refl), [], refl, a))
-attribute_gives found.TextPutchar p Object t Operands a = (t, ((refl, refl), kind.Character ∷ [], refl, a))
-attribute_gives found.TextSub p Object t Operands a = (t, ((refl, refl), kind.Integer ∷ kind.Integer ∷ [], refl, a))
-attribute_gives found.TextStrip p Object t Operands a = (t, ((refl, refl), [], refl, a))
-attribute_gives found.TextGetint p Object t Operands a = (t, ((refl, refl), [], refl, a))
-attribute_gives found.TextPutint p Object t Operands a = (t, ((refl, refl), kind.Integer ∷ [], refl, a))
+row_of_text_gives name.TextConstant p Object t Operands a = (t, ((refl, refl), [], refl, a))
+row_of_text_gives name.TextStart p Object t Operands a = (t, ((refl, refl), [], refl, a))
+row_of_text_gives name.TextLength p Object t Operands a = (t, ((refl, refl), [], refl, a))
+row_of_text_gives name.TextPos p Object t Operands a = (t, ((refl, refl), [], refl, a))
+row_of_text_gives name.TextMore p Object t Operands a = (t, ((refl, refl), [], refl, a))
+row_of_text_gives name.TextMain p Object t Operands a = (t, ((refl, refl), [], refl, a))
+row_of_text_gives name.TextSetpos p Object t Operands a = (t, ((refl, refl), kind.Integer ∷ [], refl, a))
+row_of_text_gives name.TextGetchar p Object t Operands a = (t, ((refl, refl), [], refl, a))
+row_of_text_gives name.TextPutchar p Object t Operands a = (t, ((refl, refl), kind.Character ∷ [], refl, a))
+row_of_text_gives name.TextSub p Object t Operands a = (t, ((refl, refl), kind.Integer ∷ kind.Integer ∷ [], refl, a))
+row_of_text_gives name.TextStrip p Object t Operands a = (t, ((refl, refl), [], refl, a))
+row_of_text_gives name.TextGetint p Object t Operands a = (t, ((refl, refl), [], refl, a))
+row_of_text_gives name.TextPutint p Object t Operands a = (t, ((refl, refl), kind.Integer ∷ [], refl, a))
+row_of_text_gives _ p Object t Operands a = absurd (false≢true p)
+
+pub attribute_gives : (k : StandardName) → OfTexts k → (Object : Type 0) → Object → (Operands : List Kind → Type 0) → Operands (kinds_of (signature k)) → AttributeGives (procedure_named k) Object Operands (given_by (signature k).result)
+attribute_gives (found.Procedure x) p Object t Operands a = row_of_text_gives x p Object t Operands a
 attribute_gives _ p Object t Operands a = absurd p
 
 -- whether it leaves something
-pub standard_left : (name : Found) → is_given (given_by (signature name).result) ≡ standard_leaves (procedure_named name)
-unfolding signature row_of
-standard_left found.Abs = refl
-standard_left found.Sign = refl
-standard_left found.Min = refl
-standard_left found.Max = refl
-standard_left found.Mod = refl
-standard_left found.Rem = refl
-standard_left found.Maxint = refl
-standard_left found.Minint = refl
-standard_left found.Char = refl
-standard_left found.Rank = refl
-standard_left found.Isochar = refl
-standard_left found.Isorank = refl
-standard_left found.Digit = refl
-standard_left found.Letter = refl
-standard_left found.Blanks = refl
-standard_left found.Copy = refl
-standard_left found.Upcase = refl
-standard_left found.Lowcase = refl
-standard_left found.Inimage = refl
-standard_left found.Inchar = refl
-standard_left found.Inint = refl
-standard_left found.Intext = refl
-standard_left found.Lastitem = refl
-standard_left found.Endfile = refl
-standard_left found.Outimage = refl
-standard_left found.Outchar = refl
-standard_left found.Outtext = refl
-standard_left found.Outint = refl
-standard_left found.TextConstant = refl
-standard_left found.TextStart = refl
-standard_left found.TextLength = refl
-standard_left found.TextPos = refl
-standard_left found.TextMore = refl
-standard_left found.TextMain = refl
-standard_left found.TextSetpos = refl
-standard_left found.TextGetchar = refl
-standard_left found.TextPutchar = refl
-standard_left found.TextSub = refl
-standard_left found.TextStrip = refl
-standard_left found.TextGetint = refl
-standard_left found.TextPutint = refl
-standard_left found.Image = refl
-standard_left found.Pos = refl
-standard_left found.Setpos = refl
-standard_left found.More = refl
-standard_left found.Length = refl
-standard_left found.Sysin = refl
-standard_left found.Sysout = refl
-standard_left found.Detach = refl
-standard_left found.Call = refl
-standard_left found.Resume = refl
-standard_left found.Simset = refl
-standard_left found.Simulation = refl
+leaves_given : (r : Option StandardType) → is_given (given_by (plain_or_none r)) ≡ has_value r
+leaves_given None = refl
+leaves_given (Some ty) = refl
 
-pub standard_proper : (name : Found) → ProperResult (signature name).result
+pub standard_left : (k : StandardName) → is_given (given_by (signature k).result) ≡ standard_leaves (procedure_named k)
 unfolding signature
-standard_proper found.Abs = tt
-standard_proper found.Sign = tt
-standard_proper found.Min = tt
-standard_proper found.Max = tt
-standard_proper found.Mod = tt
-standard_proper found.Rem = tt
-standard_proper found.Maxint = tt
-standard_proper found.Minint = tt
-standard_proper found.Char = tt
-standard_proper found.Rank = tt
-standard_proper found.Isochar = tt
-standard_proper found.Isorank = tt
-standard_proper found.Digit = tt
-standard_proper found.Letter = tt
-standard_proper found.Blanks = tt
-standard_proper found.Copy = tt
-standard_proper found.Upcase = tt
-standard_proper found.Lowcase = tt
-standard_proper found.Inimage = tt
-standard_proper found.Inchar = tt
-standard_proper found.Inint = tt
-standard_proper found.Intext = tt
-standard_proper found.Lastitem = tt
-standard_proper found.Endfile = tt
-standard_proper found.Outimage = tt
-standard_proper found.Outchar = tt
-standard_proper found.Outtext = tt
-standard_proper found.Outint = tt
-standard_proper found.TextConstant = tt
-standard_proper found.TextStart = tt
-standard_proper found.TextLength = tt
-standard_proper found.TextPos = tt
-standard_proper found.TextMore = tt
-standard_proper found.TextMain = tt
-standard_proper found.TextSetpos = tt
-standard_proper found.TextGetchar = tt
-standard_proper found.TextPutchar = tt
-standard_proper found.TextSub = tt
-standard_proper found.TextStrip = tt
-standard_proper found.TextGetint = tt
-standard_proper found.TextPutint = tt
-standard_proper found.Image = tt
-standard_proper found.Pos = tt
-standard_proper found.Setpos = tt
-standard_proper found.More = tt
-standard_proper found.Length = tt
-standard_proper found.Sysin = tt
-standard_proper found.Sysout = tt
-standard_proper found.Detach = tt
-standard_proper found.Call = tt
-standard_proper found.Resume = tt
-standard_proper found.Simset = tt
-standard_proper found.Simulation = tt
+standard_left (found.Procedure x) = leaves_given (row_of x).result
+standard_left _ = refl
+
+-- what is seen alone or behind a text gives no reference
+row_proper : (x : Standard) → (is_seen place.Alone (row_of x).owner || is_seen place.Text (row_of x).owner) ≡ true → ProperResult (plain_or_none (row_of x).result)
+unfolding row_of
+row_proper name.Suc seen = absurd (false≢true seen)
+row_proper name.Pred seen = absurd (false≢true seen)
+row_proper name.Prev seen = absurd (false≢true seen)
+row_proper name.First seen = absurd (false≢true seen)
+row_proper name.Last seen = absurd (false≢true seen)
+row_proper name.Nextev seen = absurd (false≢true seen)
+row_proper name.Current seen = absurd (false≢true seen)
+row_proper name.Main seen = absurd (false≢true seen)
+row_proper _ seen = tt
+
+seen_first : (a b : Bool) → a ≡ true → (a || b) ≡ true
+seen_first true b e = refl
+seen_first false b e = absurd (false≢true e)
+
+seen_second : (a b : Bool) → b ≡ true → (a || b) ≡ true
+seen_second true b e = refl
+seen_second false b e = e
+
+pub alone_proper : (k : StandardName) → NoAttribute k → ProperResult (signature k).result
+unfolding signature
+alone_proper (found.Procedure x) p = row_proper x (seen_first _ _ p.0)
+alone_proper found.Sysin p = tt
+alone_proper found.Sysout p = tt
+alone_proper (found.Prefix which) p = tt
+
+pub procedure_proper : (k : StandardName) → IsProcedure k → ProperResult (signature k).result
+unfolding signature
+procedure_proper (found.Procedure x) p = row_proper x (seen_first _ _ p.0)
+procedure_proper _ p = absurd p
+
+pub attribute_proper : (k : StandardName) → OfTexts k → ProperResult (signature k).result
+unfolding signature
+attribute_proper (found.Procedure x) p = row_proper x (seen_second _ _ p)
+attribute_proper _ p = absurd p
 
 -- a procedure and an attribute of texts are no classes
-pub procedure_no_class : (name : Found) → IsProcedure name → is_standard_class name ≡ false
+pub procedure_no_class : (k : StandardName) → IsProcedure k → is_standard_class k ≡ false
 unfolding is_standard_class
-procedure_no_class found.Simset p = absurd p
-procedure_no_class found.Simulation p = absurd p
-procedure_no_class _ p = refl
+procedure_no_class (found.Procedure x) p = refl
+procedure_no_class _ p = absurd p
 
-pub alone_no_class : (name : Found) → NoAttribute name → is_standard_class name ≡ false
+pub alone_no_class : (k : StandardName) → NoAttribute k → is_standard_class k ≡ false
 unfolding is_standard_class
-alone_no_class found.Simset p = absurd p
-alone_no_class found.Simulation p = absurd p
+alone_no_class (found.Prefix which) p = absurd p
 alone_no_class _ p = refl
 
-pub attribute_no_class : (name : Found) → OfTexts name → is_standard_class name ≡ false
+pub attribute_no_class : (k : StandardName) → OfTexts k → is_standard_class k ≡ false
 unfolding is_standard_class
-attribute_no_class found.Simset p = absurd p
-attribute_no_class found.Simulation p = absurd p
-attribute_no_class _ p = refl
+attribute_no_class (found.Procedure x) p = refl
+attribute_no_class _ p = absurd p

@@ -1,6 +1,6 @@
 -- What the events of the last round say, as the source has it: no rule is broken, and each use and each type is the one at its token.
 use Rattle.std.proofs.Common.{◌≡◌, List, [], ◌∷◌, ◌++◌, Some, refl}
-use Rattle.sim_scope.specs.Found.{Event, Broken, Typed, Uses}
+use Rattle.sim_scope.specs.Found.{Event, Broken, FoundIn, Typed, Uses}
 use Rattle.sim_scope.specs.Judged.{Judged, next}
 use Rattle.sim_scope.specs.Runs.{each}
 use Rattle.sim_scope.specs.Source.{Source, denoted, type_at}
@@ -8,6 +8,7 @@ use Rattle.sim_scope.specs.Source.{Source, denoted, type_at}
 abbrev pub Says : Source → Event → Type 0
 Says s (Broken token rule) = ⊥
 Says s (Uses token d) = denoted s token ≡ Some d
+Says s (FoundIn token block) = Unit {0}
 Says s (Typed token ty) = type_at s token ≡ Some ty
 
 abbrev pub AllSay : Source → List Event → Type 0

@@ -25,18 +25,19 @@ use Rattle.sim_scope.specs.Judged.{gives, next, telling}
 use Rattle.sim_scope.specs.Operators.{is_same, misfit_of}
 use Rattle.sim_scope.specs.Runs.{each}
 use Rattle.sim_scope.specs.Scopes.{entry_of}
-use Rattle.sim_scope.specs.Statements.{array_events, constant_token, constant_type, control_events, controlled, element_events, entry_controlled, first_step, first_value, formal_controlled, has_type, integer_from, judging, moded_controlled, not_simple, pair_events, program_prefix_events, required, simple, starts, taken_by, told_unless, type_taken, value_fits, value_type, variable_controlled, variable_events}
+use Rattle.sim_scope.specs.Statements.{array_events, constant_token, constant_type, control_events, controlled, element_events, entry_controlled, first_step, first_value, formal_controlled, has_type, integer_from, judging, moded_controlled, not_simple, pair_events, program_prefix_events, required, result_events, simple, starts, taken_by, told_unless, type_events, type_taken, value_fits, value_type, variable_controlled, variable_events}
 use Rattle.sim_scope.specs.Tables.{Tables}
 use Rattle.sim_scope.specs.Walk.{begin_of, block_events, declaration_events, declarations_events, program_events, statement_events, statements_events, whole_events}
 use Rattle.sim_tree.specs.declared.expr.Identifier.{Identifier}
 use Rattle.sim_tree.specs.declared.stmt.Assignment.{Assignment}
 use Rattle.sim_tree.specs.declared.stmt.Constant.{Constant}
 use Rattle.sim_tree.specs.declared.stmt.TypeName.{TypeName}
+use Rattle.sim_tree.specs.declared.stmt.TypeName.TheVariants as type_name
 use Rattle.sim_tree.specs.declared.stmt.Variable.{Variable}
 use Rattle.sim_tree.specs.Order.{Ascends, Behind, InOrder, Spot, Token, in_block, in_bounds, in_declaration, in_declarations, in_each, in_element, in_expression, in_name, in_segment, in_statement, in_statements, in_variable}
 use Rattle.sim_tree.specs.Syntax.{Also, Arrayed, Arrays, Begin, Block, BoundPair, Declaration, Declarations, DeclareClass, DeclareProcedure, Element, Expression, NoDeclaration, NoStatement, Program, RightSide, Statement, Statements, Variables, With, first_of}
 use Rattle.sim_tree.specs.Syntax as syntax
-use Rattle.sim_agree.specs.Plain.{Each, Plain, PlainBlock, PlainBounds, PlainDeclaration, PlainDeclarations, PlainElement, PlainExpression, PlainSegment, PlainStatement, PlainStatements}
+use Rattle.sim_agree.specs.Plain.{Each, Plain, PlainBlock, PlainBounds, PlainDeclaration, PlainDeclarations, PlainElement, PlainExpression, PlainResult, PlainSegment, PlainStatement, PlainStatements, PlainType}
 use Rattle.sim_allowed.proofs.Counts.{Silent, Typing, Using, bound_uses, silent_break, silent_none, told, told_both, typing_one, typing_silent}
 use Rattle.sim_allowed.proofs.Told.{either}
 use Rattle.sim_allowed.proofs.ToldProgram.{Fills, among, assign_fills, call_fills, fills_both, fills_end, fills_more, fills_names, fills_silent, fills_then, required_fills, side_fills}
@@ -173,6 +174,18 @@ variables_fill : (type : TypeName) (vs : List Variable) (l : List Spot) → Fill
 variables_fill type [] l = fills_silent [] l silent_none
 variables_fill type (v ∷ vs) l = fills_both (variable_events type v) (each (variable_events type) vs) l (in_each in_variable vs l) (in_variable v (in_each in_variable vs l)) (variable_fills type v (in_each in_variable vs l)) (variables_fill type vs l)
 
+-- a plain type names no class
+type_silent : (s : Tables) (type : TypeName) → PlainType type → Silent (type_events s type)
+type_silent s (type_name.Integer i) p = silent_none
+type_silent s (type_name.Boolean i) p = silent_none
+type_silent s (type_name.Character i) p = silent_none
+type_silent s (type_name.Text i) p = silent_none
+type_silent s (type_name.Reference i class) p = absurd p
+
+result_silent : (s : Tables) (result : Option TypeName) → PlainResult result → Silent (result_events s result)
+result_silent s None p = silent_none
+result_silent s (Some type) p = type_silent s type p
+
 pair_fills : (s : Tables) (b : BoundPair) → PlainBounds b → (l : List Spot) → Fills (pair_events s b) l (in_bounds b l)
 pair_fills s b p l =
     fills_both (required s extent.Bound t.Integer b.lower) (required s extent.Bound t.Integer b.upper) l (in_expression b.upper l) (in_expression b.lower (in_expression b.upper l))
@@ -232,15 +245,22 @@ module _ (s : Tables) where
         fills_both (declaration_events v d) (declarations_events v ds) l (in_declarations ds l) (in_declaration d (in_declarations ds l)) (declaration_fills d p.0 (in_declarations ds l)) (declarations_fill ds p.1 l)
 
     declaration_fills : (d : Declaration) → PlainDeclaration d → (l : List Spot) → Fills (declaration_events (judging s) d) l (in_declaration d l)
-    declaration_fills (Variables type vs) p l = variables_fill type vs l
-    declaration_fills (Arrays type i segments) p l = each_fills PlainSegment (array_events s) in_segment (segment_fills s) segments p.1 l
+    declaration_fills (Variables type vs) p l =
+        let u = in_each in_variable vs l in
+        fills_both (type_events s type) (each (variable_events type) vs) l u u (fills_silent (type_events s type) u (type_silent s type p)) (variables_fill type vs l)
+    declaration_fills (Arrays type i segments) p l =
+        let u = in_each in_segment segments l in
+        fills_both (type_events s type) (each (array_events s) segments) l u u (fills_silent (type_events s type) u (type_silent s type p.0)) (each_fills PlainSegment (array_events s) in_segment (segment_fills s) segments p.1 l)
     declaration_fills (DeclareProcedure result i h a end) p l =
         let v = judging s in
         let u = Behind end ∷ l in
-        fills_more (statement_events v Inside a ++ []) h.name.token.0 l (in_each in_name h.formals (in_statement a u))
+        let m = in_each in_name h.formals (in_statement a u) in
+        fills_both (result_events s result) (statement_events v Inside a ++ []) l (Token h.name.token.0 ∷ m) (Token h.name.token.0 ∷ m)
+        (fills_silent (result_events s result) (Token h.name.token.0 ∷ m) (result_silent s result p.0))
+        (fills_more (statement_events v Inside a ++ []) h.name.token.0 l m
         (fills_names h.formals (statement_events v Inside a ++ []) l (in_statement a u)
         (fills_end (statement_events v Inside a ++ []) end l (in_statement a u)
-        (fills_then (statement_events v Inside a) [] u (in_statement a u) (statement_fills a p.2 u) silent_none)))
+        (fills_then (statement_events v Inside a) [] u (in_statement a u) (statement_fills a p.2 u) silent_none))))
     declaration_fills (DeclareClass prefix i h interface a end) p l = absurd p
 
   whole_fills : (b : Block) → PlainBlock b → (l : List Spot) → Fills (whole_events (judging s) b) l (in_block b l)

@@ -14,8 +14,8 @@ use Rattle.sim_scope.specs.declared.outcome.Outcome.TheVariants as is
 use Rattle.sim_scope.specs.declared.outcome.Parameter.TheVariants as parameter
 use Rattle.sim_scope.specs.declared.scopes.Denotation.{Denotation}
 use Rattle.sim_scope.specs.declared.scopes.Denotation.TheVariants as denotation
-use Rattle.sim_scope.specs.declared.standard.Standard.{Standard}
-use Rattle.sim_scope.specs.declared.standard.Standard.TheVariants as found
+use Rattle.sim_scope.specs.declared.standard.StandardName.{StandardName}
+use Rattle.sim_scope.specs.declared.standard.StandardName.TheVariants as found
 use Rattle.sim_scope.specs.declared.types.Entry.{Entry}
 use Rattle.sim_scope.specs.declared.types.Entry.TheVariants as entry
 use Rattle.sim_scope.specs.declared.types.Formal.{Formal}
@@ -26,13 +26,13 @@ use Rattle.sim_scope.specs.declared.types.Mode.TheVariants as mode
 use Rattle.sim_scope.specs.declared.types.SimType.{SimType}
 use Rattle.sim_scope.specs.declared.types.SimType.TheVariants as t
 use Rattle.sim_scope.specs.Actuals.{formal_or_none, no_actuals, of_formal_procedure, parameter_at, parameter_of}
-use Rattle.sim_scope.specs.Calls.{alone, applied, attribute, attribute_by_value, attribute_found, attribute_of_type, attribute_of_value, bound, declared_alone, declared_applied, element_of, formal_alone, found_as, is_barred, is_inside, is_undotted, misfitting_or, parameter_count, procedure_alone, resulting, standard_applied, typed_if, used, used_or_barred}
+use Rattle.sim_scope.specs.Calls.{alone, applied, attribute, attribute_by_value, attribute_found, attribute_of_type, attribute_of_value, bound, declared_alone, declared_applied, element_of, formal_alone, found_as, is_barred, is_inside, is_undotted, located, misfitting_or, parameter_count, procedure_alone, resulting, standard_applied, typed_if, used, used_in, used_or_barred}
 use Rattle.sim_scope.specs.ClassNames.{is_name_of_classes}
 use Rattle.sim_scope.specs.Found.{Typed}
 use Rattle.sim_scope.specs.Judged.{Judged, gives, next, telling}
 use Rattle.sim_scope.specs.Outcomes.{breaks, call_of, is_stream, side, varies}
 use Rattle.sim_scope.specs.Access.{block_at}
-use Rattle.sim_scope.specs.Scopes.{binding, entry_of, formals_of}
+use Rattle.sim_scope.specs.Scopes.{binding, entry_of, formals_of, found_in}
 use Rattle.sim_scope.specs.Source.{Source, block_of, denoted, type_at}
 use Rattle.sim_scope.specs.Standard.{is_standard_class, signature, sysin_attribute, sysout_attribute, text_attribute}
 use Rattle.sim_tree.specs.declared.expr.Identifier.{Identifier}
@@ -52,8 +52,8 @@ use Rattle.sim_allowed.proofs.Actuals.{AllActuals, AllFit, all_formals, all_inte
 use Rattle.sim_allowed.proofs.Calls.{call_means, declared_call, side_means, standard_call}
 use Rattle.sim_allowed.proofs.Headings.{heading}
 use Rattle.sim_allowed.proofs.Meant.{CallsFor, Means, TypeThere, ValueIs, Varies}
-use Rattle.sim_allowed.proofs.Names.{IsProcedure, NoAttribute, OfTexts, alone_name, alone_no_class, attribute_gives, attribute_no_class, given_by, kinds_of, parameter_kinds, procedure_no_class, standard_gives, standard_left, standard_proper, sysin_name, sysout_name, text_name}
-use Rattle.sim_allowed.proofs.Said.{AllSay, next_says}
+use Rattle.sim_allowed.proofs.Names.{IsProcedure, NoAttribute, OfTexts, alone_name, alone_no_class, alone_proper, attribute_gives, attribute_no_class, attribute_proper, given_by, kinds_of, parameter_kinds, procedure_no_class, procedure_proper, standard_gives, standard_left, sysin_name, sysout_name, text_name}
+use Rattle.sim_allowed.proofs.Said.{AllSay, both_say, next_says}
 
 -- ---- what an identifier denotes
 
@@ -65,7 +65,7 @@ pub record BoundIs (s : Source) (x : Extent) (name : Identifier) (o : Option Den
   pub open_to : is_barred s.tables x name.token.0 denotation ≡ false
 
 pub bound_is : (s : Source) (x : Extent) (name : Identifier) → AllSay s (bound s.tables x name).events → BoundIs s x name (bound s.tables x name).value
-unfolding bound telling
+unfolding bound used_in next telling
 bound_is s x name said = go (binding s.tables name.token.0 name.name) refl said
   where
     barred : (d : Denotation) → binding s.tables name.token.0 name.name ≡ Some d → (b : Bool) → is_barred s.tables x name.token.0 d ≡ b → AllSay s (used_or_barred name.token.0 d b).events → BoundIs s x name (used_or_barred name.token.0 d b).value
@@ -74,10 +74,12 @@ bound_is s x name said = go (binding s.tables name.token.0 name.name) refl said
 
     go : (o : Option Denotation) → binding s.tables name.token.0 name.name ≡ o → AllSay s (found_as s.tables x name.token.0 name.name o).events → BoundIs s x name (found_as s.tables x name.token.0 name.name o).value
     go None e said = absurd said.0
-    go (Some d) e said = barred d e (is_barred s.tables x name.token.0 d) refl said
+    go (Some d) e said =
+        barred d e (is_barred s.tables x name.token.0 d) refl
+        (both_say s (located name.token.0 (found_in s.tables name.token.0 name.name)).events (used_or_barred name.token.0 d (is_barred s.tables x name.token.0 d)).events said).1
 
 -- a standard name that is found alone is no attribute of texts, and none of classes
-pub bound_name : (s : Source) (token : ℕ) (name : List ℕ) (k : Standard) → is_name_of_classes name ≡ false → binding s.tables token name ≡ Some (denotation.Standard k) → NoAttribute k
+pub bound_name : (s : Source) (token : ℕ) (name : List ℕ) (k : StandardName) → is_name_of_classes name ≡ false → binding s.tables token name ≡ Some (denotation.Standard k) → NoAttribute k
 bound_name s token name k plain e = alone_name name k plain (standard_is s.tables token name k e)
 
 -- ---- types of what is named
@@ -101,22 +103,18 @@ no_misfit s (Some f) j said = absurd said.0
 
 -- ---- standard names, alone or behind a dot
 
-no_stream : (name : Standard) → is_stream name ≡ false → stream_named name ≡ None
+no_stream : (name : StandardName) → is_stream name ≡ false → stream_named name ≡ None
 no_stream found.Sysin e = absurd (false≢true (sym e))
 no_stream found.Sysout e = absurd (false≢true (sym e))
 no_stream _ e = refl
 
-is_procedure : (name : Standard) → NoAttribute name → is_stream name ≡ false → IsProcedure name
+is_procedure : (name : StandardName) → NoAttribute name → is_stream name ≡ false → IsProcedure name
 is_procedure found.Sysin a e = absurd (false≢true (sym e))
 is_procedure found.Sysout a e = absurd (false≢true (sym e))
-is_procedure found.Detach a e = absurd a
-is_procedure found.Call a e = absurd a
-is_procedure found.Resume a e = absurd a
-is_procedure found.Simset a e = absurd a
-is_procedure found.Simulation a e = absurd a
-is_procedure name a e = a
+is_procedure (found.Prefix which) a e = absurd a
+is_procedure (found.Procedure x) a e = a
 
-stream_result : (name : Standard) → is_stream name ≡ true → (signature name).result ≡ None
+stream_result : (name : StandardName) → is_stream name ≡ true → (signature name).result ≡ None
 unfolding signature
 stream_result found.Sysin e = refl
 stream_result found.Sysout e = refl
@@ -126,9 +124,9 @@ no_parameters : (first second : Option SimType) → first ≡ None → parameter
 no_parameters None second e = refl
 no_parameters (Some a) second e = absurd (cc)
 
-module _ (s : Source) (from : Option ℕ) (e : Expression) (name : Standard) (naming : ℕ) (texts : is_text s e ≡ is_text_type (type_at s naming)) (stream : stream_of s e ≡ stream_named name) (unowned : own_result s e ≡ None) (no_class : is_standard_class name ≡ false) where
+module _ (s : Source) (from : Option ℕ) (e : Expression) (name : StandardName) (naming : ℕ) (texts : is_text s e ≡ is_text_type (type_at s naming)) (stream : stream_of s e ≡ stream_named name) (unowned : own_result s e ≡ None) (no_class : is_standard_class name ≡ false) (proper : ProperResult (signature name).result) where
   type_there : (o : Outcome) → AllSay s (typed_if naming (signature name).result o).events → is_stream name ≡ false → TypeThere s e (signature name).result
-  type_there o said other = typed_there s e naming (signature name).result o texts (stream ∙ no_stream name other) (standard_proper name) said
+  type_there o said other = typed_there s e naming (signature name).result o texts (stream ∙ no_stream name other) proper said
 
   type_in : (b : Bool) → is_stream name ≡ b → (o : Outcome) → AllSay s (typed_if naming (signature name).result o).events → TypeThere s e (signature name).result
   type_in true is o said = subst (λ z. TypeThere s e z) (sym (stream_result name is)) tt
@@ -416,7 +414,7 @@ from_zero n m e = omega (arith, e)
 nonzero : (n m : ℕ) → n ≡ 0 + suc m → nat_eq n 0 ≡ false
 nonzero n m e = grind (arith, nat_tests, e)
 
-declared_owner : (s : Source) (x : Identifier) (name : Standard) → denoted s x.token.0 ≡ Some (denotation.Standard name) → own_result s (syntax.Named x NoMore) ≡ None
+declared_owner : (s : Source) (x : Identifier) (name : StandardName) → denoted s x.token.0 ≡ Some (denotation.Standard name) → own_result s (syntax.Named x NoMore) ≡ None
 unfolding own_result
 declared_owner s x name says = ap (own_block_denoted s x.token.0) says
 
@@ -436,7 +434,7 @@ module _ (s : Source) (known : Tabled s) (from : Option ℕ) (x : Identifier) (e
           (alone_means s known x d says from t.0 t.1 (known.proper d t.0 t.1) (declared_sees d t.0 binds open_to t.1) (subst (λ z. AllSay s (declared_alone s.tables x.token.0 x d z).events) t.1 said))
       go (denotation.Standard name) says binds open_to said =
           let alone = bound_name s x.token.0 x.name name plain binds in
-          standard_without s from (syntax.Named x NoMore) name x.token.0 refl (ap stream_denoted says) (declared_owner s x name says) (alone_no_class name alone) x.token
+          standard_without s from (syntax.Named x NoMore) name x.token.0 refl (ap stream_denoted says) (declared_owner s x name says) (alone_no_class name alone) (alone_proper name alone) x.token
           (λ other are. standard_call s from x NoMore name says (is_procedure name alone other) are) said
 
   -- with actuals
@@ -467,41 +465,29 @@ module _ (s : Source) (known : Tabled s) (from : Option ℕ) (x : Identifier) (e
           (subst (λ z. AllSay s (declared_applied x.token.0 x.token.0 z (length (formals_of s.tables d)) a).events) t.1 said))
       go (denotation.Standard name) says binds open_to fits said =
           let alone = bound_name s x.token.0 x.name name plain binds in
-          standard_with s from (syntax.Named x (Then first rest)) name x.token.0 refl (ap stream_denoted says) refl (alone_no_class name alone) (Then first rest)
+          standard_with s from (syntax.Named x (Then first rest)) name x.token.0 refl (ap stream_denoted says) refl (alone_no_class name alone) (alone_proper name alone) (Then first rest)
           (λ other are. standard_call s from x (Then first rest) name says (is_procedure name alone other) are) a (from_zero a.count (suc (size rest)) all.count) fits x.token.0 said
 
 -- ---- attributes behind a dot
 
 -- what stands behind the dot: a name of sysin or sysout, or an attribute of a text
 pub record AttributeIs (s : Source) (from : Option ℕ) (a : Expression) (x : Identifier) (o : Option Denotation) : Type 0 where
-  pub name : Standard
+  pub name : StandardName
   pub is : o ≡ Some (denotation.Standard name)
   pub says : denoted s x.token.0 ≡ Some (denotation.Standard name)
   pub of_which : ((image : ℕ) × (stream_of s a ≡ Some image) × IsProcedure name) ⊎ ((stream_of s a ≡ None) × OfTexts name × ExprIs s from a (Simply kind.Text))
 
-procedure_none : (name : Standard) → IsProcedure name → stream_named name ≡ None
-procedure_none found.Sysin p = absurd p
-procedure_none found.Sysout p = absurd p
-procedure_none found.Detach p = absurd p
-procedure_none found.Call p = absurd p
-procedure_none found.Resume p = absurd p
-procedure_none found.Simset p = absurd p
-procedure_none found.Simulation p = absurd p
-procedure_none _ p = refl
+procedure_none : (name : StandardName) → IsProcedure name → stream_named name ≡ None
+procedure_none (found.Procedure x) p = refl
+procedure_none _ p = absurd p
 
-attribute_none : (name : Standard) → OfTexts name → stream_named name ≡ None
-attribute_none found.Sysin p = absurd p
-attribute_none found.Sysout p = absurd p
-attribute_none found.Detach p = absurd p
-attribute_none found.Call p = absurd p
-attribute_none found.Resume p = absurd p
-attribute_none found.Simset p = absurd p
-attribute_none found.Simulation p = absurd p
-attribute_none _ p = refl
+attribute_none : (name : StandardName) → OfTexts name → stream_named name ≡ None
+attribute_none (found.Procedure x) p = refl
+attribute_none _ p = absurd p
 
 module _ (s : Source) (known : Tabled s) (from : Option ℕ) (a : Expression) (e : Extent) (x : Identifier) where
-  found_attribute : (P : Standard → Type 0) → ((name : Standard) → P name → ((image : ℕ) × (stream_of s a ≡ Some image) × IsProcedure name) ⊎ ((stream_of s a ≡ None) × OfTexts name × ExprIs s from a (Simply kind.Text)))
-      → (o : Option Standard) → ((name : Standard) → o ≡ Some name → P name) → AllSay s (attribute_found x o).events → AttributeIs s from a x (attribute_found x o).value
+  found_attribute : (P : StandardName → Type 0) → ((name : StandardName) → P name → ((image : ℕ) × (stream_of s a ≡ Some image) × IsProcedure name) ⊎ ((stream_of s a ≡ None) × OfTexts name × ExprIs s from a (Simply kind.Text)))
+      → (o : Option StandardName) → ((name : StandardName) → o ≡ Some name → P name) → AllSay s (attribute_found x o).events → AttributeIs s from a x (attribute_found x o).value
   unfolding telling
   found_attribute P of_which None all said = absurd said.0
   found_attribute P of_which (Some name) all said = record { name = name; is = refl; says = said.0; of_which = of_which name (all name refl) }
@@ -523,7 +509,7 @@ module _ (s : Source) (known : Tabled s) (from : Option ℕ) (a : Expression) (e
       let y = (side s.tables first o).value in
       subst (λ z. AttributeIs s from a x (attribute_of_type s.tables e x y.first.0 z).value) (sym v.is) (of_text y.first.0 v.ty v.value (subst (λ z. AllSay s (attribute_of_type s.tables e x y.first.0 z).events) v.is parts.1))
 
-  of_stream : (image : ℕ) → stream_of s a ≡ Some image → (name : Standard) → IsProcedure name → ((image : ℕ) × (stream_of s a ≡ Some image) × IsProcedure name) ⊎ ((stream_of s a ≡ None) × OfTexts name × ExprIs s from a (Simply kind.Text))
+  of_stream : (image : ℕ) → stream_of s a ≡ Some image → (name : StandardName) → IsProcedure name → ((image : ℕ) × (stream_of s a ≡ Some image) × IsProcedure name) ⊎ ((stream_of s a ≡ None) × OfTexts name × ExprIs s from a (Simply kind.Text))
   of_stream image e name p = inl (image, e, p)
 
   pub attribute_is : (first : ℕ) (o : Outcome) → Means true s from a o → AllSay s (attribute s.tables e x first o).events → AttributeIs s from a x (attribute s.tables e x first o).value
@@ -560,6 +546,13 @@ module _ (s : Source) (known : Tabled s) (from : Option ℕ) (a : Expression) (e
         go (inl y) = procedure_no_class b.name y.2
         go (inr y) = attribute_no_class b.name y.1
 
+    dot_proper : ProperResult (signature b.name).result
+    dot_proper = go b.of_which
+      where
+        go : ((image : ℕ) × (stream_of s a ≡ Some image) × IsProcedure b.name) ⊎ ((stream_of s a ≡ None) × OfTexts b.name × ExprIs s from a (Simply kind.Text)) → ProperResult (signature b.name).result
+        go (inl y) = procedure_proper b.name y.2
+        go (inr y) = attribute_proper b.name y.1
+
     dot_none : stream_named b.name ≡ None
     dot_none = go b.of_which
       where
@@ -571,7 +564,7 @@ module _ (s : Source) (known : Tabled s) (from : Option ℕ) (a : Expression) (e
     unfolding used alone is_text stream_of own_result
     dot_alone said =
         subst (λ z. Means true s from (syntax.Dot i a x NoMore) (used s.tables i x z no_actuals).value) (sym b.is)
-        (standard_without s from (syntax.Dot i a x NoMore) b.name i refl (sym dot_none) refl dot_no_class x.token (λ other are. dot_call NoMore are) (subst (λ z. AllSay s (used s.tables i x z no_actuals).events) b.is said))
+        (standard_without s from (syntax.Dot i a x NoMore) b.name i refl (sym dot_none) refl dot_no_class dot_proper x.token (λ other are. dot_call NoMore are) (subst (λ z. AllSay s (used s.tables i x z no_actuals).events) b.is said))
 
     pub dot_with : (first : Expression) (rest : Expressions) (y : Actuals) → AllActuals s from o (Then first rest) no_actuals y → AllSay s (used s.tables i x o y).events → Means true s from (syntax.Dot i a x (Then first rest)) (used s.tables i x o y).value
     unfolding used applied is_text stream_of own_result
@@ -579,7 +572,7 @@ module _ (s : Source) (known : Tabled s) (from : Option ℕ) (a : Expression) (e
         subst (λ z. Means true s from (syntax.Dot i a x (Then first rest)) (used s.tables i x z y).value) (sym b.is)
         (subst (λ z. Means true s from (syntax.Dot i a x (Then first rest)) (if z then alone s.tables i x (denotation.Standard b.name) else if y.typed then applied s.tables i x.token.0 (denotation.Standard b.name) y else gives is.Refused).value) (sym counted)
         (subst (λ z. Means true s from (syntax.Dot i a x (Then first rest)) (if z then applied s.tables i x.token.0 (denotation.Standard b.name) y else gives is.Refused).value) (sym typed)
-        (standard_with s from (syntax.Dot i a x (Then first rest)) b.name i refl (sym dot_none) refl dot_no_class (Then first rest) (λ other are. dot_call (Then first rest) are) y (from_zero y.count (suc (size rest)) all.count) (λ h. subst (λ z. AllFit s from z 0 (Then first rest)) b.is (all.fits h).1) x.token.0
+        (standard_with s from (syntax.Dot i a x (Then first rest)) b.name i refl (sym dot_none) refl dot_no_class dot_proper (Then first rest) (λ other are. dot_call (Then first rest) are) y (from_zero y.count (suc (size rest)) all.count) (λ h. subst (λ z. AllFit s from z 0 (Then first rest)) b.is (all.fits h).1) x.token.0
         (subst (λ z. AllSay s (if z then applied s.tables i x.token.0 (denotation.Standard b.name) y else gives is.Refused).events) typed
         (subst (λ z. AllSay s (if z then alone s.tables i x (denotation.Standard b.name) else if y.typed then applied s.tables i x.token.0 (denotation.Standard b.name) y else gives is.Refused).events) counted
         (subst (λ z. AllSay s (used s.tables i x z y).events) b.is said))))))

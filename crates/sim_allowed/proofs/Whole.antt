@@ -1,6 +1,6 @@
 -- An allowed program is typed.
 use Rattle.std.proofs.lemmas.Option.{slice_get_within}
-use Rattle.std.proofs.Common.{◌≡◌, ◌<◌, length, arith, ℕ, Bool, true, false, List, [], ◌∷◌, Option, Some, None, refl, ap, ◌∙◌, subst, if◌then◌else◌}
+use Rattle.std.proofs.Common.{◌≡◌, ◌<◌, length, arith, ℕ, Bool, true, false, List, [], ◌∷◌, ◌++◌, Option, Some, None, refl, ap, ◌∙◌, subst, if◌then◌else◌}
 use Rattle.std.proofs.lemmas.Bool.{false≢true}
 use Rattle.std.specs.Prelude.{slice_get}
 use Rattle.sim_base.specs.declared.numbering.DeclNo.{DeclNo}
@@ -13,7 +13,7 @@ use Rattle.sim_scope.specs.Found.{Broken}
 use Rattle.sim_scope.specs.Runs.{each}
 use Rattle.sim_scope.specs.Scopes.{entry_in, entry_of}
 use Rattle.sim_scope.specs.Source.{Source, block_of, block_of_row}
-use Rattle.sim_scope.specs.Statements.{constant_fits, constant_token, constant_type, has_type, judging, value_fits, value_type, variable_events}
+use Rattle.sim_scope.specs.Statements.{constant_fits, constant_token, constant_type, has_type, judging, type_events, value_fits, value_type, variable_events}
 use Rattle.sim_scope.specs.Walk.{declaration_events, declarations_events, program_events}
 use Rattle.sim_tree.specs.declared.expr.Identifier.{Identifier}
 use Rattle.sim_tree.specs.declared.stmt.Constant.{Constant}
@@ -55,7 +55,8 @@ variable_says s type v (w ∷ vs) (tail o) said = variable_says s type v vs o (b
 declared_says : (s : Source) (type : TypeName) (vs : List Variable) (ds : Declarations) → Lists type vs ds → AllSay s (declarations_events (judging s.tables) ds) → AllSay s (each (variable_events type) vs)
 unfolding judging
 declared_says s type vs NoDeclaration h said = elim h [ ]
-declared_says s type vs (With (Variables t ws) ds) at_first said = (both_say s (each (variable_events type) vs) (declarations_events (judging s.tables) ds) said).0
+declared_says s type vs (With (Variables t ws) ds) at_first said =
+    (both_say s (type_events s.tables type) (each (variable_events type) vs) (both_say s (type_events s.tables type ++ each (variable_events type) vs) (declarations_events (judging s.tables) ds) said).0).1
 declared_says s type vs (With d ds) (further h) said = declared_says s type vs ds h (both_say s (declaration_events (judging s.tables) d) (declarations_events (judging s.tables) ds) said).1
 
 -- its text constants

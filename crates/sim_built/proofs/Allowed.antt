@@ -28,7 +28,7 @@ plain tokens tree s is = subst Plain (sym is.checked.program) (whole tokens tree
 
 tables : (tree : Tree) (s : Source) (tokens : List Token) → IsAllowed tokens tree s → TablesOf s
 tables tree s tokens is =
-    let said = passed (length tree.lines.items) (program_syntax tree) (whole tokens tree is.reads is.class_free is.by_value) s.tables s.uses s.types is.checked.allowed in
+    let said = passed (length tree.lines.items) (program_syntax tree) (whole tokens tree is.reads is.class_free is.by_value) s.tables s.uses s.found_in s.types is.checked.allowed in
     let same = sym is.checked.program in
     record {
       tables = said.tables_are ∙ ap (λ (p : Program). (declared_by p).tables) same;

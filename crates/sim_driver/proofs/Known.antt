@@ -23,7 +23,7 @@ use Rattle.sim_scope.specs.Source.{Source, source_of}
 use Rattle.sim_scope.specs.Tables.{Tables}
 use Rattle.sim_static.specs.Check.{Allowed, Checked, Refused, answer, check_of}
 use Rattle.sim_static.specs.CodeParameters.{passes_code}
-use Rattle.sim_static.specs.NeedsClasses.{needs_from}
+use Rattle.sim_static.specs.NeedsClasses.{needs_classes}
 use Rattle.sim_built.specs.Allowed.{IsAllowed}
 use Rattle.sim_run.specs.RunEnds.{IsRunnable}
 use Rattle.sim_driver.specs.Compiling.{Answers, Bad, BindsAs, BoundCompiles, CheckBinds, CheckRejects, ChecksAs, CheckedCompiles, Compiled, Deep, IsBad, IsDeep, IsParsed, LexedCompiles, Parsed, ParsedCompiles, Rejected, Same, SourceBinds, SourceCompiles, SourceRejects, TokensCompile, TokensReject, TreeBinds, TreeCompiles, TreeCompilesIf, TreeRejects, Whole, lacks_form, source_with, token_line}
@@ -56,16 +56,16 @@ same_checked one tokens p q x y =
     ∙ ap (λ (l : List Line). answer (length l) (program_syntax q)) (x.lines ∙ sym y.lines)
 
 -- they are one program
-abbrev source_by : Program → Tables → List (Option Denotation) → List (Option SimType) → List Line → Source
-source_by program tables uses types lines = record { program = program; tables = tables; uses = uses; types = types; lines = lines }
+abbrev source_by : Program → Tables → List (Option Denotation) → List (Option ℕ) → List (Option SimType) → List Line → Source
+source_by program tables uses found_in types lines = record { program = program; tables = tables; uses = uses; found_in = found_in; types = types; lines = lines }
 
 abbrev SameSource : Tree → Tree → Type 0
-SameSource p q = (tables : Tables) (uses : List (Option Denotation)) (types : List (Option SimType)) → source_with p tables uses types ≡ source_with q tables uses types
+SameSource p q = (tables : Tables) (uses : List (Option Denotation)) (found_in : List (Option ℕ)) (types : List (Option SimType)) → source_with p tables uses found_in types ≡ source_with q tables uses found_in types
 
 same_source : OneSyntax → (tokens : List Token) (p q : Tree) → IsTree tokens p → IsTree tokens q → SameSource p q
-same_source one tokens p q x y tables uses types =
-    ap (λ s. source_by s tables uses types p.lines.items) (one tokens p q x y)
-    ∙ ap (λ (l : List Line). source_by (program_syntax q) tables uses types l) (x.lines ∙ sym y.lines)
+same_source one tokens p q x y tables uses found_in types =
+    ap (λ s. source_by s tables uses found_in types p.lines.items) (one tokens p q x y)
+    ∙ ap (λ (l : List Line). source_by (program_syntax q) tables uses found_in types l) (x.lines ∙ sym y.lines)
 
 -- ---- one thing where the other is
 
@@ -83,7 +83,7 @@ itself A = record { there = λ a. a; back = λ a. a }
 
 move_checked : (command : Command) (tokens : List Token) (p q : Tree) → SameSource p q → (checked : Checked) (c : Compiled) → CheckedCompiles command tokens p checked c → CheckedCompiles command tokens q checked c
 move_checked command tokens p q same (Refused fault) c is = is
-move_checked command tokens p q same (Allowed tables uses types) c is = subst (λ s. BoundCompiles command s c) (same tables uses types) is
+move_checked command tokens p q same (Allowed tables uses found_in types) c is = subst (λ s. BoundCompiles command s c) (same tables uses found_in types) is
 
 move_if : (needs : Bool) (command : Command) (tokens : List Token) (p q : Tree) → SameSource p q → check_of p ≡ check_of q → (c : Compiled) → TreeCompilesIf needs command tokens p c → TreeCompilesIf needs command tokens q c
 move_if true command tokens p q same checked c is = is
@@ -164,14 +164,14 @@ pub lacking_none : (command : Command) (tokens : List Token) (tree : Tree) (lack
 lacking_none command tokens tree lacks is so c = by_equation (λ b. TreeCompilesIf b command tokens tree c) (lacks_form command tokens (program_syntax tree)) false (sym is ∙ so)
 
 -- the program that the static rules allow
-pub bound_checked : (tokens : List Token) (p : Tree) (b : Bound) → b.program ≡ p → check_of p ≡ Allowed b.scopes b.uses.items b.types.items → CheckBinds tokens p (source_of b)
+pub bound_checked : (tokens : List Token) (p : Tree) (b : Bound) → b.program ≡ p → check_of p ≡ Allowed b.scopes b.uses.items b.found_in.items b.types.items → CheckBinds tokens p (source_of b)
 unfolding source_of
 bound_checked tokens p b same allowed command c =
-    same_then (CheckedCompiles command tokens p (check_of p) c) (BoundCompiles command (source_with p b.scopes b.uses.items b.types.items) c) (BoundCompiles command (source_with b.program b.scopes b.uses.items b.types.items) c)
-    (by_equation (λ k. CheckedCompiles command tokens p k c) (check_of p) (Allowed b.scopes b.uses.items b.types.items) allowed)
-    (by_equation (λ (q : Tree). BoundCompiles command (source_with q b.scopes b.uses.items b.types.items) c) p b.program (sym same))
+    same_then (CheckedCompiles command tokens p (check_of p) c) (BoundCompiles command (source_with p b.scopes b.uses.items b.found_in.items b.types.items) c) (BoundCompiles command (source_with b.program b.scopes b.uses.items b.found_in.items b.types.items) c)
+    (by_equation (λ k. CheckedCompiles command tokens p k c) (check_of p) (Allowed b.scopes b.uses.items b.found_in.items b.types.items) allowed)
+    (by_equation (λ (q : Tree). BoundCompiles command (source_with q b.scopes b.uses.items b.found_in.items b.types.items) c) p b.program (sym same))
 
-pub checks_as : (tokens : List Token) (p : Tree) (b : Bound) → b.program ≡ p → check_of p ≡ Allowed b.scopes b.uses.items b.types.items → ChecksAs tokens p (source_of b)
+pub checks_as : (tokens : List Token) (p : Tree) (b : Bound) → b.program ≡ p → check_of p ≡ Allowed b.scopes b.uses.items b.found_in.items b.types.items → ChecksAs tokens p (source_of b)
 unfolding source_of
 checks_as tokens p b same allowed = (
   bound_checked tokens p b same allowed,
@@ -213,8 +213,8 @@ neither false false is = (refl, refl)
 neither false true is = cc is
 neither true b is = cc is
 
-has_none : (command : Command) (tokens : List Token) (p : Program) → lacks_form command tokens p ≡ false → command ≡ Run → (needs_from false tokens ≡ false) × (passes_code p ≡ false)
-has_none Run tokens p none is = neither (needs_from false tokens) (passes_code p) none
+has_none : (command : Command) (tokens : List Token) (p : Program) → lacks_form command tokens p ≡ false → command ≡ Run → (needs_classes tokens ≡ false) × (passes_code p ≡ false)
+has_none Run tokens p none is = neither (needs_classes tokens) (passes_code p) none
 has_none Check tokens p none is = cc is
 
 -- what breaks no rule and has only forms that are built can be run

@@ -20,7 +20,7 @@ use Rattle.sim_tree.specs.Tree.{IsTree, limit}
 use Rattle.sim_tree.specs.declared.program.Program.{Program as Tree}
 use Rattle.sim_static.specs.Check.{Allowed, Checked, Refused, check_of}
 use Rattle.sim_static.specs.CodeParameters.{passes_code}
-use Rattle.sim_static.specs.NeedsClasses.{needs_from}
+use Rattle.sim_static.specs.NeedsClasses.{needs_classes}
 use Rattle.sim_built.specs.Allowed.{IsChecked}
 use Rattle.sim_run.specs.RunEnds.{IsRunnable}
 use Rattle.sim_driver.specs.declared.compiling.Refusal.{Refusal}
@@ -46,18 +46,18 @@ abbrev pub BoundCompiles : Command → Source → Compiled → Type 0
 BoundCompiles Run s compiled = compiled ≡ Runnable s
 BoundCompiles Check s compiled = compiled ≡ Sound
 
--- a tree with its tables, what its identifiers denote and what its expressions are
-abbrev pub source_with : Tree → Tables → (uses : List (Option Denotation)) → (types : List (Option SimType)) → Source
-source_with tree tables uses types = record { program = program_syntax tree; tables = tables; uses = uses; types = types; lines = tree.lines.items }
+-- a tree with its tables, what its identifiers denote and where they are found, and what its expressions are
+abbrev pub source_with : Tree → Tables → (uses : List (Option Denotation)) → (found_in : List (Option ℕ)) → (types : List (Option SimType)) → Source
+source_with tree tables uses found_in types = record { program = program_syntax tree; tables = tables; uses = uses; found_in = found_in; types = types; lines = tree.lines.items }
 
 -- Of a checked tree: the first static rule that it breaks, at the line of the token that is to blame.
 abbrev pub CheckedCompiles : Command → List Token → Tree → Checked → Compiled → Type 0
 CheckedCompiles command tokens tree (Refused fault) compiled = compiled ≡ Rejected fault.rule (token_line tokens fault.token.0)
-CheckedCompiles command tokens tree (Allowed tables uses types) compiled = BoundCompiles command (source_with tree tables uses types) compiled
+CheckedCompiles command tokens tree (Allowed tables uses found_in types) compiled = BoundCompiles command (source_with tree tables uses found_in types) compiled
 
 -- A form that is not built: for `run` what needs classes, a parameter by name and a procedure as a parameter. `check` knows all forms.
 abbrev pub lacks_form : Command → List Token → Program → Bool
-lacks_form Run tokens p = needs_from false tokens || passes_code p
+lacks_form Run tokens p = needs_classes tokens || passes_code p
 lacks_form Check tokens p = false
 
 -- a source with such a form is rejected before the static rules are asked

@@ -6,12 +6,10 @@ ghost use Rattle.sim_tree.specs.Grammar.{is, one_of, signs};
 ghost use Rattle.sim_tree.specs.Reading.{terminal_at};
 ghost use Rattle.sim_tree.specs.declared.terminal.Terminal.TheVariants as t;
 ghost use Rattle.sim_expr_parser.specs.Level.{below_of, level_of, operators_of};
-ghost use Rattle.sim_expr_parser.specs.Parsing.{IsSource};
 ghost use Rattle.sim_expr_parser.specs.Operators.{Follows, NoneFollows};
 
-use crate::cursor::terminal_at_token;
 use crate::level::Level;
-use sim_base::Token;
+use crate::source::Source;
 use sim_tree::Terminal;
 
 /// The operators of one level.
@@ -72,11 +70,11 @@ impl Operators {
 }
 
 /// The operators at a token, if they are those of a level above `reached` and not above `top`.
-pub fn operators_at(tokens: &[Token], at: usize, reached: u32, top: u32) -> Option<Operators>
-    requires { at < length tokens.now }
-    ensures { MatchOption result (NoneFollows tokens.now at reached top) (Follows tokens.now at reached top) }
+pub fn operators_at(source: &Source, at: usize, reached: u32, top: u32) -> Option<Operators>
+    requires { at < length source.now }
+    ensures { MatchOption result (NoneFollows source.now at reached top) (Follows source.now at reached top) }
 {
-    let operators = Operators::of(terminal_at_token(tokens, at))?;
+    let operators = Operators::of(source.terminal_at(at))?;
     let level = operators.operand() + 1;
     if reached < level && level <= top {
         Some(operators)
@@ -86,19 +84,19 @@ pub fn operators_at(tokens: &[Token], at: usize, reached: u32, top: u32) -> Opti
 }
 
 /// Whether `not` stands at a token, and may begin a part of this level.
-pub fn begins_with_not(tokens: &[Token], at: usize, top: u32) -> bool
-    requires { at < length tokens.now }
-    ensures { result ≡ (nat_le 7 top && is (terminal_at tokens.now at) t.Not) }
+pub fn begins_with_not(source: &Source, at: usize, top: u32) -> bool
+    requires { at < length source.now }
+    ensures { result ≡ (nat_le 7 top && is (terminal_at source.now at) t.Not) }
 {
-    top >= 7 && terminal_at_token(tokens, at) == Terminal::Not
+    top >= 7 && source.terminal_at(at) == Terminal::Not
 }
 
 /// Whether a sign stands at a token, and may begin a part of this level.
-pub fn begins_with_sign(tokens: &[Token], at: usize, top: u32) -> bool
-    requires { at < length tokens.now }
-    ensures { result ≡ (nat_le 4 top && one_of signs (terminal_at tokens.now at)) }
+pub fn begins_with_sign(source: &Source, at: usize, top: u32) -> bool
+    requires { at < length source.now }
+    ensures { result ≡ (nat_le 4 top && one_of signs (terminal_at source.now at)) }
 {
-    top >= 4 && is_sign(terminal_at_token(tokens, at))
+    top >= 4 && is_sign(source.terminal_at(at))
 }
 
 fn is_sign(terminal: Terminal) -> bool

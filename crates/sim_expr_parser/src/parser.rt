@@ -12,12 +12,12 @@ ghost use Rattle.sim_expr_parser.specs.declared.operators.Operators.TheVariants 
 ghost use Rattle.sim_expr_parser.specs.Operators.{IsRead, GivesTail};
 ghost use Rattle.sim_expr_parser.specs.Parsing.{IsSource, Answers, GivesBoxed, GivesLevel, GivesNext, GivesRow, GivesTo, GivesList};
 
-use crate::cursor::{constant_at, eat, expect, identifier_at, terminal_at_token, token_no};
 use crate::level::Level;
 use crate::lists::add;
 use crate::operators::{Operators, begins_with_not, begins_with_sign, operators_at};
 use crate::refusal::{Stop, SyntaxRefusal};
 use crate::signs::{leading_sign, membership_at, multiplication_at, relation_at, sign_at};
+use crate::source::Source;
 use sim_base::{Rule, Token, TokenNo};
 use sim_tree::{Expr, Factor, Operand, Selector, Term, Terminal};
 use std::alloc::Global;
@@ -77,15 +77,16 @@ pub fn parse_expr(
     requires shallow { depth ≤ LIMIT }
     ensures { Answers tokens.now depth at result }
 {
-    match expression(alloc, tokens, at, depth) {
+    let source = &Source::new(alloc, tokens);
+    match expression(source, at, depth) {
         Ok(read) => Ok(read),
         Err(Stop::Unexpected(bad)) => Err(SyntaxRefusal::Broken {
             rule: Rule::UnexpectedToken,
-            token: token_no(tokens, bad),
+            token: source.token_no(bad),
         }),
         Err(Stop::TooDeep(deep)) => Err(SyntaxRefusal::Broken {
             rule: Rule::NestedTooDeeply,
-            token: token_no(tokens, deep),
+            token: source.token_no(deep),
         }),
         Err(Stop::Memory) => Err(SyntaxRefusal::Memory),
     }
@@ -93,18 +94,12 @@ pub fn parse_expr(
 
 /// The expression at a token, with the index after it.
 #[cycle(parser)]
-pub fn expression(
-    alloc: Global,
-    tokens: &[Token],
-    at: usize,
-    depth: u32,
-) -> Result<(Expr, usize), Stop>
-    requires source { IsSource tokens.now }
-    requires within { at < length tokens.now }
+pub fn expression(source: &Source, at: usize, depth: u32) -> Result<(Expr, usize), Stop>
+    requires within { at < length source.now }
     requires shallow { depth ≤ LIMIT }
-    ensures { GivesLevel tokens.now depth 14 at result }
+    ensures { GivesLevel source.now depth 14 at result }
 {
-    let terminal = terminal_at_token(tokens, at);
+    let terminal = source.terminal_at(at);
     if terminal != Terminal::If && !begins_simple(terminal) {
         return Err(Stop::Unexpected(at));
     }
@@ -112,32 +107,26 @@ pub fn expression(
         return Err(Stop::TooDeep(at));
     }
     if terminal == Terminal::If {
-        return conditional(alloc, tokens, at, depth);
+        return conditional(source, at, depth);
     }
-    up_to_level(alloc, tokens, at, depth + 1, SIMPLE)
+    up_to_level(source, at, depth + 1, SIMPLE)
 }
 
 // A conditional expression. The depth is that around it.
 #[cycle(parser)]
 #[inline(never)]
-fn conditional(
-    alloc: Global,
-    tokens: &[Token],
-    at: usize,
-    depth: u32,
-) -> Result<(Expr, usize), Stop>
-    requires source { IsSource tokens.now }
-    requires within { at < length tokens.now }
+fn conditional(source: &Source, at: usize, depth: u32) -> Result<(Expr, usize), Stop>
+    requires within { at < length source.now }
     requires shallow { depth < LIMIT }
-    ensures { is (terminal_at tokens.now at) t.If ≡ true → GivesLevel tokens.now depth 14 at result }
+    ensures { is (terminal_at source.now at) t.If ≡ true → GivesLevel source.now depth 14 at result }
 {
-    let token = token_no(tokens, at);
-    let next = expect(tokens, at, Terminal::If)?;
-    let (condition, next) = boxed(alloc, tokens, next, depth + 1)?;
-    let next = expect(tokens, next, Terminal::Then)?;
-    let (first, next) = boxed_up_to_level(alloc, tokens, next, depth + 1, SIMPLE)?;
-    let next = expect(tokens, next, Terminal::Else)?;
-    let (second, end) = boxed(alloc, tokens, next, depth + 1)?;
+    let token = source.token_no(at);
+    let next = source.expect(at, Terminal::If)?;
+    let (condition, next) = boxed(source, next, depth + 1)?;
+    let next = source.expect(next, Terminal::Then)?;
+    let (first, next) = boxed_up_to_level(source, next, depth + 1, SIMPLE)?;
+    let next = source.expect(next, Terminal::Else)?;
+    let (second, end) = boxed(source, next, depth + 1)?;
     Ok((
         Expr::If {
             token,
@@ -152,91 +141,85 @@ fn conditional(
 // An expression in a box of its own, so that no frame above holds it.
 #[cycle(parser)]
 #[inline(never)]
-fn boxed(alloc: Global, tokens: &[Token], at: usize, depth: u32) -> Result<(Box<Expr>, usize), Stop>
-    requires source { IsSource tokens.now }
-    requires within { at < length tokens.now }
+fn boxed(source: &Source, at: usize, depth: u32) -> Result<(Box<Expr>, usize), Stop>
+    requires within { at < length source.now }
     requires shallow { depth ≤ LIMIT }
-    ensures { GivesBoxed tokens.now depth 14 at result }
+    ensures { GivesBoxed source.now depth 14 at result }
 {
-    let (inner, end) = expression(alloc, tokens, at, depth)?;
-    Ok((Box::new(alloc, inner)?, end))
+    let (inner, end) = expression(source, at, depth)?;
+    Ok((Box::new(source.allocator(), inner)?, end))
 }
 
 // The part of a level in a box of its own.
 #[cycle(parser)]
 #[inline(never)]
 fn boxed_up_to_level(
-    alloc: Global,
-    tokens: &[Token],
+    source: &Source,
     at: usize,
     depth: u32,
     top: u32,
 ) -> Result<(Box<Expr>, usize), Stop>
-    requires source { IsSource tokens.now }
-    requires within { at < length tokens.now }
+    requires within { at < length source.now }
     requires shallow { depth ≤ LIMIT }
     requires level { 1 ≤ top }
     requires simple { top ≤ 13 }
-    ensures { GivesBoxed tokens.now depth top at result }
+    ensures { GivesBoxed source.now depth top at result }
 {
-    let (inner, end) = up_to_level(alloc, tokens, at, depth, top)?;
-    Ok((Box::new(alloc, inner)?, end))
+    let (inner, end) = up_to_level(source, at, depth, top)?;
+    Ok((Box::new(source.allocator(), inner)?, end))
 }
 
 // The part of a level at a token: the operand there, raised as far as operators stand behind it.
 #[cycle(parser)]
 #[inline(never)]
-fn up_to_level(
-    alloc: Global,
-    tokens: &[Token],
-    at: usize,
-    depth: u32,
-    top: u32,
-) -> Result<(Expr, usize), Stop>
-    requires source { IsSource tokens.now }
-    requires within { at < length tokens.now }
+fn up_to_level(source: &Source, at: usize, depth: u32, top: u32) -> Result<(Expr, usize), Stop>
+    requires within { at < length source.now }
     requires shallow { depth ≤ LIMIT }
     requires level { 1 ≤ top }
     requires simple { top ≤ 13 }
-    ensures { GivesLevel tokens.now depth top at result }
+    ensures { GivesLevel source.now depth top at result }
 {
-    if begins_with_not(tokens, at, top) {
-        let (negated, next) = negation(alloc, tokens, at, depth)?;
-        return raised(alloc, tokens, next, depth, negated, NEGATION, top);
+    if begins_with_not(source, at, top) {
+        let (negated, next) = negation(source, at, depth)?;
+        return raised(source, next, depth, negated, NEGATION, top);
     }
-    if begins_with_sign(tokens, at, top) {
-        let (sum, next) = signed_sum(alloc, tokens, at, depth)?;
-        return raised(alloc, tokens, next, depth, sum, SUM, top);
+    if begins_with_sign(source, at, top) {
+        let (sum, next) = signed_sum(source, at, depth)?;
+        return raised(source, next, depth, sum, SUM, top);
     }
-    let (operand, next) = postfix(alloc, tokens, at, depth)?;
-    raised(alloc, tokens, next, depth, operand, POSTFIX, top)
+    let (operand, next) = postfix(source, at, depth)?;
+    raised(source, next, depth, operand, POSTFIX, top)
 }
 
 // An operand that was read before a token, raised level by level as far as operators stand there.
 #[cycle(parser)]
 #[inline(never)]
 fn raised(
-    alloc: Global,
-    tokens: &[Token],
+    source: &Source,
     start: usize,
     depth: u32,
     operand: Expr,
     level: u32,
     top: u32,
 ) -> Result<(Expr, usize), Stop>
-    requires source { IsSource tokens.now }
-    requires within { start < length tokens.now }
+    requires within { start < length source.now }
     requires shallow { depth ≤ LIMIT }
     requires level { 1 ≤ level }
     requires low { level ≤ top }
     requires simple { top ≤ 13 }
-    ensures { (i : ℕ) → IsRead tokens.now depth i level top operand start → GivesLevel tokens.now depth top i result }
+    ensures { (i : ℕ) → IsRead source.now depth i level top operand start → GivesLevel source.now depth top i result }
 {
     let mut at = start;
     let mut reached = level;
     let mut first = operand;
-    while let Some(operators) = operators_at(tokens, at, reached, top) {
-        let (whole, end) = extended(alloc, tokens, at, depth, operators, Box::new(alloc, first)?)?;
+    while let Some(operators) = operators_at(source, at, reached, top) {
+        let (whole, end) = extended(
+            source,
+            at,
+            depth,
+            operators,
+            Box::new(source.allocator(), first)?,
+        )?;
         first = whole;
         reached = operators.operand() + 1;
         at = end;
@@ -248,22 +231,20 @@ fn raised(
 #[cycle(parser)]
 #[inline(never)]
 fn extended(
-    alloc: Global,
-    tokens: &[Token],
+    source: &Source,
     at: usize,
     depth: u32,
     operators: Operators,
     first: Box<Expr>,
 ) -> Result<(Expr, usize), Stop>
-    requires source { IsSource tokens.now }
-    requires within { at < length tokens.now }
+    requires within { at < length source.now }
     requires shallow { depth ≤ LIMIT }
-    ensures { operators_of (terminal_at tokens.now at) ≡ Some operators → GivesTail tokens.now depth at operators first.value result }
+    ensures { operators_of (terminal_at source.now at) ≡ Some operators → GivesTail source.now depth at operators first.value result }
 {
     match operators {
-        Operators::Relations => relation(alloc, tokens, at, depth, first),
+        Operators::Relations => relation(source, at, depth, first),
         Operators::Signs => {
-            let (terms, end) = terms(alloc, tokens, at, depth)?;
+            let (terms, end) = terms(source, at, depth)?;
             Ok((
                 Expr::Sum {
                     sign: None,
@@ -274,7 +255,7 @@ fn extended(
             ))
         }
         Operators::Multiplications => {
-            let (factors, end) = factors(alloc, tokens, at, depth)?;
+            let (factors, end) = factors(source, at, depth)?;
             Ok((
                 Expr::Product {
                     first,
@@ -284,7 +265,7 @@ fn extended(
             ))
         }
         Operators::Single(level) => {
-            let (operands, end) = operands(alloc, tokens, at, depth, level)?;
+            let (operands, end) = operands(source, at, depth, level)?;
             Ok((level.node(first, operands), end))
         }
     }
@@ -293,22 +274,20 @@ fn extended(
 // Each operator of a level with its operand.
 #[cycle(parser)]
 fn operands(
-    alloc: Global,
-    tokens: &[Token],
+    source: &Source,
     start: usize,
     depth: u32,
     level: Level,
 ) -> Result<(Vec<Operand>, usize), Stop>
-    requires source { IsSource tokens.now }
-    requires within { start < length tokens.now }
+    requires within { start < length source.now }
     requires shallow { depth ≤ LIMIT }
-    ensures { GivesRow tokens.now depth (many level) start (λ v. map (λ o. item (under level) (word_kind level) (operand_shown o)) v.items) result }
+    ensures { GivesRow source.now depth (many level) start (λ v. map (λ o. item (under level) (word_kind level) (operand_shown o)) v.items) result }
 {
     let mut at = start;
-    let mut rest = Vec::new(alloc);
-    while let Some(next) = eat(tokens, at, level.operator()) {
-        let (operand, end) = up_to_level(alloc, tokens, next, depth, level.operand())?;
-        let token = token_no(tokens, at);
+    let mut rest = Vec::new(source.allocator());
+    while let Some(next) = source.eat(at, level.operator()) {
+        let (operand, end) = up_to_level(source, next, depth, level.operand())?;
+        let token = source.token_no(at);
         add(&mut rest, Operand { token, operand })?;
         at = end;
     }
@@ -316,15 +295,14 @@ fn operands(
 }
 
 // Each `not` in front of a relation.
-fn not_marks(alloc: Global, tokens: &[Token], start: usize) -> Result<(Vec<TokenNo>, usize), Stop>
-    requires source { IsSource tokens.now }
-    requires within { start < length tokens.now }
-    ensures { (d : ℕ) → GivesRow tokens.now d g.NotSign start (λ v. map not_mark v.items) result }
+fn not_marks(source: &Source, start: usize) -> Result<(Vec<TokenNo>, usize), Stop>
+    requires within { start < length source.now }
+    ensures { (d : ℕ) → GivesRow source.now d g.NotSign start (λ v. map not_mark v.items) result }
 {
     let mut at = start;
-    let mut marks = Vec::new(alloc);
-    while let Some(next) = eat(tokens, at, Terminal::Not) {
-        marks.push(token_no(tokens, at))?;
+    let mut marks = Vec::new(source.allocator());
+    while let Some(next) = source.eat(at, Terminal::Not) {
+        marks.push(source.token_no(at))?;
         at = next;
     }
     Ok((marks, at))
@@ -333,14 +311,13 @@ fn not_marks(alloc: Global, tokens: &[Token], start: usize) -> Result<(Vec<Token
 // What `not` begins: a relation behind each `not`.
 #[cycle(parser)]
 #[inline(never)]
-fn negation(alloc: Global, tokens: &[Token], at: usize, depth: u32) -> Result<(Expr, usize), Stop>
-    requires source { IsSource tokens.now }
-    requires within { at < length tokens.now }
+fn negation(source: &Source, at: usize, depth: u32) -> Result<(Expr, usize), Stop>
+    requires within { at < length source.now }
     requires shallow { depth ≤ LIMIT }
-    ensures { is (terminal_at tokens.now at) t.Not ≡ true → GivesLevel tokens.now depth 7 at result }
+    ensures { is (terminal_at source.now at) t.Not ≡ true → GivesLevel source.now depth 7 at result }
 {
-    let (marks, next) = not_marks(alloc, tokens, at)?;
-    let (operand, end) = boxed_up_to_level(alloc, tokens, next, depth, RELATION)?;
+    let (marks, next) = not_marks(source, at)?;
+    let (operand, end) = boxed_up_to_level(source, next, depth, RELATION)?;
     Ok((
         Expr::Not {
             tokens: marks,
@@ -353,21 +330,14 @@ fn negation(alloc: Global, tokens: &[Token], at: usize, depth: u32) -> Result<(E
 // A relation or a test of a class behind its left side.
 #[cycle(parser)]
 #[inline(never)]
-fn relation(
-    alloc: Global,
-    tokens: &[Token],
-    at: usize,
-    depth: u32,
-    left: Box<Expr>,
-) -> Result<(Expr, usize), Stop>
-    requires source { IsSource tokens.now }
-    requires within { at < length tokens.now }
+fn relation(source: &Source, at: usize, depth: u32, left: Box<Expr>) -> Result<(Expr, usize), Stop>
+    requires within { at < length source.now }
     requires shallow { depth ≤ LIMIT }
-    ensures { operators_of (terminal_at tokens.now at) ≡ Some spec_operators.Relations → GivesTail tokens.now depth at spec_operators.Relations left.value result }
+    ensures { operators_of (terminal_at source.now at) ≡ Some spec_operators.Relations → GivesTail source.now depth at spec_operators.Relations left.value result }
 {
-    let token = token_no(tokens, at);
-    if let Some((membership, next)) = membership_at(tokens, at) {
-        let (class, end) = identifier_at(alloc, tokens, next)?;
+    let token = source.token_no(at);
+    if let Some((membership, next)) = membership_at(source, at) {
+        let (class, end) = source.identifier_at(next)?;
         let object = left;
         return Ok((
             Expr::Member {
@@ -379,10 +349,10 @@ fn relation(
             end,
         ));
     }
-    let Some((relation, next)) = relation_at(tokens, at) else {
+    let Some((relation, next)) = relation_at(source, at) else {
         return Err(Stop::Unexpected(at));
     };
-    let (right, end) = boxed_up_to_level(alloc, tokens, next, depth, CONCATENATION)?;
+    let (right, end) = boxed_up_to_level(source, next, depth, CONCATENATION)?;
     Ok((
         Expr::Related {
             left,
@@ -397,36 +367,29 @@ fn relation(
 // What a sign begins: a sum.
 #[cycle(parser)]
 #[inline(never)]
-fn signed_sum(alloc: Global, tokens: &[Token], at: usize, depth: u32) -> Result<(Expr, usize), Stop>
-    requires source { IsSource tokens.now }
-    requires within { at < length tokens.now }
+fn signed_sum(source: &Source, at: usize, depth: u32) -> Result<(Expr, usize), Stop>
+    requires within { at < length source.now }
     requires shallow { depth ≤ LIMIT }
-    ensures { one_of signs (terminal_at tokens.now at) ≡ true → GivesLevel tokens.now depth 4 at result }
+    ensures { one_of signs (terminal_at source.now at) ≡ true → GivesLevel source.now depth 4 at result }
 {
-    let (sign, start) = leading_sign(tokens, at);
-    let (first, next) = boxed_up_to_level(alloc, tokens, start, depth, TERM)?;
-    let (rest, end) = terms(alloc, tokens, next, depth)?;
+    let (sign, start) = leading_sign(source, at);
+    let (first, next) = boxed_up_to_level(source, start, depth, TERM)?;
+    let (rest, end) = terms(source, next, depth)?;
     Ok((Expr::Sum { sign, first, rest }, end))
 }
 
 // Each sign with its term.
 #[cycle(parser)]
-fn terms(
-    alloc: Global,
-    tokens: &[Token],
-    start: usize,
-    depth: u32,
-) -> Result<(Vec<Term>, usize), Stop>
-    requires source { IsSource tokens.now }
-    requires within { start < length tokens.now }
+fn terms(source: &Source, start: usize, depth: u32) -> Result<(Vec<Term>, usize), Stop>
+    requires within { start < length source.now }
     requires shallow { depth ≤ LIMIT }
-    ensures { GivesRow tokens.now depth g.NextTerm start (λ v. map term_shown v.items) result }
+    ensures { GivesRow source.now depth g.NextTerm start (λ v. map term_shown v.items) result }
 {
     let mut at = start;
-    let mut rest = Vec::new(alloc);
-    while let Some((sign, next)) = sign_at(tokens, at) {
-        let (term, end) = up_to_level(alloc, tokens, next, depth, TERM)?;
-        let token = token_no(tokens, at);
+    let mut rest = Vec::new(source.allocator());
+    while let Some((sign, next)) = sign_at(source, at) {
+        let (term, end) = up_to_level(source, next, depth, TERM)?;
+        let token = source.token_no(at);
         add(&mut rest, Term { token, sign, term })?;
         at = end;
     }
@@ -435,22 +398,16 @@ fn terms(
 
 // Each operator with its factor.
 #[cycle(parser)]
-fn factors(
-    alloc: Global,
-    tokens: &[Token],
-    start: usize,
-    depth: u32,
-) -> Result<(Vec<Factor>, usize), Stop>
-    requires source { IsSource tokens.now }
-    requires within { start < length tokens.now }
+fn factors(source: &Source, start: usize, depth: u32) -> Result<(Vec<Factor>, usize), Stop>
+    requires within { start < length source.now }
     requires shallow { depth ≤ LIMIT }
-    ensures { GivesRow tokens.now depth g.NextFactor start (λ v. map factor_shown v.items) result }
+    ensures { GivesRow source.now depth g.NextFactor start (λ v. map factor_shown v.items) result }
 {
     let mut at = start;
-    let mut rest = Vec::new(alloc);
-    while let Some((operator, next)) = multiplication_at(tokens, at) {
-        let (factor, end) = up_to_level(alloc, tokens, next, depth, FACTOR)?;
-        let token = token_no(tokens, at);
+    let mut rest = Vec::new(source.allocator());
+    while let Some((operator, next)) = multiplication_at(source, at) {
+        let (factor, end) = up_to_level(source, next, depth, FACTOR)?;
+        let token = source.token_no(at);
         let item = Factor {
             token,
             operator,
@@ -464,42 +421,30 @@ fn factors(
 
 /// The operand at a token: a primary, and what is taken of it.
 #[cycle(parser)]
-pub fn postfix(
-    alloc: Global,
-    tokens: &[Token],
-    at: usize,
-    depth: u32,
-) -> Result<(Expr, usize), Stop>
-    requires source { IsSource tokens.now }
-    requires within { at < length tokens.now }
+pub fn postfix(source: &Source, at: usize, depth: u32) -> Result<(Expr, usize), Stop>
+    requires within { at < length source.now }
     requires shallow { depth ≤ LIMIT }
-    ensures { GivesLevel tokens.now depth 1 at result }
+    ensures { GivesLevel source.now depth 1 at result }
 {
-    let (first, next) = primary(alloc, tokens, at, depth)?;
-    let (rest, end) = selectors(alloc, tokens, next, depth)?;
+    let (first, next) = primary(source, at, depth)?;
+    let (rest, end) = selectors(source, next, depth)?;
     if rest.is_empty() {
         return Ok((first, end));
     }
-    let primary = Box::new(alloc, first)?;
+    let primary = Box::new(source.allocator(), first)?;
     Ok((Expr::Postfix { primary, rest }, end))
 }
 
 /// What is taken of an object, from its first dot or `qua` on.
 #[cycle(parser)]
-pub fn selectors(
-    alloc: Global,
-    tokens: &[Token],
-    start: usize,
-    depth: u32,
-) -> Result<(Vec<Selector>, usize), Stop>
-    requires source { IsSource tokens.now }
-    requires within { start < length tokens.now }
+pub fn selectors(source: &Source, start: usize, depth: u32) -> Result<(Vec<Selector>, usize), Stop>
+    requires within { start < length source.now }
     requires shallow { depth ≤ LIMIT }
-    ensures { GivesRow tokens.now depth g.Selection start (λ v. map selector_shown v.items) result }
+    ensures { GivesRow source.now depth g.Selection start (λ v. map selector_shown v.items) result }
 {
     let mut at = start;
-    let mut rest = Vec::new(alloc);
-    while let Some((taken, end)) = selector(alloc, tokens, at, depth)? {
+    let mut rest = Vec::new(source.allocator());
+    while let Some((taken, end)) = selector(source, at, depth)? {
         add(&mut rest, taken)?;
         at = end;
     }
@@ -507,21 +452,15 @@ pub fn selectors(
 }
 
 #[cycle(parser)]
-fn selector(
-    alloc: Global,
-    tokens: &[Token],
-    at: usize,
-    depth: u32,
-) -> Result<Option<(Selector, usize)>, Stop>
-    requires source { IsSource tokens.now }
-    requires within { at < length tokens.now }
+fn selector(source: &Source, at: usize, depth: u32) -> Result<Option<(Selector, usize)>, Stop>
+    requires within { at < length source.now }
     requires shallow { depth ≤ LIMIT }
-    ensures { GivesNext tokens.now depth g.Selection at selector_shown result }
+    ensures { GivesNext source.now depth g.Selection at selector_shown result }
 {
-    let token = token_no(tokens, at);
-    if let Some(next) = eat(tokens, at, Terminal::Dot) {
-        let (name, next) = identifier_at(alloc, tokens, next)?;
-        let (arguments, end) = arguments(alloc, tokens, next, depth)?;
+    let token = source.token_no(at);
+    if let Some(next) = source.eat(at, Terminal::Dot) {
+        let (name, next) = source.identifier_at(next)?;
+        let (arguments, end) = arguments(source, next, depth)?;
         return Ok(Some((
             Selector::Dot {
                 token,
@@ -531,90 +470,80 @@ fn selector(
             end,
         )));
     }
-    let Some(next) = eat(tokens, at, Terminal::Qua) else {
+    let Some(next) = source.eat(at, Terminal::Qua) else {
         return Ok(None);
     };
-    let (class, end) = identifier_at(alloc, tokens, next)?;
+    let (class, end) = source.identifier_at(next)?;
     Ok(Some((Selector::Qua { token, class }, end)))
 }
 
 #[cycle(parser)]
-fn primary(alloc: Global, tokens: &[Token], at: usize, depth: u32) -> Result<(Expr, usize), Stop>
-    requires source { IsSource tokens.now }
-    requires within { at < length tokens.now }
+fn primary(source: &Source, at: usize, depth: u32) -> Result<(Expr, usize), Stop>
+    requires within { at < length source.now }
     requires shallow { depth ≤ LIMIT }
-    ensures { GivesLevel tokens.now depth 0 at result }
+    ensures { GivesLevel source.now depth 0 at result }
 {
-    match terminal_at_token(tokens, at) {
-        Terminal::Identifier => named(alloc, tokens, at, depth),
-        Terminal::Open => parentheses(alloc, tokens, at, depth),
-        Terminal::This => local_object(alloc, tokens, at),
-        Terminal::New => generator(alloc, tokens, at, depth),
-        _ => constant_at(alloc, tokens, at),
+    match source.terminal_at(at) {
+        Terminal::Identifier => named(source, at, depth),
+        Terminal::Open => parentheses(source, at, depth),
+        Terminal::This => local_object(source, at),
+        Terminal::New => generator(source, at, depth),
+        _ => source.constant_at(at),
     }
 }
 
 // An identifier with its actual parameters or subscripts.
 #[cycle(parser)]
 #[inline(never)]
-fn named(alloc: Global, tokens: &[Token], at: usize, depth: u32) -> Result<(Expr, usize), Stop>
-    requires source { IsSource tokens.now }
-    requires within { at < length tokens.now }
+fn named(source: &Source, at: usize, depth: u32) -> Result<(Expr, usize), Stop>
+    requires within { at < length source.now }
     requires shallow { depth ≤ LIMIT }
-    ensures { is (terminal_at tokens.now at) t.Identifier ≡ true → GivesLevel tokens.now depth 0 at result }
+    ensures { is (terminal_at source.now at) t.Identifier ≡ true → GivesLevel source.now depth 0 at result }
 {
-    let (name, next) = identifier_at(alloc, tokens, at)?;
-    let (arguments, end) = arguments(alloc, tokens, next, depth)?;
+    let (name, next) = source.identifier_at(at)?;
+    let (arguments, end) = arguments(source, next, depth)?;
     Ok((Expr::Named { name, arguments }, end))
 }
 
 // An expression in parentheses.
 #[cycle(parser)]
 #[inline(never)]
-fn parentheses(
-    alloc: Global,
-    tokens: &[Token],
-    at: usize,
-    depth: u32,
-) -> Result<(Expr, usize), Stop>
-    requires source { IsSource tokens.now }
-    requires within { at < length tokens.now }
+fn parentheses(source: &Source, at: usize, depth: u32) -> Result<(Expr, usize), Stop>
+    requires within { at < length source.now }
     requires shallow { depth ≤ LIMIT }
-    ensures { is (terminal_at tokens.now at) t.Open ≡ true → GivesLevel tokens.now depth 0 at result }
+    ensures { is (terminal_at source.now at) t.Open ≡ true → GivesLevel source.now depth 0 at result }
 {
-    let token = token_no(tokens, at);
-    let next = expect(tokens, at, Terminal::Open)?;
-    let (inner, next) = boxed(alloc, tokens, next, depth)?;
-    let end = expect(tokens, next, Terminal::Close)?;
+    let token = source.token_no(at);
+    let next = source.expect(at, Terminal::Open)?;
+    let (inner, next) = boxed(source, next, depth)?;
+    let end = source.expect(next, Terminal::Close)?;
     Ok((Expr::Parentheses { token, inner }, end))
 }
 
 // `this` and a class.
 #[inline(never)]
-fn local_object(alloc: Global, tokens: &[Token], at: usize) -> Result<(Expr, usize), Stop>
-    requires source { IsSource tokens.now }
-    requires within { at < length tokens.now }
-    ensures { (d : ℕ) → is (terminal_at tokens.now at) t.This ≡ true → GivesLevel tokens.now d 0 at result }
+fn local_object(source: &Source, at: usize) -> Result<(Expr, usize), Stop>
+    requires within { at < length source.now }
+    ensures { (d : ℕ) → is (terminal_at source.now at) t.This ≡ true → GivesLevel source.now d 0 at result }
 {
-    let token = token_no(tokens, at);
-    let next = expect(tokens, at, Terminal::This)?;
-    let (class, end) = identifier_at(alloc, tokens, next)?;
+    let token = source.token_no(at);
+    let next = source.expect(at, Terminal::This)?;
+    let (class, end) = source.identifier_at(next)?;
     Ok((Expr::This { token, class }, end))
 }
 
 // `new`, a class and its actual parameters.
 #[cycle(parser)]
 #[inline(never)]
-fn generator(alloc: Global, tokens: &[Token], at: usize, depth: u32) -> Result<(Expr, usize), Stop>
-    requires source { IsSource tokens.now }
-    requires within { at < length tokens.now }
+fn generator(source: &Source, at: usize, depth: u32) -> Result<(Expr, usize), Stop>
+    requires within { at < length source.now }
     requires shallow { depth ≤ LIMIT }
-    ensures { is (terminal_at tokens.now at) t.New ≡ true → GivesLevel tokens.now depth 0 at result }
+    ensures { is (terminal_at source.now at) t.New ≡ true → GivesLevel source.now depth 0 at result }
 {
-    let token = token_no(tokens, at);
-    let next = expect(tokens, at, Terminal::New)?;
-    let (class, next) = identifier_at(alloc, tokens, next)?;
-    let (arguments, end) = arguments(alloc, tokens, next, depth)?;
+    let token = source.token_no(at);
+    let next = source.expect(at, Terminal::New)?;
+    let (class, next) = source.identifier_at(next)?;
+    let (arguments, end) = arguments(source, next, depth)?;
     Ok((
         Expr::New {
             token,
@@ -627,43 +556,31 @@ fn generator(alloc: Global, tokens: &[Token], at: usize, depth: u32) -> Result<(
 
 /// The actual parameters or subscripts at a token, none where it is no parenthesis, with the index after them.
 #[cycle(parser)]
-pub fn arguments(
-    alloc: Global,
-    tokens: &[Token],
-    at: usize,
-    depth: u32,
-) -> Result<(Vec<Expr>, usize), Stop>
-    requires source { IsSource tokens.now }
-    requires within { at < length tokens.now }
+pub fn arguments(source: &Source, at: usize, depth: u32) -> Result<(Vec<Expr>, usize), Stop>
+    requires within { at < length source.now }
     requires shallow { depth ≤ LIMIT }
-    ensures { GivesTo tokens.now depth (Of Maybe g.Arguments) at (λ v. arguments_shown (map shown v.items)) result }
+    ensures { GivesTo source.now depth (Of Maybe g.Arguments) at (λ v. arguments_shown (map shown v.items)) result }
 {
-    let Some(next) = eat(tokens, at, Terminal::Open) else {
-        return Ok((Vec::new(alloc), at));
+    let Some(next) = source.eat(at, Terminal::Open) else {
+        return Ok((Vec::new(source.allocator()), at));
     };
-    let (list, next) = argument_list(alloc, tokens, next, depth)?;
-    let end = expect(tokens, next, Terminal::Close)?;
+    let (list, next) = argument_list(source, next, depth)?;
+    let end = source.expect(next, Terminal::Close)?;
     Ok((list, end))
 }
 
 // Expressions with commas between them, at least one.
 #[cycle(parser)]
-fn argument_list(
-    alloc: Global,
-    tokens: &[Token],
-    start: usize,
-    depth: u32,
-) -> Result<(Vec<Expr>, usize), Stop>
-    requires source { IsSource tokens.now }
-    requires within { start < length tokens.now }
+fn argument_list(source: &Source, start: usize, depth: u32) -> Result<(Vec<Expr>, usize), Stop>
+    requires within { start < length source.now }
     requires shallow { depth ≤ LIMIT }
-    ensures { GivesList tokens.now depth start result }
+    ensures { GivesList source.now depth start result }
 {
-    let mut list = Vec::new(alloc);
-    let (first, mut at) = expression(alloc, tokens, start, depth)?;
+    let mut list = Vec::new(source.allocator());
+    let (first, mut at) = expression(source, start, depth)?;
     add(&mut list, first)?;
-    while let Some(next) = eat(tokens, at, Terminal::Comma) {
-        let (argument, end) = expression(alloc, tokens, next, depth)?;
+    while let Some(next) = source.eat(at, Terminal::Comma) {
+        let (argument, end) = expression(source, next, depth)?;
         add(&mut list, argument)?;
         at = end;
     }

@@ -6,61 +6,56 @@ ghost use Rattle.sim_tree.specs.Grammar.{one_of, relations, signs};
 ghost use Rattle.sim_tree.specs.Reading.{terminal_at};
 ghost use Rattle.sim_tree.specs.Terminal.{terminal_of};
 ghost use Rattle.sim_tree.specs.Shown.{sign_kind, multiplication_kind, relation_kind, membership_kind};
-ghost use Rattle.sim_expr_parser.specs.Parsing.{IsSource, Took, GivesSign, multiplications, tests};
+ghost use Rattle.sim_expr_parser.specs.Parsing.{Took, GivesSign, multiplications, tests};
 
-use crate::cursor::{eat, terminal_at_token, token_no};
-use sim_base::Token;
+use crate::source::Source;
 use sim_tree::{LeadingSign, Membership, Multiplication, Relation, Sign, Terminal};
 
 /// The sign at a token, and the index after it.
-pub fn sign_at(tokens: &[Token], at: usize) -> Option<(Sign, usize)>
-    requires source { IsSource tokens.now }
-    requires within { at < length tokens.now }
-    ensures { MatchOption result (one_of signs (terminal_at tokens.now at) ≡ false) (λ r. Took tokens.now at signs (sign_kind r.0) r.1) }
+pub fn sign_at(source: &Source, at: usize) -> Option<(Sign, usize)>
+    requires within { at < length source.now }
+    ensures { MatchOption result (one_of signs (terminal_at source.now at) ≡ false) (λ r. Took source.now at signs (sign_kind r.0) r.1) }
 {
-    if let Some(next) = eat(tokens, at, Terminal::Plus) {
+    if let Some(next) = source.eat(at, Terminal::Plus) {
         return Some((Sign::Plus, next));
     }
-    let next = eat(tokens, at, Terminal::Minus)?;
+    let next = source.eat(at, Terminal::Minus)?;
     Some((Sign::Minus, next))
 }
 
 /// The sign in front of a sum, and the index after it, which is the same one where there is none.
-pub fn leading_sign(tokens: &[Token], at: usize) -> (Option<LeadingSign>, usize)
-    requires source { IsSource tokens.now }
-    requires within { at < length tokens.now }
-    ensures { GivesSign tokens.now at result.0 result.1 }
+pub fn leading_sign(source: &Source, at: usize) -> (Option<LeadingSign>, usize)
+    requires within { at < length source.now }
+    ensures { GivesSign source.now at result.0 result.1 }
 {
-    let token = token_no(tokens, at);
-    match sign_at(tokens, at) {
+    let token = source.token_no(at);
+    match sign_at(source, at) {
         Some((sign, next)) => (Some(LeadingSign { token, sign }), next),
         None => (None, at),
     }
 }
 
 /// The operator of a product at a token, and the index after it.
-pub fn multiplication_at(tokens: &[Token], at: usize) -> Option<(Multiplication, usize)>
-    requires source { IsSource tokens.now }
-    requires within { at < length tokens.now }
-    ensures { MatchOption result (one_of multiplications (terminal_at tokens.now at) ≡ false) (λ r. Took tokens.now at multiplications (multiplication_kind r.0) r.1) }
+pub fn multiplication_at(source: &Source, at: usize) -> Option<(Multiplication, usize)>
+    requires within { at < length source.now }
+    ensures { MatchOption result (one_of multiplications (terminal_at source.now at) ≡ false) (λ r. Took source.now at multiplications (multiplication_kind r.0) r.1) }
 {
-    if let Some(next) = eat(tokens, at, Terminal::Times) {
+    if let Some(next) = source.eat(at, Terminal::Times) {
         return Some((Multiplication::Times, next));
     }
-    let next = eat(tokens, at, Terminal::Divide)?;
+    let next = source.eat(at, Terminal::Divide)?;
     Some((Multiplication::Divide, next))
 }
 
 /// The test of a class at a token, and the index after it.
-pub fn membership_at(tokens: &[Token], at: usize) -> Option<(Membership, usize)>
-    requires source { IsSource tokens.now }
-    requires within { at < length tokens.now }
-    ensures { MatchOption result (one_of tests (terminal_at tokens.now at) ≡ false) (λ r. Took tokens.now at tests (membership_kind r.0) r.1) }
+pub fn membership_at(source: &Source, at: usize) -> Option<(Membership, usize)>
+    requires within { at < length source.now }
+    ensures { MatchOption result (one_of tests (terminal_at source.now at) ≡ false) (λ r. Took source.now at tests (membership_kind r.0) r.1) }
 {
-    if let Some(next) = eat(tokens, at, Terminal::Is) {
+    if let Some(next) = source.eat(at, Terminal::Is) {
         return Some((Membership::Is, next));
     }
-    let next = eat(tokens, at, Terminal::In)?;
+    let next = source.eat(at, Terminal::In)?;
     Some((Membership::In, next))
 }
 
@@ -82,12 +77,11 @@ fn relation_of(terminal: Terminal) -> Option<Relation>
 }
 
 /// The relation at a token, and the index after it.
-pub fn relation_at(tokens: &[Token], at: usize) -> Option<(Relation, usize)>
-    requires source { IsSource tokens.now }
-    requires within { at < length tokens.now }
-    ensures { MatchOption result (one_of relations (terminal_at tokens.now at) ≡ false) (λ r. Took tokens.now at relations (relation_kind r.0) r.1) }
+pub fn relation_at(source: &Source, at: usize) -> Option<(Relation, usize)>
+    requires within { at < length source.now }
+    ensures { MatchOption result (one_of relations (terminal_at source.now at) ≡ false) (λ r. Took source.now at relations (relation_kind r.0) r.1) }
 {
-    let terminal = terminal_at_token(tokens, at);
+    let terminal = source.terminal_at(at);
     let relation = relation_of(terminal)?;
-    Some((relation, eat(tokens, at, terminal)?))
+    Some((relation, source.eat(at, terminal)?))
 }

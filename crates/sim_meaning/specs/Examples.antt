@@ -46,7 +46,7 @@ uses_of n tables (x ∷ xs) = replicate (gap x.0 n) None ++ binding tables x.0 x
     gap (suc m) (suc n) = gap m n
 
 abbrev pub with_tables : List Line → List (ℕ × List ℕ) → Program → Tables → Source
-with_tables lines uses program tables = record { program = program; tables = tables; uses = uses_of 0 tables uses; types = []; lines = lines }
+with_tables lines uses program tables = record { program = program; tables = tables; uses = uses_of 0 tables uses; found_in = []; types = []; lines = lines }
 
 abbrev pub source : List (ℕ × ℕ) → List (ℕ × List ℕ) → Block → Source
 source lines uses block =

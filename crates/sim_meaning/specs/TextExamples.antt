@@ -4,7 +4,7 @@ use Rattle.sim_base.specs.declared.limits.Limits.{Limits}
 use Rattle.sim_base.specs.declared.run_error.RunError.TheVariants.{InputAtEnd, IntegerOverflow, TextIsConstant, TextTooLong}
 use Rattle.sim_scope.specs.declared.scopes.Denotation.{Denotation}
 use Rattle.sim_scope.specs.declared.scopes.Denotation.TheVariants as denotation
-use Rattle.sim_scope.specs.declared.standard.Standard.{Standard}
+use Rattle.sim_scope.specs.declared.standard.StandardName.{StandardName}
 use Rattle.sim_scope.specs.declared.types.SimType.{SimType}
 use Rattle.sim_scope.specs.declared.types.SimType.TheVariants as t
 use Rattle.sim_scope.specs.Declare.{declared_by}
@@ -39,7 +39,7 @@ pub record Use : Type 0 where
 abbrev pub at : ℕ → Where → List ℕ → Use
 at token where_it_is name = record { token = token; where_it_is = where_it_is; name = name }
 
-abbrev pub attribute : Option Standard → Option Denotation
+abbrev pub attribute : Option StandardName → Option Denotation
 attribute None = None
 attribute (Some name) = Some (denotation.Standard name)
 
@@ -69,7 +69,7 @@ abbrev pub source_with_texts : List (ℕ × ℕ) → List Use → (texts : List 
 source_with_texts lines uses texts block =
     let program : Program = record { prefix = None; block = block } in
     let tables : Tables = (declared_by program).tables in
-    record { program = program; tables = tables; uses = uses_of 0 tables uses; types = types_of 0 texts; lines = lines_of lines }
+    record { program = program; tables = tables; uses = uses_of 0 tables uses; found_in = []; types = types_of 0 texts; lines = lines_of lines }
 
 -- begin integer i; i := 1;
 -- if i = 1 then begin outtext("yes") end of the first part

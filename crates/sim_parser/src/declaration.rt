@@ -5,33 +5,25 @@ ghost use Rattle.std.specs.Prelude.{◌≡◌, ◌≤◌, ◌<◌, ℕ, List, []
 ghost use Rattle.sim_tree.specs.Grammar as g;
 ghost use Rattle.sim_tree.specs.Grammar.{Of, Once, Many};
 ghost use Rattle.sim_tree.specs.ShownProgram.{bounds_shown, constant_shown, dimensions, segment_shown, segments_shown, variable_shown, variables_shown};
-ghost use Rattle.sim_expr_parser.specs.Parsing.{IsSource, GivesTo};
+ghost use Rattle.sim_expr_parser.specs.Parsing.{GivesTo};
 ghost use Rattle.sim_parser.specs.Dimensions.{GivesDimensions};
 ghost use Rattle.sim_parser.specs.Parsing.{GivesAll, GivesPart};
 
 use crate::names::identifiers;
-use sim_base::{Token, TokenKind};
-use sim_expr_parser::{
-    LIMIT, Stop, add, eat, expect, expression, identifier_at, leading_sign, token_no,
-};
+use sim_base::TokenKind;
+use sim_expr_parser::{LIMIT, Source, Stop, add, expression, leading_sign};
 use sim_tree::{ArraySegment, Bounds, Constant, Terminal, Variable};
-use std::alloc::Global;
 
 /// The variables and constants of a type, at least one, with commas between them, and the index after them.
-pub fn variables(
-    alloc: Global,
-    tokens: &[Token],
-    start: usize,
-) -> Result<(Vec<Variable>, usize), Stop>
-    requires source { IsSource tokens.now }
-    requires within { start < length tokens.now }
-    ensures { (d : ℕ) → GivesAll tokens.now d (Of Once g.Variable ∷ Of Many g.NextVariable ∷ []) start (λ v. variables_shown v.items) result }
+pub fn variables(source: &Source, start: usize) -> Result<(Vec<Variable>, usize), Stop>
+    requires within { start < length source.now }
+    ensures { (d : ℕ) → GivesAll source.now d (Of Once g.Variable ∷ Of Many g.NextVariable ∷ []) start (λ v. variables_shown v.items) result }
 {
-    let mut list = Vec::new(alloc);
-    let (first, mut at) = variable(alloc, tokens, start)?;
+    let mut list = Vec::new(source.allocator());
+    let (first, mut at) = variable(source, start)?;
     add(&mut list, first)?;
-    while let Some(next) = eat(tokens, at, Terminal::Comma) {
-        let (variable, end) = variable(alloc, tokens, next)?;
+    while let Some(next) = source.eat(at, Terminal::Comma) {
+        let (variable, end) = variable(source, next)?;
         add(&mut list, variable)?;
         at = end;
     }
@@ -39,28 +31,27 @@ pub fn variables(
 }
 
 // A variable, or a constant.
-fn variable(alloc: Global, tokens: &[Token], at: usize) -> Result<(Variable, usize), Stop>
-    requires source { IsSource tokens.now }
-    requires within { at < length tokens.now }
-    ensures { (d : ℕ) → GivesPart tokens.now d g.Variable at variable_shown result }
+fn variable(source: &Source, at: usize) -> Result<(Variable, usize), Stop>
+    requires within { at < length source.now }
+    ensures { (d : ℕ) → GivesPart source.now d g.Variable at variable_shown result }
 {
-    let (name, next) = identifier_at(alloc, tokens, at)?;
-    let Some(next) = eat(tokens, next, Terminal::Equal) else {
+    let (name, next) = source.identifier_at(at)?;
+    let Some(next) = source.eat(next, Terminal::Equal) else {
         return Ok((Variable { name, value: None }, next));
     };
-    let (constant, end) = constant(alloc, tokens, next)?;
+    let (constant, end) = constant(source, next)?;
     let value = Some(constant);
     Ok((Variable { name, value }, end))
 }
 
 // The value of a constant.
-fn constant(alloc: Global, tokens: &[Token], at: usize) -> Result<(Constant, usize), Stop>
-    requires source { IsSource tokens.now }
-    requires within { at < length tokens.now }
-    ensures { (d : ℕ) → GivesPart tokens.now d g.Constant at constant_shown result }
+fn constant(source: &Source, at: usize) -> Result<(Constant, usize), Stop>
+    requires within { at < length source.now }
+    ensures { (d : ℕ) → GivesPart source.now d g.Constant at constant_shown result }
 {
-    let (sign, next) = leading_sign(tokens, at);
-    let token = token_no(tokens, next);
+    let (sign, next) = leading_sign(source, at);
+    let token = source.token_no(next);
+    let tokens = source.tokens();
     if let TokenKind::Integer(value) = &tokens[next].kind {
         let value = *value;
         return Ok((Constant::Integer { sign, token, value }, next + 1));
@@ -75,7 +66,7 @@ fn constant(alloc: Global, tokens: &[Token], at: usize) -> Result<(Constant, usi
         },
         TokenKind::Text(value) => Constant::Text {
             token,
-            value: value.copy(alloc)?,
+            value: value.copy(source.allocator())?,
         },
         TokenKind::True => Constant::True { token },
         TokenKind::False => Constant::False { token },
@@ -86,21 +77,19 @@ fn constant(alloc: Global, tokens: &[Token], at: usize) -> Result<(Constant, usi
 
 /// The arrays of a type, at least one segment, with commas between them, and the index after them.
 pub fn segments(
-    alloc: Global,
-    tokens: &[Token],
+    source: &Source,
     start: usize,
     depth: u32,
 ) -> Result<(Vec<ArraySegment>, usize), Stop>
-    requires source { IsSource tokens.now }
-    requires within { start < length tokens.now }
+    requires within { start < length source.now }
     requires shallow { depth ≤ LIMIT }
-    ensures { GivesAll tokens.now depth (Of Once g.ArraySegment ∷ Of Many g.NextArraySegment ∷ []) start (λ v. segments_shown v.items) result }
+    ensures { GivesAll source.now depth (Of Once g.ArraySegment ∷ Of Many g.NextArraySegment ∷ []) start (λ v. segments_shown v.items) result }
 {
-    let mut list = Vec::new(alloc);
-    let (first, mut at) = segment(alloc, tokens, start, depth)?;
+    let mut list = Vec::new(source.allocator());
+    let (first, mut at) = segment(source, start, depth)?;
     add(&mut list, first)?;
-    while let Some(next) = eat(tokens, at, Terminal::Comma) {
-        let (segment, end) = segment(alloc, tokens, next, depth)?;
+    while let Some(next) = source.eat(at, Terminal::Comma) {
+        let (segment, end) = segment(source, next, depth)?;
         add(&mut list, segment)?;
         at = end;
     }
@@ -108,41 +97,29 @@ pub fn segments(
 }
 
 // Arrays with the same bounds.
-fn segment(
-    alloc: Global,
-    tokens: &[Token],
-    at: usize,
-    depth: u32,
-) -> Result<(ArraySegment, usize), Stop>
-    requires source { IsSource tokens.now }
-    requires within { at < length tokens.now }
+fn segment(source: &Source, at: usize, depth: u32) -> Result<(ArraySegment, usize), Stop>
+    requires within { at < length source.now }
     requires shallow { depth ≤ LIMIT }
-    ensures { GivesPart tokens.now depth g.ArraySegment at segment_shown result }
+    ensures { GivesPart source.now depth g.ArraySegment at segment_shown result }
 {
-    let (names, next) = identifiers(alloc, tokens, at)?;
-    let next = expect(tokens, next, Terminal::Open)?;
-    let (bounds, next) = bounds_list(alloc, tokens, next, depth)?;
-    let end = expect(tokens, next, Terminal::Close)?;
+    let (names, next) = identifiers(source, at)?;
+    let next = source.expect(next, Terminal::Open)?;
+    let (bounds, next) = bounds_list(source, next, depth)?;
+    let end = source.expect(next, Terminal::Close)?;
     Ok((ArraySegment { names, bounds }, end))
 }
 
 // The bounds of each dimension, at least one.
-fn bounds_list(
-    alloc: Global,
-    tokens: &[Token],
-    start: usize,
-    depth: u32,
-) -> Result<(Vec<Bounds>, usize), Stop>
-    requires source { IsSource tokens.now }
-    requires within { start < length tokens.now }
+fn bounds_list(source: &Source, start: usize, depth: u32) -> Result<(Vec<Bounds>, usize), Stop>
+    requires within { start < length source.now }
     requires shallow { depth ≤ LIMIT }
-    ensures { GivesDimensions tokens.now depth start result }
+    ensures { GivesDimensions source.now depth start result }
 {
-    let mut list = Vec::new(alloc);
-    let (first, mut at) = bounds(alloc, tokens, start, depth)?;
+    let mut list = Vec::new(source.allocator());
+    let (first, mut at) = bounds(source, start, depth)?;
     add(&mut list, first)?;
-    while let Some(next) = eat(tokens, at, Terminal::Comma) {
-        let (bounds, end) = bounds(alloc, tokens, next, depth)?;
+    while let Some(next) = source.eat(at, Terminal::Comma) {
+        let (bounds, end) = bounds(source, next, depth)?;
         add(&mut list, bounds)?;
         at = end;
     }
@@ -150,14 +127,13 @@ fn bounds_list(
 }
 
 // The bounds of a dimension.
-fn bounds(alloc: Global, tokens: &[Token], at: usize, depth: u32) -> Result<(Bounds, usize), Stop>
-    requires source { IsSource tokens.now }
-    requires within { at < length tokens.now }
+fn bounds(source: &Source, at: usize, depth: u32) -> Result<(Bounds, usize), Stop>
+    requires within { at < length source.now }
     requires shallow { depth ≤ LIMIT }
-    ensures { GivesPart tokens.now depth g.Bounds at bounds_shown result }
+    ensures { GivesPart source.now depth g.Bounds at bounds_shown result }
 {
-    let (lower, next) = expression(alloc, tokens, at, depth)?;
-    let next = expect(tokens, next, Terminal::Colon)?;
-    let (upper, end) = expression(alloc, tokens, next, depth)?;
+    let (lower, next) = expression(source, at, depth)?;
+    let next = source.expect(next, Terminal::Colon)?;
+    let (upper, end) = expression(source, next, depth)?;
     Ok((Bounds { lower, upper }, end))
 }

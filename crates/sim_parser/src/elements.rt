@@ -5,14 +5,12 @@ ghost use Rattle.std.specs.Prelude.{◌≡◌, ◌≤◌, ◌<◌, ℕ, List, []
 ghost use Rattle.sim_tree.specs.Grammar as g;
 ghost use Rattle.sim_tree.specs.Grammar.{Of, Once, Many};
 ghost use Rattle.sim_tree.specs.ShownProgram.{for_element_shown, for_elements as for_elements_shown, reference_element_shown, reference_elements as reference_elements_shown};
-ghost use Rattle.sim_expr_parser.specs.Parsing.{IsSource};
 ghost use Rattle.sim_parser.specs.Parsing.{GivesAll, GivesPart};
 ghost use Rattle.sim_parser.specs.Elements.{for_list_shown};
 
-use sim_base::{Token, TokenNo};
-use sim_expr_parser::{LIMIT, Stop, add, eat, expect, expression, token_no};
+use sim_base::TokenNo;
+use sim_expr_parser::{LIMIT, Source, Stop, add, expression};
 use sim_tree::{ForElement, ReferenceElement, Terminal};
-use std::alloc::Global;
 
 /// The sign and the elements of a `for` list.
 #[derive(Drop)]
@@ -30,44 +28,32 @@ pub enum ForList {
 }
 
 /// The `for` list at its sign, and the index after it.
-pub fn for_list(
-    alloc: Global,
-    tokens: &[Token],
-    at: usize,
-    depth: u32,
-) -> Result<(ForList, usize), Stop>
-    requires source { IsSource tokens.now }
-    requires within { at < length tokens.now }
+pub fn for_list(source: &Source, at: usize, depth: u32) -> Result<(ForList, usize), Stop>
+    requires within { at < length source.now }
     requires shallow { depth ≤ LIMIT }
-    ensures { GivesPart tokens.now depth g.ForList at for_list_shown result }
+    ensures { GivesPart source.now depth g.ForList at for_list_shown result }
 {
-    let sign = token_no(tokens, at);
-    if let Some(next) = eat(tokens, at, Terminal::Assign) {
-        let (elements, end) = for_elements(alloc, tokens, next, depth)?;
+    let sign = source.token_no(at);
+    if let Some(next) = source.eat(at, Terminal::Assign) {
+        let (elements, end) = for_elements(source, next, depth)?;
         return Ok((ForList::Values { sign, elements }, end));
     }
-    let next = expect(tokens, at, Terminal::AssignReference)?;
-    let (elements, end) = reference_elements(alloc, tokens, next, depth)?;
+    let next = source.expect(at, Terminal::AssignReference)?;
+    let (elements, end) = reference_elements(source, next, depth)?;
     Ok((ForList::References { sign, elements }, end))
 }
 
 // The elements over values, at least one.
-fn for_elements(
-    alloc: Global,
-    tokens: &[Token],
-    start: usize,
-    depth: u32,
-) -> Result<(Vec<ForElement>, usize), Stop>
-    requires source { IsSource tokens.now }
-    requires within { start < length tokens.now }
+fn for_elements(source: &Source, start: usize, depth: u32) -> Result<(Vec<ForElement>, usize), Stop>
+    requires within { start < length source.now }
     requires shallow { depth ≤ LIMIT }
-    ensures { GivesAll tokens.now depth (Of Once g.ForElement ∷ Of Many g.NextForElement ∷ []) start (λ v. for_elements_shown v.items) result }
+    ensures { GivesAll source.now depth (Of Once g.ForElement ∷ Of Many g.NextForElement ∷ []) start (λ v. for_elements_shown v.items) result }
 {
-    let mut list = Vec::new(alloc);
-    let (first, mut at) = for_element(alloc, tokens, start, depth)?;
+    let mut list = Vec::new(source.allocator());
+    let (first, mut at) = for_element(source, start, depth)?;
     add(&mut list, first)?;
-    while let Some(next) = eat(tokens, at, Terminal::Comma) {
-        let (element, end) = for_element(alloc, tokens, next, depth)?;
+    while let Some(next) = source.eat(at, Terminal::Comma) {
+        let (element, end) = for_element(source, next, depth)?;
         add(&mut list, element)?;
         at = end;
     }
@@ -75,23 +61,17 @@ fn for_elements(
 }
 
 // An element over values.
-fn for_element(
-    alloc: Global,
-    tokens: &[Token],
-    at: usize,
-    depth: u32,
-) -> Result<(ForElement, usize), Stop>
-    requires source { IsSource tokens.now }
-    requires within { at < length tokens.now }
+fn for_element(source: &Source, at: usize, depth: u32) -> Result<(ForElement, usize), Stop>
+    requires within { at < length source.now }
     requires shallow { depth ≤ LIMIT }
-    ensures { GivesPart tokens.now depth g.ForElement at for_element_shown result }
+    ensures { GivesPart source.now depth g.ForElement at for_element_shown result }
 {
-    let (value, next) = expression(alloc, tokens, at, depth)?;
-    let token = token_no(tokens, next);
-    if let Some(next) = eat(tokens, next, Terminal::Step) {
-        let (step, next) = expression(alloc, tokens, next, depth)?;
-        let next = expect(tokens, next, Terminal::Until)?;
-        let (limit, end) = expression(alloc, tokens, next, depth)?;
+    let (value, next) = expression(source, at, depth)?;
+    let token = source.token_no(next);
+    if let Some(next) = source.eat(next, Terminal::Step) {
+        let (step, next) = expression(source, next, depth)?;
+        let next = source.expect(next, Terminal::Until)?;
+        let (limit, end) = expression(source, next, depth)?;
         let start = value;
         return Ok((
             ForElement::Step {
@@ -103,10 +83,10 @@ fn for_element(
             end,
         ));
     }
-    let Some(next) = eat(tokens, next, Terminal::While) else {
+    let Some(next) = source.eat(next, Terminal::While) else {
         return Ok((ForElement::Value { value }, next));
     };
-    let (condition, end) = expression(alloc, tokens, next, depth)?;
+    let (condition, end) = expression(source, next, depth)?;
     Ok((
         ForElement::While {
             value,
@@ -119,21 +99,19 @@ fn for_element(
 
 // The elements over references, at least one.
 fn reference_elements(
-    alloc: Global,
-    tokens: &[Token],
+    source: &Source,
     start: usize,
     depth: u32,
 ) -> Result<(Vec<ReferenceElement>, usize), Stop>
-    requires source { IsSource tokens.now }
-    requires within { start < length tokens.now }
+    requires within { start < length source.now }
     requires shallow { depth ≤ LIMIT }
-    ensures { GivesAll tokens.now depth (Of Once g.ReferenceElement ∷ Of Many g.NextReferenceElement ∷ []) start (λ v. reference_elements_shown v.items) result }
+    ensures { GivesAll source.now depth (Of Once g.ReferenceElement ∷ Of Many g.NextReferenceElement ∷ []) start (λ v. reference_elements_shown v.items) result }
 {
-    let mut list = Vec::new(alloc);
-    let (first, mut at) = reference_element(alloc, tokens, start, depth)?;
+    let mut list = Vec::new(source.allocator());
+    let (first, mut at) = reference_element(source, start, depth)?;
     add(&mut list, first)?;
-    while let Some(next) = eat(tokens, at, Terminal::Comma) {
-        let (element, end) = reference_element(alloc, tokens, next, depth)?;
+    while let Some(next) = source.eat(at, Terminal::Comma) {
+        let (element, end) = reference_element(source, next, depth)?;
         add(&mut list, element)?;
         at = end;
     }
@@ -142,22 +120,20 @@ fn reference_elements(
 
 // An element over references.
 fn reference_element(
-    alloc: Global,
-    tokens: &[Token],
+    source: &Source,
     at: usize,
     depth: u32,
 ) -> Result<(ReferenceElement, usize), Stop>
-    requires source { IsSource tokens.now }
-    requires within { at < length tokens.now }
+    requires within { at < length source.now }
     requires shallow { depth ≤ LIMIT }
-    ensures { GivesPart tokens.now depth g.ReferenceElement at reference_element_shown result }
+    ensures { GivesPart source.now depth g.ReferenceElement at reference_element_shown result }
 {
-    let (value, next) = expression(alloc, tokens, at, depth)?;
-    let token = token_no(tokens, next);
-    let Some(next) = eat(tokens, next, Terminal::While) else {
+    let (value, next) = expression(source, at, depth)?;
+    let token = source.token_no(next);
+    let Some(next) = source.eat(next, Terminal::While) else {
         return Ok((ReferenceElement::Value { value }, next));
     };
-    let (condition, end) = expression(alloc, tokens, next, depth)?;
+    let (condition, end) = expression(source, next, depth)?;
     Ok((
         ReferenceElement::While {
             value,

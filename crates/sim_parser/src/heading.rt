@@ -7,19 +7,18 @@ ghost use Rattle.sim_tree.specs.Grammar as g;
 ghost use Rattle.sim_tree.specs.Grammar.{Kept, Maybe, Of, is, just, one_of, right_side};
 ghost use Rattle.sim_tree.specs.Reading.{terminal_at};
 ghost use Rattle.sim_tree.specs.ShownProgram.{heading_shown, mode_kind, mode_shown, protecting, protection_shown, specification_shown, specifier_shown, typed, virtual_shown, virtuals_shown};
-ghost use Rattle.sim_expr_parser.specs.Parsing.{IsSource, GivesRow, GivesTo, Took};
+ghost use Rattle.sim_expr_parser.specs.Parsing.{GivesRow, GivesTo, Took};
 ghost use Rattle.sim_parser.specs.Fronts.{GivesFront, GivesSome, GivesWord, ReadsFront, begins_specification as specification_spec, modes, names_row};
 ghost use Rattle.sim_parser.specs.Parsing.{GivesPart};
 
 use crate::names::{identifiers, type_name};
 use crate::words::begins_type;
-use sim_base::{Token, TokenNo};
-use sim_expr_parser::{Stop, eat, expect, terminal_at_token, token_no};
+use sim_base::TokenNo;
+use sim_expr_parser::{Source, Stop};
 use sim_tree::{
     Identifier, Mode, ModePart, Protection, Specification, Specifier, Terminal, TypeName,
     VirtualSpecification,
 };
-use std::alloc::Global;
 
 /// The formal parameters of a procedure or class, with what is written of them.
 #[derive(Drop)]
@@ -33,27 +32,26 @@ pub struct Heading {
 }
 
 /// The heading behind the identifier of a procedure or class, and the index after it.
-pub fn heading_at(alloc: Global, tokens: &[Token], at: usize) -> Result<(Heading, usize), Stop>
-    requires source { IsSource tokens.now }
-    requires within { at < length tokens.now }
-    ensures { (d : ℕ) → GivesPart tokens.now d g.Heading at (λ h. heading_shown h.parameters.items h.modes.items h.specifications.items) result }
+pub fn heading_at(source: &Source, at: usize) -> Result<(Heading, usize), Stop>
+    requires within { at < length source.now }
+    ensures { (d : ℕ) → GivesPart source.now d g.Heading at (λ h. heading_shown h.parameters.items h.modes.items h.specifications.items) result }
 {
-    if let Some(end) = eat(tokens, at, Terminal::Semicolon) {
+    if let Some(end) = source.eat(at, Terminal::Semicolon) {
         return Ok((
             Heading {
-                parameters: Vec::new(alloc),
-                modes: Vec::new(alloc),
-                specifications: Vec::new(alloc),
+                parameters: Vec::new(source.allocator()),
+                modes: Vec::new(source.allocator()),
+                specifications: Vec::new(source.allocator()),
             },
             end,
         ));
     }
-    let next = expect(tokens, at, Terminal::Open)?;
-    let (parameters, next) = identifiers(alloc, tokens, next)?;
-    let next = expect(tokens, next, Terminal::Close)?;
-    let next = expect(tokens, next, Terminal::Semicolon)?;
-    let (modes, next) = mode_parts(alloc, tokens, next)?;
-    let (specifications, end) = specifications(alloc, tokens, next)?;
+    let next = source.expect(at, Terminal::Open)?;
+    let (parameters, next) = identifiers(source, next)?;
+    let next = source.expect(next, Terminal::Close)?;
+    let next = source.expect(next, Terminal::Semicolon)?;
+    let (modes, next) = mode_parts(source, next)?;
+    let (specifications, end) = specifications(source, next)?;
     Ok((
         Heading {
             parameters,
@@ -65,30 +63,28 @@ pub fn heading_at(alloc: Global, tokens: &[Token], at: usize) -> Result<(Heading
 }
 
 // The mode at a token, if one stands there, and the index after it.
-fn mode_at(tokens: &[Token], at: usize) -> Option<(Mode, usize)>
-    requires source { IsSource tokens.now }
-    requires within { at < length tokens.now }
-    ensures { MatchOption result (one_of modes (terminal_at tokens.now at) ≡ false) (λ r. Took tokens.now at modes (mode_kind r.0) r.1) }
+fn mode_at(source: &Source, at: usize) -> Option<(Mode, usize)>
+    requires within { at < length source.now }
+    ensures { MatchOption result (one_of modes (terminal_at source.now at) ≡ false) (λ r. Took source.now at modes (mode_kind r.0) r.1) }
 {
-    if let Some(next) = eat(tokens, at, Terminal::Value) {
+    if let Some(next) = source.eat(at, Terminal::Value) {
         return Some((Mode::Value, next));
     }
-    let next = eat(tokens, at, Terminal::Name)?;
+    let next = source.eat(at, Terminal::Name)?;
     Some((Mode::Name, next))
 }
 
 // Each mode with its parameters.
-fn mode_parts(alloc: Global, tokens: &[Token], start: usize) -> Result<(Vec<ModePart>, usize), Stop>
-    requires source { IsSource tokens.now }
-    requires within { start < length tokens.now }
-    ensures { (d : ℕ) → GivesRow tokens.now d g.Mode start (λ v. map mode_shown v.items) result }
+fn mode_parts(source: &Source, start: usize) -> Result<(Vec<ModePart>, usize), Stop>
+    requires within { start < length source.now }
+    ensures { (d : ℕ) → GivesRow source.now d g.Mode start (λ v. map mode_shown v.items) result }
 {
     let mut at = start;
-    let mut parts = Vec::new(alloc);
-    while let Some((mode, next)) = mode_at(tokens, at) {
-        let (names, next) = identifiers(alloc, tokens, next)?;
-        let end = expect(tokens, next, Terminal::Semicolon)?;
-        let token = token_no(tokens, at);
+    let mut parts = Vec::new(source.allocator());
+    while let Some((mode, next)) = mode_at(source, at) {
+        let (names, next) = identifiers(source, next)?;
+        let end = source.expect(next, Terminal::Semicolon)?;
+        let token = source.token_no(at);
         parts.push(ModePart { token, mode, names })?;
         at = end;
     }
@@ -103,46 +99,39 @@ fn begins_specification(terminal: Terminal) -> bool
 }
 
 // The specifications, at least one.
-fn specifications(
-    alloc: Global,
-    tokens: &[Token],
-    start: usize,
-) -> Result<(Vec<Specification>, usize), Stop>
-    requires source { IsSource tokens.now }
-    requires within { start < length tokens.now }
-    ensures { (d : ℕ) → GivesSome tokens.now d g.Specification start specification_shown result }
+fn specifications(source: &Source, start: usize) -> Result<(Vec<Specification>, usize), Stop>
+    requires within { start < length source.now }
+    ensures { (d : ℕ) → GivesSome source.now d g.Specification start specification_shown result }
 {
-    let mut list = Vec::new(alloc);
-    let (first, mut at) = specification(alloc, tokens, start)?;
+    let mut list = Vec::new(source.allocator());
+    let (first, mut at) = specification(source, start)?;
     list.push(first)?;
-    while begins_specification(terminal_at_token(tokens, at)) {
-        let (next, end) = specification(alloc, tokens, at)?;
+    while begins_specification(source.terminal_at(at)) {
+        let (next, end) = specification(source, at)?;
         list.push(next)?;
         at = end;
     }
     Ok((list, at))
 }
 
-fn specification(alloc: Global, tokens: &[Token], at: usize) -> Result<(Specification, usize), Stop>
-    requires source { IsSource tokens.now }
-    requires within { at < length tokens.now }
-    ensures gives { (d : ℕ) → GivesPart tokens.now d g.Specification at specification_shown result }
+fn specification(source: &Source, at: usize) -> Result<(Specification, usize), Stop>
+    requires within { at < length source.now }
+    ensures gives { (d : ℕ) → GivesPart source.now d g.Specification at specification_shown result }
     ensures ahead { IfOk result (λ r. at < r.1) }
 {
-    let (specifier, next) = specifier(alloc, tokens, at)?;
-    let (names, next) = identifiers(alloc, tokens, next)?;
-    let end = expect(tokens, next, Terminal::Semicolon)?;
+    let (specifier, next) = specifier(source, at)?;
+    let (names, next) = identifiers(source, next)?;
+    let end = source.expect(next, Terminal::Semicolon)?;
     Ok((Specification { specifier, names }, end))
 }
 
 // What parameters are specified as.
-fn specifier(alloc: Global, tokens: &[Token], at: usize) -> Result<(Specifier, usize), Stop>
-    requires source { IsSource tokens.now }
-    requires within { at < length tokens.now }
-    ensures { (d : ℕ) → GivesFront tokens.now d g.Specification at specifier_shown names_row result }
+fn specifier(source: &Source, at: usize) -> Result<(Specifier, usize), Stop>
+    requires within { at < length source.now }
+    ensures { (d : ℕ) → GivesFront source.now d g.Specification at specifier_shown names_row result }
 {
-    let token = token_no(tokens, at);
-    if let Some(next) = eat(tokens, at, Terminal::Procedure) {
+    let token = source.token_no(at);
+    if let Some(next) = source.eat(at, Terminal::Procedure) {
         return Ok((
             Specifier::Procedure {
                 result: None,
@@ -151,12 +140,12 @@ fn specifier(alloc: Global, tokens: &[Token], at: usize) -> Result<(Specifier, u
             next,
         ));
     }
-    let (element, next) = type_name(alloc, tokens, at)?;
-    let token = token_no(tokens, next);
-    if let Some(end) = eat(tokens, next, Terminal::Array) {
+    let (element, next) = type_name(source, at)?;
+    let token = source.token_no(next);
+    if let Some(end) = source.eat(next, Terminal::Array) {
         return Ok((Specifier::Array { element, token }, end));
     }
-    if let Some(end) = eat(tokens, next, Terminal::Procedure) {
+    if let Some(end) = source.eat(next, Terminal::Procedure) {
         let result = Some(element);
         return Ok((Specifier::Procedure { result, token }, end));
     }
@@ -164,20 +153,15 @@ fn specifier(alloc: Global, tokens: &[Token], at: usize) -> Result<(Specifier, u
 }
 
 /// The protection of attributes at a token, and the index after it.
-pub fn protections(
-    alloc: Global,
-    tokens: &[Token],
-    start: usize,
-) -> Result<(Vec<Protection>, usize), Stop>
-    requires source { IsSource tokens.now }
-    requires within { start < length tokens.now }
-    ensures { (d : ℕ) → GivesRow tokens.now d g.Protection start (λ v. map protection_shown v.items) result }
+pub fn protections(source: &Source, start: usize) -> Result<(Vec<Protection>, usize), Stop>
+    requires within { start < length source.now }
+    ensures { (d : ℕ) → GivesRow source.now d g.Protection start (λ v. map protection_shown v.items) result }
 {
     let mut at = start;
-    let mut list = Vec::new(alloc);
-    while let Some((words, next)) = protecting_words(tokens, at) {
-        let (names, next) = identifiers(alloc, tokens, next)?;
-        let end = expect(tokens, next, Terminal::Semicolon)?;
+    let mut list = Vec::new(source.allocator());
+    while let Some((words, next)) = protecting_words(source, at) {
+        let (names, next) = identifiers(source, next)?;
+        let end = source.expect(next, Terminal::Semicolon)?;
         list.push(Protection {
             hidden: words.hidden,
             protected: words.protected,
@@ -196,67 +180,55 @@ struct ProtectingWords {
 }
 
 // `hidden`, `protected`, or both in either order, if one of them stands at a token, and the index after them.
-fn protecting_words(tokens: &[Token], at: usize) -> Option<(ProtectingWords, usize)>
-    requires source { IsSource tokens.now }
-    requires within { at < length tokens.now }
-    ensures { MatchOption result (right_side g.Protection (terminal_at tokens.now at) ≡ None)
-        (λ r. (d : ℕ) → ReadsFront tokens.now d g.Protection at (protecting r.0.hidden r.0.protected) names_row r.1) }
+fn protecting_words(source: &Source, at: usize) -> Option<(ProtectingWords, usize)>
+    requires within { at < length source.now }
+    ensures { MatchOption result (right_side g.Protection (terminal_at source.now at) ≡ None)
+        (λ r. (d : ℕ) → ReadsFront source.now d g.Protection at (protecting r.0.hidden r.0.protected) names_row r.1) }
 {
-    let (hidden, next) = word(tokens, at, Terminal::Hidden);
-    let (protected, end) = word(tokens, next, Terminal::Protected);
+    let (hidden, next) = word(source, at, Terminal::Hidden);
+    let (protected, end) = word(source, next, Terminal::Protected);
     if hidden.is_some() {
         return Some((ProtectingWords { hidden, protected }, end));
     }
     protected?;
-    let (hidden, end) = word(tokens, end, Terminal::Hidden);
+    let (hidden, end) = word(source, end, Terminal::Hidden);
     Some((ProtectingWords { hidden, protected }, end))
 }
 
 // The token of a word, if it stands there, and the index after it.
-fn word(tokens: &[Token], at: usize, terminal: Terminal) -> (Option<TokenNo>, usize)
-    requires source { IsSource tokens.now }
-    requires within { at < length tokens.now }
+fn word(source: &Source, at: usize, terminal: Terminal) -> (Option<TokenNo>, usize)
+    requires within { at < length source.now }
     requires no_end { is t.EndOfSource terminal ≡ false }
-    ensures { GivesWord tokens.now at terminal result.0 result.1 }
+    ensures { GivesWord source.now at terminal result.0 result.1 }
 {
-    match eat(tokens, at, terminal) {
-        Some(next) => (Some(token_no(tokens, at)), next),
+    match source.eat(at, terminal) {
+        Some(next) => (Some(source.token_no(at)), next),
         None => (None, at),
     }
 }
 
 /// The virtual part at a token, if there is one, and the index after it.
-pub fn virtuals(
-    alloc: Global,
-    tokens: &[Token],
-    at: usize,
-) -> Result<(Vec<VirtualSpecification>, usize), Stop>
-    requires source { IsSource tokens.now }
-    requires within { at < length tokens.now }
-    ensures { (d : ℕ) → GivesTo tokens.now d (Of Maybe g.Virtuals) at (λ v. virtuals_shown v.items) result }
+pub fn virtuals(source: &Source, at: usize) -> Result<(Vec<VirtualSpecification>, usize), Stop>
+    requires within { at < length source.now }
+    ensures { (d : ℕ) → GivesTo source.now d (Of Maybe g.Virtuals) at (λ v. virtuals_shown v.items) result }
 {
-    let Some(next) = eat(tokens, at, Terminal::Virtual) else {
-        return Ok((Vec::new(alloc), at));
+    let Some(next) = source.eat(at, Terminal::Virtual) else {
+        return Ok((Vec::new(source.allocator()), at));
     };
-    let next = expect(tokens, next, Terminal::Colon)?;
-    virtual_list(alloc, tokens, next)
+    let next = source.expect(next, Terminal::Colon)?;
+    virtual_list(source, next)
 }
 
 // The virtual procedures, at least one.
-fn virtual_list(
-    alloc: Global,
-    tokens: &[Token],
-    start: usize,
-) -> Result<(Vec<VirtualSpecification>, usize), Stop>
-    requires source { IsSource tokens.now }
-    requires within { start < length tokens.now }
-    ensures { (d : ℕ) → GivesSome tokens.now d g.VirtualSpecification start virtual_shown result }
+fn virtual_list(source: &Source, start: usize) -> Result<(Vec<VirtualSpecification>, usize), Stop>
+    requires within { start < length source.now }
+    ensures { (d : ℕ) → GivesSome source.now d g.VirtualSpecification start virtual_shown result }
 {
-    let mut list = Vec::new(alloc);
-    let (first, mut at) = virtual_procedures(alloc, tokens, start)?;
+    let mut list = Vec::new(source.allocator());
+    let (first, mut at) = virtual_procedures(source, start)?;
     list.push(first)?;
-    while begins_specification(terminal_at_token(tokens, at)) {
-        let (next, end) = virtual_procedures(alloc, tokens, at)?;
+    while begins_specification(source.terminal_at(at)) {
+        let (next, end) = virtual_procedures(source, at)?;
         list.push(next)?;
         at = end;
     }
@@ -264,21 +236,16 @@ fn virtual_list(
 }
 
 // Virtual procedures of one result type.
-fn virtual_procedures(
-    alloc: Global,
-    tokens: &[Token],
-    at: usize,
-) -> Result<(VirtualSpecification, usize), Stop>
-    requires source { IsSource tokens.now }
-    requires within { at < length tokens.now }
-    ensures gives { (d : ℕ) → GivesPart tokens.now d g.VirtualSpecification at virtual_shown result }
+fn virtual_procedures(source: &Source, at: usize) -> Result<(VirtualSpecification, usize), Stop>
+    requires within { at < length source.now }
+    ensures gives { (d : ℕ) → GivesPart source.now d g.VirtualSpecification at virtual_shown result }
     ensures ahead { IfOk result (λ r. at < r.1) }
 {
-    let (result, next) = result_type(alloc, tokens, at)?;
-    let token = token_no(tokens, next);
-    let next = expect(tokens, next, Terminal::Procedure)?;
-    let (names, next) = identifiers(alloc, tokens, next)?;
-    let end = expect(tokens, next, Terminal::Semicolon)?;
+    let (result, next) = result_type(source, at)?;
+    let token = source.token_no(next);
+    let next = source.expect(next, Terminal::Procedure)?;
+    let (names, next) = identifiers(source, next)?;
+    let end = source.expect(next, Terminal::Semicolon)?;
     Ok((
         VirtualSpecification {
             result,
@@ -290,18 +257,13 @@ fn virtual_procedures(
 }
 
 // The type in front of `procedure`, if there is one.
-fn result_type(
-    alloc: Global,
-    tokens: &[Token],
-    at: usize,
-) -> Result<(Option<TypeName>, usize), Stop>
-    requires source { IsSource tokens.now }
-    requires within { at < length tokens.now }
-    ensures { (d : ℕ) → GivesFront tokens.now d g.VirtualSpecification at typed (Kept (just t.Procedure) ∷ names_row) result }
+fn result_type(source: &Source, at: usize) -> Result<(Option<TypeName>, usize), Stop>
+    requires within { at < length source.now }
+    ensures { (d : ℕ) → GivesFront source.now d g.VirtualSpecification at typed (Kept (just t.Procedure) ∷ names_row) result }
 {
-    if terminal_at_token(tokens, at) == Terminal::Procedure {
+    if source.terminal_at(at) == Terminal::Procedure {
         return Ok((None, at));
     }
-    let (result, next) = type_name(alloc, tokens, at)?;
+    let (result, next) = type_name(source, at)?;
     Ok((Some(result), next))
 }

@@ -11,28 +11,22 @@ ghost use Rattle.sim_tree.specs.ShownProgram.{acted, activation_kind, assigned_s
 ghost use Rattle.sim_expr_parser.specs.Parsing.{GivesRow, GivesTo, IsSource, Took};
 ghost use Rattle.sim_parser.specs.Parsing.{GivesAll, ReadsAll, activation_row, activation_words, operation_row};
 
-use sim_base::{Token, TokenNo};
-use sim_expr_parser::{LIMIT, Stop, add, eat, expect, expression, postfix, token_no};
+use sim_base::TokenNo;
+use sim_expr_parser::{LIMIT, Source, Stop, add, expression, postfix};
 use sim_tree::{Activation, Assigned, Assignment, Expr, Selector, Stmt, Terminal, Timing};
 use std::alloc::{AllocError, Global};
 
 /// Each assignment sign at a token with what stands on its right, and the index after them.
-pub fn assigned(
-    alloc: Global,
-    tokens: &[Token],
-    start: usize,
-    depth: u32,
-) -> Result<(Vec<Assigned>, usize), Stop>
-    requires source { IsSource tokens.now }
-    requires within { start < length tokens.now }
+pub fn assigned(source: &Source, start: usize, depth: u32) -> Result<(Vec<Assigned>, usize), Stop>
+    requires within { start < length source.now }
     requires shallow { depth ≤ LIMIT }
-    ensures { GivesRow tokens.now depth g.Assigned start (λ v. map assigned_shown v.items) result }
+    ensures { GivesRow source.now depth g.Assigned start (λ v. map assigned_shown v.items) result }
 {
     let mut at = start;
-    let mut rest = Vec::new(alloc);
-    while let Some((sign, next)) = assignment_at(tokens, at) {
-        let (value, end) = expression(alloc, tokens, next, depth)?;
-        let token = token_no(tokens, at);
+    let mut rest = Vec::new(source.allocator());
+    while let Some((sign, next)) = assignment_at(source, at) {
+        let (value, end) = expression(source, next, depth)?;
+        let token = source.token_no(at);
         add(&mut rest, Assigned { token, sign, value })?;
         at = end;
     }
@@ -40,15 +34,14 @@ pub fn assigned(
 }
 
 // The assignment sign at a token, if one stands there, and the index after it.
-fn assignment_at(tokens: &[Token], at: usize) -> Option<(Assignment, usize)>
-    requires source { IsSource tokens.now }
-    requires within { at < length tokens.now }
-    ensures { MatchOption result (one_of assignments (terminal_at tokens.now at) ≡ false) (λ r. Took tokens.now at assignments (assignment_kind r.0) r.1) }
+fn assignment_at(source: &Source, at: usize) -> Option<(Assignment, usize)>
+    requires within { at < length source.now }
+    ensures { MatchOption result (one_of assignments (terminal_at source.now at) ≡ false) (λ r. Took source.now at assignments (assignment_kind r.0) r.1) }
 {
-    if let Some(next) = eat(tokens, at, Terminal::Assign) {
+    if let Some(next) = source.eat(at, Terminal::Assign) {
         return Some((Assignment::Value, next));
     }
-    let next = eat(tokens, at, Terminal::AssignReference)?;
+    let next = source.eat(at, Terminal::AssignReference)?;
     Some((Assignment::Reference, next))
 }
 
@@ -79,40 +72,28 @@ pub fn operation(left: Expr, rest: Vec<Assigned>) -> Stmt
 
 /// The statement that begins with `this`, `new` or a parenthesis, and the index after it.
 #[inline(never)]
-pub fn operation_statement(
-    alloc: Global,
-    tokens: &[Token],
-    at: usize,
-    depth: u32,
-) -> Result<(Stmt, usize), Stop>
-    requires source { IsSource tokens.now }
-    requires within { at < length tokens.now }
+pub fn operation_statement(source: &Source, at: usize, depth: u32) -> Result<(Stmt, usize), Stop>
+    requires within { at < length source.now }
     requires shallow { depth ≤ LIMIT }
-    requires begins { one_of (t.This ∷ t.New ∷ t.Open ∷ []) (terminal_at tokens.now at) ≡ true }
-    ensures { GivesAll tokens.now depth operation_row at stmt_shown result }
+    requires begins { one_of (t.This ∷ t.New ∷ t.Open ∷ []) (terminal_at source.now at) ≡ true }
+    ensures { GivesAll source.now depth operation_row at stmt_shown result }
 {
-    let (left, next) = postfix(alloc, tokens, at, depth)?;
-    let (rest, end) = assigned(alloc, tokens, next, depth)?;
+    let (left, next) = postfix(source, at, depth)?;
+    let (rest, end) = assigned(source, next, depth)?;
     Ok((operation(left, rest), end))
 }
 
 /// The statement that begins with `activate` or `reactivate`, and the index after it.
 #[inline(never)]
-pub fn activation_statement(
-    alloc: Global,
-    tokens: &[Token],
-    at: usize,
-    depth: u32,
-) -> Result<(Stmt, usize), Stop>
-    requires source { IsSource tokens.now }
-    requires within { at < length tokens.now }
+pub fn activation_statement(source: &Source, at: usize, depth: u32) -> Result<(Stmt, usize), Stop>
+    requires within { at < length source.now }
     requires shallow { depth ≤ LIMIT }
-    ensures { GivesAll tokens.now depth activation_row at stmt_shown result }
+    ensures { GivesAll source.now depth activation_row at stmt_shown result }
 {
-    let token = token_no(tokens, at);
-    let (activation, next) = activation_at(tokens, at)?;
-    let (process, next) = expression(alloc, tokens, next, depth)?;
-    let (timing, end) = timing(alloc, tokens, next, depth)?;
+    let token = source.token_no(at);
+    let (activation, next) = activation_at(source, at)?;
+    let (process, next) = expression(source, next, depth)?;
+    let (timing, end) = timing(source, next, depth)?;
     Ok((
         Stmt::Activation {
             token,
@@ -125,60 +106,52 @@ pub fn activation_statement(
 }
 
 // The word of an activation, and the index after it.
-fn activation_at(tokens: &[Token], at: usize) -> Result<(Activation, usize), Stop>
-    requires source { IsSource tokens.now }
-    requires within { at < length tokens.now }
-    ensures { (d : ℕ) → GivesTo tokens.now d (Kept activation_words) at (λ a f. leaf at (activation_kind a) f) result }
+fn activation_at(source: &Source, at: usize) -> Result<(Activation, usize), Stop>
+    requires within { at < length source.now }
+    ensures { (d : ℕ) → GivesTo source.now d (Kept activation_words) at (λ a f. leaf at (activation_kind a) f) result }
 {
-    if let Some(next) = eat(tokens, at, Terminal::Activate) {
+    if let Some(next) = source.eat(at, Terminal::Activate) {
         return Ok((Activation::Activate, next));
     }
-    let next = expect(tokens, at, Terminal::Reactivate)?;
+    let next = source.expect(at, Terminal::Reactivate)?;
     Ok((Activation::Reactivate, next))
 }
 
 // When a process is scheduled for, if it is said.
-fn timing(
-    alloc: Global,
-    tokens: &[Token],
-    at: usize,
-    depth: u32,
-) -> Result<(Option<Timing>, usize), Stop>
-    requires source { IsSource tokens.now }
-    requires within { at < length tokens.now }
+fn timing(source: &Source, at: usize, depth: u32) -> Result<(Option<Timing>, usize), Stop>
+    requires within { at < length source.now }
     requires shallow { depth ≤ LIMIT }
-    ensures { GivesAll tokens.now depth (Of Maybe g.Timing ∷ []) at timing_shown result }
+    ensures { GivesAll source.now depth (Of Maybe g.Timing ∷ []) at timing_shown result }
 {
-    let token = token_no(tokens, at);
-    if let Some(next) = eat(tokens, at, Terminal::At) {
-        let (time, next) = expression(alloc, tokens, next, depth)?;
-        let (prior, end) = prior(tokens, next);
+    let token = source.token_no(at);
+    if let Some(next) = source.eat(at, Terminal::At) {
+        let (time, next) = expression(source, next, depth)?;
+        let (prior, end) = prior(source, next);
         return Ok((Some(Timing::At { token, time, prior }), end));
     }
-    if let Some(next) = eat(tokens, at, Terminal::Delay) {
-        let (time, next) = expression(alloc, tokens, next, depth)?;
-        let (prior, end) = prior(tokens, next);
+    if let Some(next) = source.eat(at, Terminal::Delay) {
+        let (time, next) = expression(source, next, depth)?;
+        let (prior, end) = prior(source, next);
         return Ok((Some(Timing::Delay { token, time, prior }), end));
     }
-    if let Some(next) = eat(tokens, at, Terminal::Before) {
-        let (process, end) = expression(alloc, tokens, next, depth)?;
+    if let Some(next) = source.eat(at, Terminal::Before) {
+        let (process, end) = expression(source, next, depth)?;
         return Ok((Some(Timing::Before { token, process }), end));
     }
-    let Some(next) = eat(tokens, at, Terminal::After) else {
+    let Some(next) = source.eat(at, Terminal::After) else {
         return Ok((None, at));
     };
-    let (process, end) = expression(alloc, tokens, next, depth)?;
+    let (process, end) = expression(source, next, depth)?;
     Ok((Some(Timing::After { token, process }), end))
 }
 
 // The token of `prior`, if it stands there, and the index after it.
-fn prior(tokens: &[Token], at: usize) -> (Option<TokenNo>, usize)
-    requires source { IsSource tokens.now }
-    requires within { at < length tokens.now }
-    ensures { (d : ℕ) → ReadsAll tokens.now d (Of Maybe g.PriorMark ∷ []) at (prior_shown result.0) result.1 }
+fn prior(source: &Source, at: usize) -> (Option<TokenNo>, usize)
+    requires within { at < length source.now }
+    ensures { (d : ℕ) → ReadsAll source.now d (Of Maybe g.PriorMark ∷ []) at (prior_shown result.0) result.1 }
 {
-    match eat(tokens, at, Terminal::Prior) {
-        Some(next) => (Some(token_no(tokens, at)), next),
+    match source.eat(at, Terminal::Prior) {
+        Some(next) => (Some(source.token_no(at)), next),
         None => (None, at),
     }
 }

@@ -12,9 +12,7 @@ ghost use Rattle.sim_parser.specs.Program.{GivesPrefix, GivesProgram};
 use crate::statement::compound;
 use crate::words::past_semicolons;
 use sim_base::{Line, Rule, Token};
-use sim_expr_parser::{
-    Stop, SyntaxRefusal, arguments, expect, identifier_at, terminal_at_token, token_no,
-};
+use sim_expr_parser::{Source, Stop, SyntaxRefusal, arguments};
 use sim_tree::{BlockPrefix, Program, Terminal};
 use std::alloc::{AllocError, Global};
 
@@ -25,32 +23,33 @@ pub fn parse(alloc: Global, tokens: &[Token]) -> Result<Program, SyntaxRefusal>
     ensures answers { Parses tokens.now result }
     ensures within { (rule : Broken) (k : Number) → result ≡ Err (refusal.Broken rule k) → k.0 < length tokens.now }
 {
-    match program(alloc, tokens) {
+    let source = &Source::new(alloc, tokens);
+    match program(source) {
         Ok(program) => Ok(program),
         Err(Stop::Unexpected(bad)) => Err(SyntaxRefusal::Broken {
             rule: Rule::UnexpectedToken,
-            token: token_no(tokens, bad),
+            token: source.token_no(bad),
         }),
         Err(Stop::TooDeep(deep)) => Err(SyntaxRefusal::Broken {
             rule: Rule::NestedTooDeeply,
-            token: token_no(tokens, deep),
+            token: source.token_no(deep),
         }),
         Err(Stop::Memory) => Err(SyntaxRefusal::Memory),
     }
 }
 
 // The tree of a whole program, or where it stops.
-fn program(alloc: Global, tokens: &[Token]) -> Result<Program, Stop>
-    requires source { IsWholeSource tokens.now }
-    ensures { GivesProgram tokens.now result }
+fn program(source: &Source) -> Result<Program, Stop>
+    requires source { IsWholeSource source.now }
+    ensures { GivesProgram source.now result }
 {
-    let (prefix, at) = block_prefix(alloc, tokens)?;
-    let (block, next) = compound(alloc, tokens, at, 0)?;
-    let end = past_semicolons(tokens, next);
-    if terminal_at_token(tokens, end) != Terminal::EndOfSource {
+    let (prefix, at) = block_prefix(source)?;
+    let (block, next) = compound(source, at, 0)?;
+    let end = past_semicolons(source, next);
+    if source.terminal_at(end) != Terminal::EndOfSource {
         return Err(Stop::Unexpected(end));
     }
-    let lines = lines(alloc, tokens)?;
+    let lines = lines(source.allocator(), source.tokens())?;
     Ok(Program {
         prefix,
         block,
@@ -59,16 +58,16 @@ fn program(alloc: Global, tokens: &[Token]) -> Result<Program, Stop>
 }
 
 // The prefix of a program's block, if there is one, and the index after it.
-fn block_prefix(alloc: Global, tokens: &[Token]) -> Result<(Option<BlockPrefix>, usize), Stop>
-    requires source { IsWholeSource tokens.now }
-    ensures { GivesPrefix tokens.now result }
+fn block_prefix(source: &Source) -> Result<(Option<BlockPrefix>, usize), Stop>
+    requires source { IsWholeSource source.now }
+    ensures { GivesPrefix source.now result }
 {
-    if terminal_at_token(tokens, 0) != Terminal::Identifier {
-        expect(tokens, 0, Terminal::Begin)?;
+    if source.terminal_at(0) != Terminal::Identifier {
+        source.expect(0, Terminal::Begin)?;
         return Ok((None, 0));
     }
-    let (class, next) = identifier_at(alloc, tokens, 0)?;
-    let (arguments, end) = arguments(alloc, tokens, next, 0)?;
+    let (class, next) = source.identifier_at(0)?;
+    let (arguments, end) = arguments(source, next, 0)?;
     Ok((Some(BlockPrefix { class, arguments }), end))
 }
 

@@ -8,7 +8,6 @@ ghost use Rattle.sim_tree.specs.declared.terminal.Terminal.TheVariants as t;
 ghost use Rattle.sim_tree.specs.Reading.{Forest, done, node, terminal_at};
 ghost use Rattle.sim_tree.specs.Shown.{row};
 ghost use Rattle.sim_tree.specs.ShownProgram.{block_shown, class_shown, procedure_shown, statements as statements_shown, stmt_shown, when_shown};
-ghost use Rattle.sim_expr_parser.specs.Parsing.{IsSource};
 ghost use Rattle.sim_parser.specs.Parsing.{GivesAll, GivesDecl, GivesDeclaration, GivesDeclarations, GivesInside, GivesPart, GivesStatements, GivesTyped, NoDeclaration, begins as begins_spec, body_row, branch_part, branch_shown, branch_word, connection_row, connection_shown, for_row, identified_row, if_row, inspect_row, while_row};
 
 use crate::declaration::{segments, variables};
@@ -19,13 +18,9 @@ use crate::operation::{activation_statement, assigned, operand, operation, opera
 use crate::words::{
     begins_declaration, begins_statement, past_closing, past_semicolons, prefixed_class_at,
 };
-use sim_base::{Token, TokenNo};
-use sim_expr_parser::{
-    LIMIT, Stop, arguments, eat, expect, expression, identifier_at, selectors, terminal_at_token,
-    token_no,
-};
+use sim_base::TokenNo;
+use sim_expr_parser::{LIMIT, Source, Stop, arguments, expression, selectors};
 use sim_tree::{Block, BlockPrefix, Class, Decl, Expr, Procedure, Stmt, Terminal, TypeName, When};
-use std::alloc::Global;
 
 /// What a connection does, from its `do` on.
 #[derive(Drop)]
@@ -69,131 +64,102 @@ struct Sequence {
 
 /// The statement at a token, with the index after it. The depth is how many statements and expressions stand around it.
 #[cycle(statement)]
-pub fn statement(
-    alloc: Global,
-    tokens: &[Token],
-    at: usize,
-    depth: u32,
-) -> Result<(Stmt, usize), Stop>
-    requires source { IsSource tokens.now }
-    requires within { at < length tokens.now }
+pub fn statement(source: &Source, at: usize, depth: u32) -> Result<(Stmt, usize), Stop>
+    requires within { at < length source.now }
     requires shallow { depth ≤ LIMIT }
-    ensures { GivesPart tokens.now depth g.Statement at stmt_shown result }
+    ensures { GivesPart source.now depth g.Statement at stmt_shown result }
 {
-    if !begins_statement(terminal_at_token(tokens, at)) {
-        let token = token_no(tokens, at);
+    if !begins_statement(source.terminal_at(at)) {
+        let token = source.token_no(at);
         return Ok((Stmt::Empty { token }, at));
     }
     if depth == LIMIT {
         return Err(Stop::TooDeep(at));
     }
-    begun_statement(alloc, tokens, at, depth + 1)
+    begun_statement(source, at, depth + 1)
 }
 
 // A statement that its first token begins. The depth is that inside it.
 #[cycle(statement)]
-fn begun_statement(
-    alloc: Global,
-    tokens: &[Token],
-    at: usize,
-    depth: u32,
-) -> Result<(Stmt, usize), Stop>
-    requires source { IsSource tokens.now }
-    requires within { at < length tokens.now }
+fn begun_statement(source: &Source, at: usize, depth: u32) -> Result<(Stmt, usize), Stop>
+    requires within { at < length source.now }
     requires shallow { depth ≤ LIMIT }
-    requires begins { one_of begins_spec (terminal_at tokens.now at) ≡ true }
-    ensures { GivesInside tokens.now depth at result }
+    requires begins { one_of begins_spec (terminal_at source.now at) ≡ true }
+    ensures { GivesInside source.now depth at result }
 {
-    match terminal_at_token(tokens, at) {
-        Terminal::Begin => block_statement(alloc, tokens, at, depth),
-        Terminal::Identifier => identified_statement(alloc, tokens, at, depth),
-        Terminal::Inner => inner_statement(tokens, at),
-        Terminal::If => if_statement(alloc, tokens, at, depth),
-        Terminal::While => while_statement(alloc, tokens, at, depth),
-        Terminal::For => for_statement(alloc, tokens, at, depth),
-        Terminal::Inspect => inspect_statement(alloc, tokens, at, depth),
-        Terminal::Activate | Terminal::Reactivate => {
-            activation_statement(alloc, tokens, at, depth)
-        }
-        _ => operation_statement(alloc, tokens, at, depth),
+    match source.terminal_at(at) {
+        Terminal::Begin => block_statement(source, at, depth),
+        Terminal::Identifier => identified_statement(source, at, depth),
+        Terminal::Inner => inner_statement(source, at),
+        Terminal::If => if_statement(source, at, depth),
+        Terminal::While => while_statement(source, at, depth),
+        Terminal::For => for_statement(source, at, depth),
+        Terminal::Inspect => inspect_statement(source, at, depth),
+        Terminal::Activate | Terminal::Reactivate => { activation_statement(source, at, depth) }
+        _ => operation_statement(source, at, depth),
     }
 }
 
 #[inline(never)]
-fn inner_statement(tokens: &[Token], at: usize) -> Result<(Stmt, usize), Stop>
-    requires source { IsSource tokens.now }
-    requires within { at < length tokens.now }
-    ensures { (d : ℕ) → GivesAll tokens.now d (Kept (just t.Inner) ∷ []) at stmt_shown result }
+fn inner_statement(source: &Source, at: usize) -> Result<(Stmt, usize), Stop>
+    requires within { at < length source.now }
+    ensures { (d : ℕ) → GivesAll source.now d (Kept (just t.Inner) ∷ []) at stmt_shown result }
 {
-    let token = token_no(tokens, at);
-    let end = expect(tokens, at, Terminal::Inner)?;
+    let token = source.token_no(at);
+    let end = source.expect(at, Terminal::Inner)?;
     Ok((Stmt::Inner { token }, end))
 }
 
 #[cycle(statement)]
-fn block_statement(
-    alloc: Global,
-    tokens: &[Token],
-    at: usize,
-    depth: u32,
-) -> Result<(Stmt, usize), Stop>
-    requires source { IsSource tokens.now }
-    requires within { at < length tokens.now }
+fn block_statement(source: &Source, at: usize, depth: u32) -> Result<(Stmt, usize), Stop>
+    requires within { at < length source.now }
     requires shallow { depth ≤ LIMIT }
-    ensures { GivesAll tokens.now depth (Of Once g.Compound ∷ []) at stmt_shown result }
+    ensures { GivesAll source.now depth (Of Once g.Compound ∷ []) at stmt_shown result }
 {
-    let (block, end) = compound(alloc, tokens, at, depth)?;
+    let (block, end) = compound(source, at, depth)?;
     Ok((Stmt::Block { block }, end))
 }
 
 // A statement that an identifier begins: a prefixed block, a call or an assignment.
 #[cycle(statement)]
-fn identified_statement(
-    alloc: Global,
-    tokens: &[Token],
-    at: usize,
-    depth: u32,
-) -> Result<(Stmt, usize), Stop>
-    requires source { IsSource tokens.now }
-    requires within { at < length tokens.now }
+fn identified_statement(source: &Source, at: usize, depth: u32) -> Result<(Stmt, usize), Stop>
+    requires within { at < length source.now }
     requires shallow { depth ≤ LIMIT }
-    ensures { GivesAll tokens.now depth identified_row at stmt_shown result }
+    ensures { GivesAll source.now depth identified_row at stmt_shown result }
 {
-    let (name, next) = identifier_at(alloc, tokens, at)?;
-    let (arguments, next) = arguments(alloc, tokens, next, depth)?;
-    if terminal_at_token(tokens, next) == Terminal::Begin {
-        let (block, end) = compound(alloc, tokens, next, depth)?;
+    let (name, next) = source.identifier_at(at)?;
+    let (arguments, next) = arguments(source, next, depth)?;
+    if source.terminal_at(next) == Terminal::Begin {
+        let (block, end) = compound(source, next, depth)?;
         let prefix = BlockPrefix {
             class: name,
             arguments,
         };
         return Ok((Stmt::PrefixedBlock { prefix, block }, end));
     }
-    let (selectors, next) = selectors(alloc, tokens, next, depth)?;
-    let (rest, end) = assigned(alloc, tokens, next, depth)?;
-    let left = operand(alloc, Expr::Named { name, arguments }, selectors)?;
+    let (selectors, next) = selectors(source, next, depth)?;
+    let (rest, end) = assigned(source, next, depth)?;
+    let left = operand(
+        source.allocator(),
+        Expr::Named { name, arguments },
+        selectors,
+    )?;
     Ok((operation(left, rest), end))
 }
 
 #[cycle(statement)]
-fn if_statement(
-    alloc: Global,
-    tokens: &[Token],
-    at: usize,
-    depth: u32,
-) -> Result<(Stmt, usize), Stop>
-    requires source { IsSource tokens.now }
-    requires within { at < length tokens.now }
+fn if_statement(source: &Source, at: usize, depth: u32) -> Result<(Stmt, usize), Stop>
+    requires within { at < length source.now }
     requires shallow { depth ≤ LIMIT }
-    ensures { GivesAll tokens.now depth if_row at stmt_shown result }
+    ensures { GivesAll source.now depth if_row at stmt_shown result }
 {
-    let token = token_no(tokens, at);
-    let next = expect(tokens, at, Terminal::If)?;
-    let (condition, next) = expression(alloc, tokens, next, depth)?;
-    let next = expect(tokens, next, Terminal::Then)?;
-    let (first, next) = statement(alloc, tokens, next, depth)?;
-    let then_branch = Box::new(alloc, first)?;
-    let (else_branch, end) = optional_branch(alloc, tokens, next, depth, Branch::Else)?;
+    let token = source.token_no(at);
+    let next = source.expect(at, Terminal::If)?;
+    let (condition, next) = expression(source, next, depth)?;
+    let next = source.expect(next, Terminal::Then)?;
+    let (first, next) = statement(source, next, depth)?;
+    let then_branch = Box::new(source.allocator(), first)?;
+    let (else_branch, end) = optional_branch(source, next, depth, Branch::Else)?;
     Ok((
         Stmt::If {
             token,
@@ -209,41 +175,33 @@ fn if_statement(
 #[cycle(statement)]
 #[inline(never)]
 fn optional_branch(
-    alloc: Global,
-    tokens: &[Token],
+    source: &Source,
     at: usize,
     depth: u32,
     branch: Branch,
 ) -> Result<(Option<Box<Stmt>>, usize), Stop>
-    requires source { IsSource tokens.now }
-    requires within { at < length tokens.now }
+    requires within { at < length source.now }
     requires shallow { depth ≤ LIMIT }
-    ensures { GivesAll tokens.now depth (Of Maybe (branch_part branch) ∷ []) at (branch_shown branch) result }
+    ensures { GivesAll source.now depth (Of Maybe (branch_part branch) ∷ []) at (branch_shown branch) result }
 {
-    let Some(next) = eat(tokens, at, branch.word()) else {
+    let Some(next) = source.eat(at, branch.word()) else {
         return Ok((None, at));
     };
-    let (body, end) = statement(alloc, tokens, next, depth)?;
-    Ok((Some(Box::new(alloc, body)?), end))
+    let (body, end) = statement(source, next, depth)?;
+    Ok((Some(Box::new(source.allocator(), body)?), end))
 }
 
 #[cycle(statement)]
-fn while_statement(
-    alloc: Global,
-    tokens: &[Token],
-    at: usize,
-    depth: u32,
-) -> Result<(Stmt, usize), Stop>
-    requires source { IsSource tokens.now }
-    requires within { at < length tokens.now }
+fn while_statement(source: &Source, at: usize, depth: u32) -> Result<(Stmt, usize), Stop>
+    requires within { at < length source.now }
     requires shallow { depth ≤ LIMIT }
-    ensures { GivesAll tokens.now depth while_row at stmt_shown result }
+    ensures { GivesAll source.now depth while_row at stmt_shown result }
 {
-    let token = token_no(tokens, at);
-    let next = expect(tokens, at, Terminal::While)?;
-    let (condition, next) = expression(alloc, tokens, next, depth)?;
-    let (body, end) = body(alloc, tokens, next, depth)?;
-    let body = Box::new(alloc, body)?;
+    let token = source.token_no(at);
+    let next = source.expect(at, Terminal::While)?;
+    let (condition, next) = expression(source, next, depth)?;
+    let (body, end) = body(source, next, depth)?;
+    let body = Box::new(source.allocator(), body)?;
     Ok((
         Stmt::While {
             token,
@@ -256,34 +214,27 @@ fn while_statement(
 
 // A statement behind `do`.
 #[cycle(statement)]
-fn body(alloc: Global, tokens: &[Token], at: usize, depth: u32) -> Result<(Stmt, usize), Stop>
-    requires source { IsSource tokens.now }
-    requires within { at < length tokens.now }
+fn body(source: &Source, at: usize, depth: u32) -> Result<(Stmt, usize), Stop>
+    requires within { at < length source.now }
     requires shallow { depth ≤ LIMIT }
-    ensures { GivesAll tokens.now depth body_row at (λ s. node g.Statement (stmt_shown s) done) result }
+    ensures { GivesAll source.now depth body_row at (λ s. node g.Statement (stmt_shown s) done) result }
 {
-    let next = expect(tokens, at, Terminal::Do)?;
-    statement(alloc, tokens, next, depth)
+    let next = source.expect(at, Terminal::Do)?;
+    statement(source, next, depth)
 }
 
 #[cycle(statement)]
-fn for_statement(
-    alloc: Global,
-    tokens: &[Token],
-    at: usize,
-    depth: u32,
-) -> Result<(Stmt, usize), Stop>
-    requires source { IsSource tokens.now }
-    requires within { at < length tokens.now }
+fn for_statement(source: &Source, at: usize, depth: u32) -> Result<(Stmt, usize), Stop>
+    requires within { at < length source.now }
     requires shallow { depth ≤ LIMIT }
-    ensures { GivesAll tokens.now depth for_row at stmt_shown result }
+    ensures { GivesAll source.now depth for_row at stmt_shown result }
 {
-    let token = token_no(tokens, at);
-    let next = expect(tokens, at, Terminal::For)?;
-    let (variable, next) = identifier_at(alloc, tokens, next)?;
-    let (list, next) = for_list(alloc, tokens, next, depth)?;
-    let (body, end) = body(alloc, tokens, next, depth)?;
-    let body = Box::new(alloc, body)?;
+    let token = source.token_no(at);
+    let next = source.expect(at, Terminal::For)?;
+    let (variable, next) = source.identifier_at(next)?;
+    let (list, next) = for_list(source, next, depth)?;
+    let (body, end) = body(source, next, depth)?;
+    let body = Box::new(source.allocator(), body)?;
     let statement = match list {
         ForList::Values { sign, elements } => Stmt::For {
             token,
@@ -304,25 +255,19 @@ fn for_statement(
 }
 
 #[cycle(statement)]
-fn inspect_statement(
-    alloc: Global,
-    tokens: &[Token],
-    at: usize,
-    depth: u32,
-) -> Result<(Stmt, usize), Stop>
-    requires source { IsSource tokens.now }
-    requires within { at < length tokens.now }
+fn inspect_statement(source: &Source, at: usize, depth: u32) -> Result<(Stmt, usize), Stop>
+    requires within { at < length source.now }
     requires shallow { depth ≤ LIMIT }
-    ensures { GivesAll tokens.now depth inspect_row at stmt_shown result }
+    ensures { GivesAll source.now depth inspect_row at stmt_shown result }
 {
-    let token = token_no(tokens, at);
-    let next = expect(tokens, at, Terminal::Inspect)?;
-    let (object, next) = expression(alloc, tokens, next, depth)?;
-    if terminal_at_token(tokens, next) == Terminal::Do {
-        let (connection, next) = connected_at(alloc, tokens, next, depth)?;
+    let token = source.token_no(at);
+    let next = source.expect(at, Terminal::Inspect)?;
+    let (object, next) = expression(source, next, depth)?;
+    if source.terminal_at(next) == Terminal::Do {
+        let (connection, next) = connected_at(source, next, depth)?;
         let Connection { opening, body, end } = connection;
-        let body = Box::new(alloc, body)?;
-        let (otherwise, next) = optional_branch(alloc, tokens, next, depth, Branch::Otherwise)?;
+        let body = Box::new(source.allocator(), body)?;
+        let (otherwise, next) = optional_branch(source, next, depth, Branch::Otherwise)?;
         return Ok((
             Stmt::Inspect {
                 token,
@@ -335,8 +280,8 @@ fn inspect_statement(
             next,
         ));
     }
-    let (arms, next) = when_arms(alloc, tokens, next, depth)?;
-    let (otherwise, end) = optional_branch(alloc, tokens, next, depth, Branch::Otherwise)?;
+    let (arms, next) = when_arms(source, next, depth)?;
+    let (otherwise, end) = optional_branch(source, next, depth, Branch::Otherwise)?;
     Ok((
         Stmt::InspectWhen {
             token,
@@ -351,23 +296,17 @@ fn inspect_statement(
 // The arms of `inspect`, at least one.
 #[cycle(statement)]
 #[inline(never)]
-fn when_arms(
-    alloc: Global,
-    tokens: &[Token],
-    start: usize,
-    depth: u32,
-) -> Result<(Vec<When>, usize), Stop>
-    requires source { IsSource tokens.now }
-    requires within { start < length tokens.now }
+fn when_arms(source: &Source, start: usize, depth: u32) -> Result<(Vec<When>, usize), Stop>
+    requires within { start < length source.now }
     requires shallow { depth ≤ LIMIT }
-    requires no_do { terminal_at tokens.now start ≡ t.Do → ⊥ }
-    ensures { GivesPart tokens.now depth g.Arms start (λ v. row g.WhenArm (map when_shown v.items) done) result }
+    requires no_do { terminal_at source.now start ≡ t.Do → ⊥ }
+    ensures { GivesPart source.now depth g.Arms start (λ v. row g.WhenArm (map when_shown v.items) done) result }
 {
-    expect(tokens, start, Terminal::When)?;
+    source.expect(start, Terminal::When)?;
     let mut at = start;
-    let mut arms = Vec::new(alloc);
-    while terminal_at_token(tokens, at) == Terminal::When {
-        let (arm, next) = when_arm(alloc, tokens, at, depth)?;
+    let mut arms = Vec::new(source.allocator());
+    while source.terminal_at(at) == Terminal::When {
+        let (arm, next) = when_arm(source, at, depth)?;
         arms.push(arm)?;
         at = next;
     }
@@ -376,16 +315,15 @@ fn when_arms(
 
 #[cycle(statement)]
 #[inline(never)]
-fn when_arm(alloc: Global, tokens: &[Token], at: usize, depth: u32) -> Result<(When, usize), Stop>
-    requires source { IsSource tokens.now }
-    requires within { at < length tokens.now }
+fn when_arm(source: &Source, at: usize, depth: u32) -> Result<(When, usize), Stop>
+    requires within { at < length source.now }
     requires shallow { depth ≤ LIMIT }
-    ensures { GivesPart tokens.now depth g.WhenArm at when_shown result }
+    ensures { GivesPart source.now depth g.WhenArm at when_shown result }
 {
-    let token = token_no(tokens, at);
-    let next = expect(tokens, at, Terminal::When)?;
-    let (class, next) = identifier_at(alloc, tokens, next)?;
-    let (connection, next) = connected_at(alloc, tokens, next, depth)?;
+    let token = source.token_no(at);
+    let next = source.expect(at, Terminal::When)?;
+    let (class, next) = source.identifier_at(next)?;
+    let (connection, next) = connected_at(source, next, depth)?;
     let Connection { opening, body, end } = connection;
     Ok((
         When {
@@ -402,42 +340,30 @@ fn when_arm(alloc: Global, tokens: &[Token], at: usize, depth: u32) -> Result<(W
 // A connection from its `do` on.
 #[cycle(statement)]
 #[inline(never)]
-fn connected_at(
-    alloc: Global,
-    tokens: &[Token],
-    at: usize,
-    depth: u32,
-) -> Result<(Connection, usize), Stop>
-    requires source { IsSource tokens.now }
-    requires within { at < length tokens.now }
+fn connected_at(source: &Source, at: usize, depth: u32) -> Result<(Connection, usize), Stop>
+    requires within { at < length source.now }
     requires shallow { depth ≤ LIMIT }
-    ensures { GivesAll tokens.now depth connection_row at connection_shown result }
+    ensures { GivesAll source.now depth connection_row at connection_shown result }
 {
-    let opening = token_no(tokens, at);
-    let next = expect(tokens, at, Terminal::Do)?;
-    let (body, next) = statement(alloc, tokens, next, depth)?;
-    let end = token_no(tokens, next);
+    let opening = source.token_no(at);
+    let next = source.expect(at, Terminal::Do)?;
+    let (body, next) = statement(source, next, depth)?;
+    let end = source.token_no(next);
     Ok((Connection { opening, body, end }, next))
 }
 
 /// The block at its `begin`, with the index after its `end`.
 #[cycle(statement)]
-pub fn compound(
-    alloc: Global,
-    tokens: &[Token],
-    at: usize,
-    depth: u32,
-) -> Result<(Block, usize), Stop>
-    requires source { IsSource tokens.now }
-    requires within { at < length tokens.now }
+pub fn compound(source: &Source, at: usize, depth: u32) -> Result<(Block, usize), Stop>
+    requires within { at < length source.now }
     requires shallow { depth ≤ LIMIT }
-    ensures { GivesPart tokens.now depth g.Compound at block_shown result }
+    ensures { GivesPart source.now depth g.Compound at block_shown result }
 {
-    let token = token_no(tokens, at);
-    let next = expect(tokens, at, Terminal::Begin)?;
-    let next = past_semicolons(tokens, next);
-    let (declarations, next) = declarations(alloc, tokens, next, depth)?;
-    let (sequence, end) = sequence_at(alloc, tokens, next, depth)?;
+    let token = source.token_no(at);
+    let next = source.expect(at, Terminal::Begin)?;
+    let next = past_semicolons(source, next);
+    let (declarations, next) = declarations(source, next, depth)?;
+    let (sequence, end) = sequence_at(source, next, depth)?;
     Ok((
         Block {
             token,
@@ -452,20 +378,14 @@ pub fn compound(
 // The declarations of a block, and the index at which its statements begin.
 #[cycle(statement)]
 #[inline(never)]
-fn declarations(
-    alloc: Global,
-    tokens: &[Token],
-    start: usize,
-    depth: u32,
-) -> Result<(Vec<Decl>, usize), Stop>
-    requires source { IsSource tokens.now }
-    requires within { start < length tokens.now }
+fn declarations(source: &Source, start: usize, depth: u32) -> Result<(Vec<Decl>, usize), Stop>
+    requires within { start < length source.now }
     requires shallow { depth ≤ LIMIT }
-    ensures { GivesDeclarations tokens.now depth start result }
+    ensures { GivesDeclarations source.now depth start result }
 {
     let mut at = start;
-    let mut list = Vec::new(alloc);
-    while let Some((declared, next)) = declaration(alloc, tokens, at, depth)? {
+    let mut list = Vec::new(source.allocator());
+    while let Some((declared, next)) = declaration(source, at, depth)? {
         list.push(declared)?;
         at = next;
     }
@@ -475,23 +395,17 @@ fn declarations(
 // The declaration at a token with the semicolons behind it, if one begins there.
 #[cycle(statement)]
 #[inline(never)]
-fn declaration(
-    alloc: Global,
-    tokens: &[Token],
-    at: usize,
-    depth: u32,
-) -> Result<Option<(Decl, usize)>, Stop>
-    requires source { IsSource tokens.now }
-    requires within { at < length tokens.now }
+fn declaration(source: &Source, at: usize, depth: u32) -> Result<Option<(Decl, usize)>, Stop>
+    requires within { at < length source.now }
     requires shallow { depth ≤ LIMIT }
-    ensures { GivesDeclaration tokens.now depth at result }
+    ensures { GivesDeclaration source.now depth at result }
 {
-    if let Some(word) = prefixed_class_at(tokens, at) {
-        let (prefix, _) = identifier_at(alloc, tokens, at)?;
-        let token = token_no(tokens, word);
-        let next = expect(tokens, word, Terminal::Class)?;
-        let (class, next) = class(alloc, tokens, next, depth)?;
-        let end = past_closing(tokens, next)?;
+    if let Some(word) = prefixed_class_at(source, at) {
+        let (prefix, _) = source.identifier_at(at)?;
+        let token = source.token_no(word);
+        let next = source.expect(word, Terminal::Class)?;
+        let (class, next) = class(source, next, depth)?;
+        let end = past_closing(source, next)?;
         let prefix = Some(prefix);
         return Ok(Some((
             Decl::Class {
@@ -502,31 +416,25 @@ fn declaration(
             end,
         )));
     }
-    if !begins_declaration(terminal_at_token(tokens, at)) {
+    if !begins_declaration(source.terminal_at(at)) {
         return Ok(None);
     }
-    let (declared, next) = plain_declaration(alloc, tokens, at, depth)?;
-    let end = past_closing(tokens, next)?;
+    let (declared, next) = plain_declaration(source, at, depth)?;
+    let end = past_closing(source, next)?;
     Ok(Some((declared, end)))
 }
 
 // A declaration without a prefix.
 #[cycle(statement)]
 #[inline(never)]
-fn plain_declaration(
-    alloc: Global,
-    tokens: &[Token],
-    at: usize,
-    depth: u32,
-) -> Result<(Decl, usize), Stop>
-    requires source { IsSource tokens.now }
-    requires within { at < length tokens.now }
+fn plain_declaration(source: &Source, at: usize, depth: u32) -> Result<(Decl, usize), Stop>
+    requires within { at < length source.now }
     requires shallow { depth ≤ LIMIT }
-    ensures { GivesDecl tokens.now depth at result }
+    ensures { GivesDecl source.now depth at result }
 {
-    let token = token_no(tokens, at);
-    if let Some(next) = eat(tokens, at, Terminal::Procedure) {
-        let (procedure, end) = procedure(alloc, tokens, next, depth)?;
+    let token = source.token_no(at);
+    if let Some(next) = source.eat(at, Terminal::Procedure) {
+        let (procedure, end) = procedure(source, next, depth)?;
         return Ok((
             Decl::Procedure {
                 result: None,
@@ -536,8 +444,8 @@ fn plain_declaration(
             end,
         ));
     }
-    if let Some(next) = eat(tokens, at, Terminal::Class) {
-        let (class, end) = class(alloc, tokens, next, depth)?;
+    if let Some(next) = source.eat(at, Terminal::Class) {
+        let (class, end) = class(source, next, depth)?;
         return Ok((
             Decl::Class {
                 prefix: None,
@@ -547,28 +455,26 @@ fn plain_declaration(
             end,
         ));
     }
-    let (name, next) = type_name(alloc, tokens, at)?;
-    typed_declaration(alloc, tokens, next, depth, name)
+    let (name, next) = type_name(source, at)?;
+    typed_declaration(source, next, depth, name)
 }
 
 // What is declared behind a type.
 #[cycle(statement)]
 #[inline(never)]
 fn typed_declaration(
-    alloc: Global,
-    tokens: &[Token],
+    source: &Source,
     at: usize,
     depth: u32,
     type_name: TypeName,
 ) -> Result<(Decl, usize), Stop>
-    requires source { IsSource tokens.now }
-    requires within { at < length tokens.now }
+    requires within { at < length source.now }
     requires shallow { depth ≤ LIMIT }
-    ensures { GivesTyped type_name tokens.now depth at result }
+    ensures { GivesTyped type_name source.now depth at result }
 {
-    let token = token_no(tokens, at);
-    if let Some(next) = eat(tokens, at, Terminal::Procedure) {
-        let (procedure, end) = procedure(alloc, tokens, next, depth)?;
+    let token = source.token_no(at);
+    if let Some(next) = source.eat(at, Terminal::Procedure) {
+        let (procedure, end) = procedure(source, next, depth)?;
         let result = Some(type_name);
         return Ok((
             Decl::Procedure {
@@ -579,8 +485,8 @@ fn typed_declaration(
             end,
         ));
     }
-    if let Some(next) = eat(tokens, at, Terminal::Array) {
-        let (segments, end) = segments(alloc, tokens, next, depth)?;
+    if let Some(next) = source.eat(at, Terminal::Array) {
+        let (segments, end) = segments(source, next, depth)?;
         return Ok((
             Decl::Arrays {
                 type_name,
@@ -590,8 +496,8 @@ fn typed_declaration(
             end,
         ));
     }
-    expect(tokens, at, Terminal::Identifier)?;
-    let (variables, end) = variables(alloc, tokens, at)?;
+    source.expect(at, Terminal::Identifier)?;
+    let (variables, end) = variables(source, at)?;
     Ok((
         Decl::Variables {
             type_name,
@@ -603,22 +509,16 @@ fn typed_declaration(
 
 // A procedure behind its word.
 #[cycle(statement)]
-fn procedure(
-    alloc: Global,
-    tokens: &[Token],
-    at: usize,
-    depth: u32,
-) -> Result<(Procedure, usize), Stop>
-    requires source { IsSource tokens.now }
-    requires within { at < length tokens.now }
+fn procedure(source: &Source, at: usize, depth: u32) -> Result<(Procedure, usize), Stop>
+    requires within { at < length source.now }
     requires shallow { depth ≤ LIMIT }
-    ensures { GivesPart tokens.now depth g.Procedure at procedure_shown result }
+    ensures { GivesPart source.now depth g.Procedure at procedure_shown result }
 {
-    let (name, next) = identifier_at(alloc, tokens, at)?;
-    let (heading, next) = heading_at(alloc, tokens, next)?;
-    let (body, next) = statement(alloc, tokens, next, depth)?;
-    let body = Box::new(alloc, body)?;
-    let end = token_no(tokens, next);
+    let (name, next) = source.identifier_at(at)?;
+    let (heading, next) = heading_at(source, next)?;
+    let (body, next) = statement(source, next, depth)?;
+    let body = Box::new(source.allocator(), body)?;
+    let end = source.token_no(next);
     let Heading {
         parameters,
         modes,
@@ -639,19 +539,18 @@ fn procedure(
 
 // A class behind its word.
 #[cycle(statement)]
-fn class(alloc: Global, tokens: &[Token], at: usize, depth: u32) -> Result<(Class, usize), Stop>
-    requires source { IsSource tokens.now }
-    requires within { at < length tokens.now }
+fn class(source: &Source, at: usize, depth: u32) -> Result<(Class, usize), Stop>
+    requires within { at < length source.now }
     requires shallow { depth ≤ LIMIT }
-    ensures { GivesPart tokens.now depth g.Class at class_shown result }
+    ensures { GivesPart source.now depth g.Class at class_shown result }
 {
-    let (name, next) = identifier_at(alloc, tokens, at)?;
-    let (heading, next) = heading_at(alloc, tokens, next)?;
-    let (protections, next) = protections(alloc, tokens, next)?;
-    let (virtuals, next) = virtuals(alloc, tokens, next)?;
-    let (body, next) = statement(alloc, tokens, next, depth)?;
-    let body = Box::new(alloc, body)?;
-    let end = token_no(tokens, next);
+    let (name, next) = source.identifier_at(at)?;
+    let (heading, next) = heading_at(source, next)?;
+    let (protections, next) = protections(source, next)?;
+    let (virtuals, next) = virtuals(source, next)?;
+    let (body, next) = statement(source, next, depth)?;
+    let body = Box::new(source.allocator(), body)?;
+    let end = source.token_no(next);
     let Heading {
         parameters,
         modes,
@@ -675,51 +574,39 @@ fn class(alloc: Global, tokens: &[Token], at: usize, depth: u32) -> Result<(Clas
 // The statements of a block and its `end`, where no declaration begins.
 #[cycle(statement)]
 #[inline(never)]
-fn sequence_at(
-    alloc: Global,
-    tokens: &[Token],
-    at: usize,
-    depth: u32,
-) -> Result<(Sequence, usize), Stop>
-    requires source { IsSource tokens.now }
-    requires within { at < length tokens.now }
+fn sequence_at(source: &Source, at: usize, depth: u32) -> Result<(Sequence, usize), Stop>
+    requires within { at < length source.now }
     requires shallow { depth ≤ LIMIT }
-    requires no_declaration { NoDeclaration tokens.now at }
-    ensures { GivesPart tokens.now depth g.Block at (λ s. statements_shown (map stmt_shown s.statements.items) s.end.0) result }
+    requires no_declaration { NoDeclaration source.now at }
+    ensures { GivesPart source.now depth g.Block at (λ s. statements_shown (map stmt_shown s.statements.items) s.end.0) result }
 {
-    let end = token_no(tokens, at);
-    if let Some(next) = eat(tokens, at, Terminal::End) {
-        let statements = Vec::new(alloc);
+    let end = source.token_no(at);
+    if let Some(next) = source.eat(at, Terminal::End) {
+        let statements = Vec::new(source.allocator());
         return Ok((Sequence { statements, end }, next));
     }
-    if !begins_statement(terminal_at_token(tokens, at)) {
+    if !begins_statement(source.terminal_at(at)) {
         return Err(Stop::Unexpected(at));
     }
-    let (statements, next) = statements(alloc, tokens, at, depth)?;
-    let end = token_no(tokens, next);
-    let next = expect(tokens, next, Terminal::End)?;
+    let (statements, next) = statements(source, at, depth)?;
+    let end = source.token_no(next);
+    let next = source.expect(next, Terminal::End)?;
     Ok((Sequence { statements, end }, next))
 }
 
 // Statements with semicolons between them, at least one.
 #[cycle(statement)]
 #[inline(never)]
-fn statements(
-    alloc: Global,
-    tokens: &[Token],
-    start: usize,
-    depth: u32,
-) -> Result<(Vec<Stmt>, usize), Stop>
-    requires source { IsSource tokens.now }
-    requires within { start < length tokens.now }
+fn statements(source: &Source, start: usize, depth: u32) -> Result<(Vec<Stmt>, usize), Stop>
+    requires within { start < length source.now }
     requires shallow { depth ≤ LIMIT }
-    ensures { GivesStatements tokens.now depth start result }
+    ensures { GivesStatements source.now depth start result }
 {
-    let mut list = Vec::new(alloc);
-    let (first, mut at) = statement(alloc, tokens, start, depth)?;
+    let mut list = Vec::new(source.allocator());
+    let (first, mut at) = statement(source, start, depth)?;
     list.push(first)?;
-    while let Some(next) = eat(tokens, at, Terminal::Semicolon) {
-        let (following, end) = statement(alloc, tokens, next, depth)?;
+    while let Some(next) = source.eat(at, Terminal::Semicolon) {
+        let (following, end) = statement(source, next, depth)?;
         list.push(following)?;
         at = end;
     }

@@ -5,11 +5,10 @@ ghost use Rattle.std.specs.Prelude.{◌≡◌, ◌+◌, ◌<◌, ℕ, true, fals
 ghost use Rattle.sim_tree.specs.Grammar.{Any, is, one_of, types};
 ghost use Rattle.sim_tree.specs.Reading.{terminal_at};
 ghost use Rattle.sim_tree.specs.declared.terminal.Terminal.TheVariants as t;
-ghost use Rattle.sim_expr_parser.specs.Parsing.{IsSource, ReadsTo};
+ghost use Rattle.sim_expr_parser.specs.Parsing.{ReadsTo};
 ghost use Rattle.sim_parser.specs.Parsing.{Closes, begins as begins_spec, begins_declaration as declaration_spec};
 
-use sim_base::Token;
-use sim_expr_parser::{Stop, eat, terminal_at_token};
+use sim_expr_parser::{Source, Stop};
 use sim_tree::Terminal;
 
 /// Whether a terminal begins a type.
@@ -55,42 +54,39 @@ pub fn begins_statement(terminal: Terminal) -> bool
 }
 
 /// The index after all semicolons at a token.
-pub fn past_semicolons(tokens: &[Token], start: usize) -> usize
-    requires source { IsSource tokens.now }
-    requires within { start < length tokens.now }
-    ensures { (d : ℕ) → ReadsTo tokens.now d (Any t.Semicolon) start (λ f. f) result }
+pub fn past_semicolons(source: &Source, start: usize) -> usize
+    requires within { start < length source.now }
+    ensures { (d : ℕ) → ReadsTo source.now d (Any t.Semicolon) start (λ f. f) result }
 {
     let mut at = start;
-    while let Some(next) = eat(tokens, at, Terminal::Semicolon) {
+    while let Some(next) = source.eat(at, Terminal::Semicolon) {
         at = next;
     }
     at
 }
 
 /// The index after what ends a declaration: a semicolon and all further ones, or nothing in front of `end`.
-pub fn past_closing(tokens: &[Token], at: usize) -> Result<usize, Stop>
-    requires source { IsSource tokens.now }
-    requires within { at < length tokens.now }
-    ensures { (d : ℕ) → Closes tokens.now d at result }
+pub fn past_closing(source: &Source, at: usize) -> Result<usize, Stop>
+    requires within { at < length source.now }
+    ensures { (d : ℕ) → Closes source.now d at result }
 {
-    if let Some(next) = eat(tokens, at, Terminal::Semicolon) {
-        return Ok(past_semicolons(tokens, next));
+    if let Some(next) = source.eat(at, Terminal::Semicolon) {
+        return Ok(past_semicolons(source, next));
     }
-    if terminal_at_token(tokens, at) != Terminal::End {
+    if source.terminal_at(at) != Terminal::End {
         return Err(Stop::Unexpected(at));
     }
     Ok(at)
 }
 
 /// The index of `class` behind an identifier, where an identifier stands at a token and `class` behind it.
-pub fn prefixed_class_at(tokens: &[Token], at: usize) -> Option<usize>
-    requires source { IsSource tokens.now }
-    requires within { at < length tokens.now }
-    ensures { MatchOption result (is (terminal_at tokens.now at) t.Identifier ≡ true → is (terminal_at tokens.now (at + 1)) t.Class ≡ false)
-        (λ next. (is (terminal_at tokens.now at) t.Identifier ≡ true) × (next ≡ at + 1) × (next < length tokens.now) × (is (terminal_at tokens.now next) t.Class ≡ true)) }
+pub fn prefixed_class_at(source: &Source, at: usize) -> Option<usize>
+    requires within { at < length source.now }
+    ensures { MatchOption result (is (terminal_at source.now at) t.Identifier ≡ true → is (terminal_at source.now (at + 1)) t.Class ≡ false)
+        (λ next. (is (terminal_at source.now at) t.Identifier ≡ true) × (next ≡ at + 1) × (next < length source.now) × (is (terminal_at source.now next) t.Class ≡ true)) }
 {
-    let next = eat(tokens, at, Terminal::Identifier)?;
-    if terminal_at_token(tokens, next) == Terminal::Class {
+    let next = source.eat(at, Terminal::Identifier)?;
+    if source.terminal_at(next) == Terminal::Class {
         Some(next)
     } else {
         None

@@ -35,7 +35,7 @@ use Rattle.sim_tree.specs.declared.stmt.TypeName.TheVariants as type_name
 use Rattle.sim_tree.specs.declared.stmt.When.{When}
 use Rattle.sim_tree.specs.Grammar as g
 use Rattle.sim_tree.specs.Nesting.{has_token}
-use Rattle.sim_tree.specs.Reading.{Forest, done, leaf, place, node, Reads, reads-done, reads-kept, reads-mark, reads-any, reads-none, reads-here, reads-part, reads-skip, kind_at}
+use Rattle.sim_tree.specs.Reading.{Forest, done, leaf, place, node}
 use Rattle.sim_tree.specs.Shown.{shown, raise, row, expression}
 use Rattle.sim_tree.specs.ShownProgram as d
 use Rattle.sim_tree.specs.ShownProgram.{Declared, Prefixed, acted, assigned_shown, begun, block_shown, class_shown, contents, decl_shown, joined, next_statement, procedure_shown, program_shown, stmt_shown, when_shown}
@@ -53,10 +53,11 @@ use Rattle.sim_tree.proofs.ReadStatements.{acted_full}
 use Rattle.sim_scope.specs.declared.types.Position.TheVariants.{Inside}
 use Rattle.sim_scope.specs.Walk.{block_events, declaration_events, declarations_events, enclosed, program_events, statement_events, statements_events, whole_events}
 use Rattle.sim_static.specs.CodeParameters.{forms, has_code, is_by_name, is_name, is_of_procedures, is_prefixed, is_procedure, passes_code, yes}
-use Rattle.sim_static.specs.NeedsClasses.{needs}
-use Rattle.sim_plain.specs.Clean.{Clean}
+use Rattle.sim_static.specs.NeedsClasses.{is_dot, needs_classes}
+use Rattle.sim_plain.specs.Clean.{Clean, CleanBehind}
 use Rattle.sim_agree.specs.Plain.{Each, Plain, PlainBlock, PlainBounds, PlainDeclaration, PlainDeclarations, PlainElement, PlainExpression, PlainHeading, PlainMode, PlainResult, PlainSegment, PlainSide, PlainSpecification, PlainSpecified, PlainStatement, PlainStatements, PlainType, PlainWord}
 use Rattle.sim_plain.proofs.Expressions.{operand_plain, plain_expr, valued}
+use Rattle.sim_plain.proofs.Tokens.{none_needs, reads_clean}
 
 no : true ≡ false → ⊥
 no e = false≢true (sym e)
@@ -124,18 +125,18 @@ EachDeclaration = induction.EachDeclaration Says Declares Blocks Classes Procedu
 
 -- ---- parts of derivations
 
-clean_joined : (f h : Forest) → Clean (joined f h) → Clean f × Clean h
-clean_joined done h c = (tt, c)
-clean_joined (leaf i kind f) h c = let r = clean_joined f h c.1 in ((c.0, r.0), r.1)
-clean_joined (place i f) h c = clean_joined f h c
-clean_joined (node n inside f) h c = let r = clean_joined f h c.1 in ((c.0, r.0), r.1)
+clean_joined : (dotted : Bool) (f h : Forest) → CleanBehind dotted (joined f h) → CleanBehind dotted f × ((behind : Bool) × CleanBehind behind h)
+clean_joined dotted done h c = (tt, (dotted, c))
+clean_joined dotted (leaf i kind f) h c = let r = clean_joined (is_dot kind) f h c.1 in ((c.0, r.0), r.1)
+clean_joined dotted (place i f) h c = clean_joined dotted f h c
+clean_joined dotted (node n inside f) h c = let r = clean_joined false f h c.1 in ((c.0, r.0), r.1)
 
-clean_acted : (f rest : Forest) → Clean (acted f rest) → Clean f × Clean rest
+clean_acted : (f rest : Forest) → Clean (acted f rest) → Clean f × ((behind : Bool) × CleanBehind behind rest)
 clean_acted (node g.Primary (leaf i (k.Identifier name) act) sel) rest c =
-    let one = clean_joined act (node g.AfterFirstOperand (joined sel rest) done) c.1 in
-    let two = clean_joined sel rest one.1.0 in
+    let one = clean_joined false act (node g.AfterFirstOperand (joined sel rest) done) c.1 in
+    let two = clean_joined false sel rest one.1.1.0 in
     (((c.0, one.0), two.0), two.1)
-clean_acted f rest c = c
+clean_acted f rest c = (c.0, (false, c.1))
 
 clean_begun : (f rest : Forest) → Clean (begun f rest) → Clean f × Clean rest
 clean_begun (leaf i (k.Identifier name) f) rest c = ((c.0, c.1.0.0), c.1.0.1)
@@ -199,7 +200,7 @@ assigned_plain e [] token full c = absurd (false≢true token)
 assigned_plain e (x ∷ xs) token full c =
     let rest = row g.Assigned (map assigned_shown (x ∷ xs)) done in
     let all = acted_full (raise 1 (shown e)) rest full in
-    (called e rest full c, each_row g.Assigned assigned_shown t.right_side_syntax PlainSide (x ∷ xs) (λ x full c. expr_plain x.value full.0 full.1 c.1.0) all.2 (clean_acted (raise 1 (shown e)) rest c).1)
+    (called e rest full c, each_row g.Assigned assigned_shown t.right_side_syntax PlainSide (x ∷ xs) (λ x full c. expr_plain x.value full.0 full.1 c.1.0) all.2 (clean_acted (raise 1 (shown e)) rest c).1.1)
 
 -- ---- types and headings
 
@@ -344,31 +345,18 @@ when_step w = tt
 plain_block : (b : Block) → Blocks (block_shown b) (block_syntax b)
 plain_block = induction.each_block Says Declares Blocks Classes Procedures Arms stmt_step decl_step block_step class_step procedure_step when_step
 
--- ---- the tokens
-
-module _ {most : ℕ} {ws : List Token} (free : (i : ℕ) → needs (kind_at ws i) ≡ false) where
-  reads_clean : {d i j : ℕ} {x : List g.Symbol} {f : Forest} → Reads most ws d x i f j → Clean f
-  reads_clean reads-done = tt
-  reads_clean (reads-kept {i = i} h r) = (free i, reads_clean r)
-  reads_clean (reads-mark h r) = reads_clean r
-  reads_clean (reads-any h r) = reads_clean r
-  reads_clean (reads-none h r) = reads_clean r
-  reads_clean (reads-here r) = reads_clean r
-  reads_clean (reads-part b sh r o) = (reads_clean r, reads_clean o)
-  reads_clean (reads-skip b may r) = reads_clean r
-
 -- ---- a program
 
 no_prefix : (x : Option BlockPrefix) → is_prefixed (option_map t.prefix_syntax x) ≡ false → x ≡ None
 no_prefix None h = refl
 no_prefix (Some x) h = absurd (no h)
 
-pub plain_program : (ws : List Token) (p : ProgramTree) → IsTree ws p → ((i : ℕ) → needs (kind_at ws i) ≡ false) → passes_code (program_syntax p) ≡ false → Plain (program_syntax p)
+pub plain_program : (ws : List Token) (p : ProgramTree) → IsTree ws p → needs_classes ws ≡ false → passes_code (program_syntax p) ≡ false → Plain (program_syntax p)
 unfolding program_syntax passes_code program_events
 plain_program ws p tree free h =
     let f = node g.Program (program_shown p) done in
     let full = is_full-Full f (reads_full tree.reads) in
-    let c = reads_clean free tree.reads in
+    let c = reads_clean (none_needs false false ws free) tree.reads in
     let both = free_first (is_prefixed (option_map t.prefix_syntax p.prefix)) (whole_events forms (block_syntax p.block)) h in
     let none = no_prefix p.prefix both.0 in
     record {

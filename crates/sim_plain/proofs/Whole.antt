@@ -5,10 +5,9 @@ use Rattle.sim_tree.specs.declared.program.Program.{Program as Tree}
 use Rattle.sim_tree.specs.SyntaxOfProgram.{program_syntax}
 use Rattle.sim_tree.specs.Tree.{IsTree}
 use Rattle.sim_static.specs.CodeParameters.{passes_code}
-use Rattle.sim_static.specs.NeedsClasses.{needs_from}
+use Rattle.sim_static.specs.NeedsClasses.{needs_classes}
 use Rattle.sim_agree.specs.Plain.{Plain}
 use Rattle.sim_plain.proofs.Statements.{plain_program}
-use Rattle.sim_plain.proofs.Tokens.{none_needs}
 
-pub whole : (ws : List Token) (p : Tree) → IsTree ws p → needs_from false ws ≡ false → passes_code (program_syntax p) ≡ false → Plain (program_syntax p)
-whole ws p tree free h = plain_program ws p tree (none_needs false ws free) h
+pub whole : (ws : List Token) (p : Tree) → IsTree ws p → needs_classes ws ≡ false → passes_code (program_syntax p) ≡ false → Plain (program_syntax p)
+whole ws p tree free h = plain_program ws p tree free h

@@ -1,10 +1,13 @@
--- Derivations without a word or a name that only sources with classes have.
-use Rattle.std.specs.Prelude.{◌≡◌, ℕ, false, List}
+-- Derivations without a word or a name that only sources with classes have. A name behind a dot is none, and no part begins behind a dot.
+use Rattle.std.specs.Prelude.{◌≡◌, Bool, false}
 use Rattle.sim_tree.specs.Reading.{Forest, done, leaf, place, node}
-use Rattle.sim_static.specs.NeedsClasses.{needs}
+use Rattle.sim_static.specs.NeedsClasses.{is_dot, needs}
+
+abbrev pub CleanBehind : (dotted : Bool) → Forest → Type 0
+CleanBehind dotted done = Unit {0}
+CleanBehind dotted (leaf i kind f) = (needs dotted kind ≡ false) × CleanBehind (is_dot kind) f
+CleanBehind dotted (place i f) = CleanBehind dotted f
+CleanBehind dotted (node n inside f) = CleanBehind false inside × CleanBehind false f
 
 abbrev pub Clean : Forest → Type 0
-Clean done = Unit {0}
-Clean (leaf i kind f) = (needs kind ≡ false) × Clean f
-Clean (place i f) = Clean f
-Clean (node n inside f) = Clean inside × Clean f
+Clean f = CleanBehind false f

@@ -1,2 +1,10 @@
 mod Table
 mod Reading
+mod Parts
+mod Making
+mod Expressions
+mod Declarations
+mod Statements
+mod Programs
+mod Sources
+mod Places

@@ -1,19 +1,19 @@
 -- Reading by the grammar comes to a derivation or to a fault.
-use Rattle.std.proofs.Common.{◌≡◌, ◌≤◌, ◌<◌, ◌⊎◌, inl, inr, ℕ, zero, suc, ◌+◌, Bool, true, false, if◌then◌else◌, List, [], ◌∷◌, length, Option, Some, None, refl, sym, ◌∙◌, ap, subst, arith}
+use Rattle.std.proofs.Common.{◌≡◌, ◌≤◌, ◌<◌, ◌⊎◌, inl, inr, ℕ, zero, suc, ◌+◌, Bool, true, false, if◌then◌else◌, List, [], ◌∷◌, length, Option, Some, None, refl, ap, subst, arith}
 use Rattle.std.proofs.lemmas.List.{get_or_past}
-use Rattle.std.specs.Prelude.{◌&&◌, ◌||◌, not, slice_index_or}
+use Rattle.std.specs.Prelude.{◌&&◌, ◌||◌, not}
 use Rattle.sim_base.specs.declared.token.Token.{Token}
 use Rattle.sim_tree.proofs.Laws.{reads_ahead}
 use Rattle.sim_tree.specs.declared.terminal.Terminal.{Terminal}
 use Rattle.sim_tree.specs.declared.terminal.Terminal.TheVariants as t
 use Rattle.sim_tree.specs.Claim.{one}
 use Rattle.sim_tree.specs.Grammar.{Any, Here, Kept, Many, Mark, Maybe, Of, Once, Part, Symbol, Times, is, one_of, right_side}
-use Rattle.sim_tree.specs.Reading.{Fails, Fault, Forest, Reads, TooDeep, Unexpected, after, after-any, after-here, after-kept, after-mark, after-none, after-part, after-skip, done, fails-deep, fails-inside, fails-kept, fails-mark, fails-part, finish, first_of, inside_depth, is_too_deep, kind_at, leaf, may_skip, node, place, reads-any, reads-done, reads-here, reads-kept, reads-mark, reads-none, reads-part, reads-skip, terminal_at}
+use Rattle.sim_tree.specs.Reading.{Forest, Reads, TooDeep, Unexpected, after, after-any, after-here, after-kept, after-mark, after-none, after-part, after-skip, done, fails-deep, fails-inside, fails-kept, fails-mark, fails-part, finish, first_of, inside_depth, is_too_deep, kind_at, leaf, may_skip, node, place, reads-any, reads-done, reads-here, reads-kept, reads-mark, reads-none, reads-part, reads-skip, terminal_at}
 use Rattle.sim_tree.specs.Terminal.{terminal_of}
 use Rattle.sim_readings.specs.Readable.{ReadsOrFails, fails, reads}
 use Rattle.sim_readings.proofs.Table.{advances, at_end, rank, right_fine, surely, takes, weight}
 
-split : (a b : ℕ) → (a < b) ⊎ (b ≤ a)
+pub split : (a b : ℕ) → (a < b) ⊎ (b ≤ a)
 split zero zero = inr (omega arith)
 split zero (suc b) = inl (omega arith)
 split (suc a) zero = inr (omega arith)
@@ -31,7 +31,7 @@ some_or_other : (a b : Bool) → (a || b) ≡ true → (a ≡ true) ⊎ (b ≡ t
 some_or_other true b e = inl refl
 some_or_other false b e = inr e
 
-both_true : (a b : Bool) → (a && b) ≡ true → (a ≡ true) × (b ≡ true)
+pub both_true : (a b : Bool) → (a && b) ≡ true → (a ≡ true) × (b ≡ true)
 both_true true b e = (refl, e)
 both_true false b e = absurd (cc)
 
@@ -60,7 +60,7 @@ module _ (limit : ℕ) (ws : List Token) where
       by_place (inl h) = h
       by_place (inr h) = let at : is t.EndOfSource a ≡ true = subst (λ b. is b a ≡ true) (end_at i h) e in absurd (cc)
 
-  taken : {d i m : ℕ} {s : List Symbol} {f : Forest} → Reads limit ws d s i f m → surely s ≡ true → Taken i m
+  pub taken : {d i m : ℕ} {s : List Symbol} {f : Forest} → Reads limit ws d s i f m → surely s ≡ true → Taken i m
   taken reads-done e = absurd (cc)
   taken {i = i} {m = m} (reads-kept {any = any} {s = s} h r) e = by_end (one_or_other (at_end any) (surely s) e) (λ more. taken r more)
     where

@@ -1,12 +1,44 @@
-//! That reading comes to something. The law is a function that does nothing; its clause is the law.
-ghost use Rattle.std.specs.Prelude.{List, ℕ};
+//! That reading comes to something. Each law does nothing but call the laws that it stands on; its clauses are the law.
+ghost use Rattle.std.specs.Prelude.{List, length, map, ℕ, ◌≡◌, ◌<◌, ◌^◌};
 ghost use Rattle.sim_base.specs.declared.token.Token.{Token};
+ghost use Rattle.sim_lexer.specs.Spelling.{Reads as Spells, Spelled};
+ghost use Rattle.sim_tree.specs.declared.program.Program.{Program as Tree};
 ghost use Rattle.sim_tree.specs.Claim.{one};
 ghost use Rattle.sim_tree.specs.Grammar.{Part};
-ghost use Rattle.sim_readings.specs.Readable.{ReadsOrFails};
+ghost use Rattle.sim_tree.specs.Named.{IsAscending};
+ghost use Rattle.sim_tree.specs.Reading.{Fault};
+ghost use Rattle.sim_tree.specs.SyntaxOfProgram.{program_syntax};
+ghost use Rattle.sim_tree.specs.Tree.{IsTree};
+ghost use Rattle.sim_readings.specs.Readable.{EndsOnce, ProgramFails, ReadsOrFails, SourceOutcome, TreeOrFault, place_of};
+
+use sim_lexer::one_reading;
+use sim_tree::grammar::{one_fault, one_tree};
 
 /// From each token of each list, each part of the grammar has a derivation or comes to a fault, however deep it may nest. That there is no
 /// more than one of both is said by the laws of the grammar.
 pub fn every_list_reads_or_fails()
     ensures { (limit : ℕ) (ws : List Token) (depth i : ℕ) (n : Part) → ReadsOrFails limit ws depth (one n) i }
 {}
+
+/// Each list of tokens that ends once has exactly one tree or exactly one fault, and never both: its derivation, where there is one, is
+/// that of a tree. Two trees of it have the same abstract syntax. (The number of a token has 32 bits.)
+pub fn one_tree_or_one_fault()
+    ensures either { (ws : List Token) → EndsOnce ws → length ws < 2 ^ 32 → TreeOrFault ws }
+    ensures never_both { (ws : List Token) (p : Tree) (e : Fault) → IsTree ws p → ProgramFails ws e → ⊥ }
+    ensures one_tree { (ws : List Token) (p q : Tree) → IsTree ws p → IsTree ws q → program_syntax p ≡ program_syntax q }
+    ensures one_fault { (ws : List Token) (e h : Fault) → ProgramFails ws e → ProgramFails ws h → e ≡ h }
+{
+    one_tree();
+    one_fault();
+}
+
+/// Each source breaks a rule of spelling, or its tokens come to a fault, or they have a tree. The tokens that it spells end once, are fewer than
+/// 2^32, and each stands behind the one before it. That no two of these hold, and each in one way, say `sim_lexer::one_reading` and
+/// `one_tree_or_one_fault`.
+pub fn each_source_is_read()
+    ensures outcome { (source : List ℕ) → SourceOutcome source }
+    ensures tokens { (source : List ℕ) (ws : List Token) → Spells source (Spelled ws) → EndsOnce ws × (length ws < 2 ^ 32) }
+    ensures ascend { (source : List ℕ) (ws : List Token) → Spells source (Spelled ws) → IsAscending (map place_of ws) }
+{
+    one_reading();
+}

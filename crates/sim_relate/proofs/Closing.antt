@@ -35,8 +35,8 @@ use Rattle.codegen_expr.specs.CodeExpr as code_gives
 use Rattle.codegen.specs.Agrees.{Agrees}
 use Rattle.sim_relate.proofs.Formals.{actuals_counted, formals_same}
 use Rattle.sim_relate.proofs.Relation.{OperandAt, Reaches, TermAt, TermsAt, gives, text_gives, GivenIs, IsImage, ReadsAt, empty, listed, of_input, of_output, reads}
-use Rattle.sim_scope.specs.declared.standard.Standard.{Standard as Found}
-use Rattle.sim_scope.specs.declared.standard.Standard.TheVariants as found
+use Rattle.sim_scope.specs.declared.standard.StandardName.{StandardName}
+use Rattle.sim_scope.specs.declared.standard.StandardName.TheVariants as found
 use Rattle.sim_values.specs.declared.standard.Standard.TheVariants as name_of
 use Rattle.sim_values.specs.Standard.{is_image, moves_position, on_image, row_of}
 use Rattle.sim_meaning.specs.Constants.{text_constant}
@@ -262,7 +262,7 @@ module _ (s : Source) (code : CodeOf) (m : Instances) (inst : ℕ) (site : Site)
   OnlyImages None = Unit {0}
   OnlyImages (Some image) = IsImage image
 
-  stream_named_is : (x : Found) → OnlyImages (stream_named x)
+  stream_named_is : (x : StandardName) → OnlyImages (stream_named x)
   stream_named_is found.Sysin = of_input
   stream_named_is found.Sysout = of_output
   stream_named_is _ = tt

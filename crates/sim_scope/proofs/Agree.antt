@@ -13,7 +13,7 @@ use Rattle.sim_base.specs.declared.rule.Rule.TheVariants as r
 use Rattle.sim_tree.specs.declared.expr.Identifier.{Identifier}
 use Rattle.sim_tree.specs.Syntax.{Program}
 use Rattle.sim_scope.specs.declared.scopes.Declaration.{Declaration}
-use Rattle.sim_scope.specs.declared.standard.Attribute.{Attribute}
+use Rattle.sim_values.specs.declared.standard.Standard.{Standard}
 use Rattle.sim_scope.specs.declared.types.Entry.{Entry}
 use Rattle.sim_scope.specs.declared.types.Entry.TheVariants as entry
 use Rattle.sim_scope.specs.declared.types.FormalKind.{FormalKind}
@@ -324,24 +324,24 @@ brings-agrees : (b : BuildingOf) (which : StandardClass) (token : ℕ) (o : Opti
 brings-agrees b which token None a = a
 brings-agrees b which token (Some block) a = brings-row b which token block (slice_get b.tables.blocks block) refl a
 
-alone-row : (b : BuildingOf) (name : Attribute) (token : ℕ) (first : Option DeclNo) (block : ℕ) (o : Option BlockOf) → slice_get b.tables.blocks block ≡ o → Agrees b → Agrees (provided_alone b name token first block o)
+alone-row : (b : BuildingOf) (name : Standard) (token : ℕ) (first : Option DeclNo) (block : ℕ) (o : Option BlockOf) → slice_get b.tables.blocks block ≡ o → Agrees b → Agrees (provided_alone b name token first block o)
 alone-row b name token first block None at a = a
 alone-row b name token first block (Some row) at a =
     if-agrees (list_any (bytes_eq (attribute_name name)) row.brought_names) b _ a
     (unlisted-agrees _ (standard_row (attribute_name name) token block (attribute_entry first name) false) refl
     (row_agrees b block row (with_brought (attribute_name name) (record { 0 = length b.tables.declarations }) row) at refl refl a))
 
-provided-row : (b : BuildingOf) (name : Attribute) (token : ℕ) (first : Option DeclNo) (block : ℕ) (o : Option BlockOf) → slice_get b.tables.blocks block ≡ o → Agrees b → Agrees (provided_in b name token first block o)
+provided-row : (b : BuildingOf) (name : Standard) (token : ℕ) (first : Option DeclNo) (block : ℕ) (o : Option BlockOf) → slice_get b.tables.blocks block ≡ o → Agrees b → Agrees (provided_in b name token first block o)
 provided-row b name token first block None at a = a
 provided-row b name token first block (Some row) at a =
     if-agrees (list_any (bytes_eq (attribute_name name)) row.names) b _ a
     (new-agrees b (standard_row (attribute_name name) token block (attribute_entry first name) true) row (record { 0 = length b.tables.declarations }) refl at a)
 
-provides-at : (b : BuildingOf) (which : Option StandardClass) (name : Attribute) (token block : ℕ) (first : Option DeclNo) → Agrees b → Agrees (provides_in b which name token block first)
+provides-at : (b : BuildingOf) (which : Option StandardClass) (name : Standard) (token block : ℕ) (first : Option DeclNo) → Agrees b → Agrees (provides_in b which name token block first)
 provides-at b None name token block first a = alone-row b name token first block (slice_get b.tables.blocks block) refl a
 provides-at b (Some which) name token block first a = provided-row b name token first (block + 1 + place_of which) (slice_get b.tables.blocks (block + 1 + place_of which)) refl a
 
-provides-agrees : (b : BuildingOf) (which : Option StandardClass) (name : Attribute) (token : ℕ) (o : Option ℕ) → Agrees b → Agrees (provides b which name token o)
+provides-agrees : (b : BuildingOf) (which : Option StandardClass) (name : Standard) (token : ℕ) (o : Option ℕ) → Agrees b → Agrees (provides b which name token o)
 provides-agrees b which name token None a = a
 provides-agrees b which name token (Some block) a = provides-at b which name token block (first_brought (slice_get b.tables.blocks block)) a
 

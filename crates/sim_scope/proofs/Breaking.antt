@@ -11,7 +11,7 @@ use Rattle.sim_tree.specs.declared.expr.Identifier.{Identifier}
 use Rattle.sim_tree.specs.Syntax.{Program}
 use Rattle.sim_scope.specs.declared.found.Fault.{Fault}
 use Rattle.sim_scope.specs.declared.scopes.Declaration.{Declaration}
-use Rattle.sim_scope.specs.declared.standard.Attribute.{Attribute}
+use Rattle.sim_values.specs.declared.standard.Standard.{Standard}
 use Rattle.sim_scope.specs.declared.types.Entry.{Entry}
 use Rattle.sim_scope.specs.declared.types.Entry.TheVariants as entry
 use Rattle.sim_scope.specs.declared.types.FormalKind.{FormalKind}
@@ -171,19 +171,19 @@ brings-least : (b : BuildingOf) (which : StandardClass) (token : ℕ) (o : Optio
 brings-least b which token None = refl
 brings-least b which token (Some block) = brings-row b which token block (slice_get b.tables.blocks block)
 
-alone-row : (b : BuildingOf) (name : Attribute) (token : ℕ) (first : Option DeclNo) (block : ℕ) (o : Option BlockOf) → (provided_alone b name token first block o).least ≡ b.least
+alone-row : (b : BuildingOf) (name : Standard) (token : ℕ) (first : Option DeclNo) (block : ℕ) (o : Option BlockOf) → (provided_alone b name token first block o).least ≡ b.least
 alone-row b name token first block None = refl
 alone-row b name token first block (Some row) = if-same (list_any (bytes_eq (attribute_name name)) row.brought_names) b _ refl
 
-provided-row : (b : BuildingOf) (name : Attribute) (token : ℕ) (first : Option DeclNo) (block : ℕ) (o : Option BlockOf) → (provided_in b name token first block o).least ≡ b.least
+provided-row : (b : BuildingOf) (name : Standard) (token : ℕ) (first : Option DeclNo) (block : ℕ) (o : Option BlockOf) → (provided_in b name token first block o).least ≡ b.least
 provided-row b name token first block None = refl
 provided-row b name token first block (Some row) = if-same (list_any (bytes_eq (attribute_name name)) row.names) b _ refl
 
-provides-at : (b : BuildingOf) (which : Option StandardClass) (name : Attribute) (token block : ℕ) (first : Option DeclNo) → (provides_in b which name token block first).least ≡ b.least
+provides-at : (b : BuildingOf) (which : Option StandardClass) (name : Standard) (token block : ℕ) (first : Option DeclNo) → (provides_in b which name token block first).least ≡ b.least
 provides-at b None name token block first = alone-row b name token first block (slice_get b.tables.blocks block)
 provides-at b (Some which) name token block first = provided-row b name token first (block + 1 + place_of which) (slice_get b.tables.blocks (block + 1 + place_of which))
 
-provides-least : (b : BuildingOf) (which : Option StandardClass) (name : Attribute) (token : ℕ) (o : Option ℕ) → (provides b which name token o).least ≡ b.least
+provides-least : (b : BuildingOf) (which : Option StandardClass) (name : Standard) (token : ℕ) (o : Option ℕ) → (provides b which name token o).least ≡ b.least
 provides-least b which name token None = refl
 provides-least b which name token (Some block) = provides-at b which name token block (first_brought (slice_get b.tables.blocks block))
 

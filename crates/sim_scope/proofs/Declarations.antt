@@ -1,5 +1,5 @@
 -- What the constructs of a program declare.
-use Rattle.std.proofs.Common.{◌≡◌, ◌<◌, ℕ, Bool, List, [], ◌∷◌, ◌++◌, Option, Some, None, refl, sym, ap, ◌∙◌, map, length, subst}
+use Rattle.std.proofs.Common.{◌≡◌, ◌<◌, ℕ, Bool, true, false, if◌then◌else◌, List, [], ◌∷◌, ◌++◌, Option, Some, None, refl, sym, ap, ◌∙◌, map, length, subst}
 use Rattle.std.proofs.lemmas.List.{length-map}
 use Rattle.std.specs.Prelude.{option_map}
 use Rattle.std.specs.declared.alloc.Global.{Global}
@@ -37,7 +37,6 @@ use Rattle.sim_tree.specs.declared.stmt.Variable.{Variable}
 use Rattle.sim_tree.specs.declared.stmt.VirtualSpecification.{VirtualSpecification}
 use Rattle.sim_tree.specs.declared.stmt.When.{When}
 use Rattle.sim_tree.specs.SyntaxOfProgram.{heading_syntax, interface_syntax, mode_syntax, number_of, prefix_syntax, protection_syntax, segment_syntax, specification_syntax, virtual_syntax}
-use Rattle.sim_scope.specs.declared.standard.Provided.{Provided}
 use Rattle.sim_scope.specs.declared.types.BlockKind.TheVariants as kind
 use Rattle.sim_scope.specs.declared.types.Entry.TheVariants as entry
 use Rattle.sim_scope.specs.declared.types.FormalKind.TheVariants as formal_kind
@@ -51,7 +50,11 @@ use Rattle.sim_scope.specs.declared.types.StandardPrefix.TheVariants as prefix
 use Rattle.sim_scope.specs.Building.{BuildingOf, Opens, Closes, Declares, DeclaresProcedure, DeclaresClass, Parameter, Moded, Specified, Headed, Qualifies, Prefixes, Brings, Provides, Protects, Inner, Breaks, marked}
 use Rattle.sim_scope.specs.Declare.{declaring, type_named, result_named, mode_named, first_of_procedure, first_of_class, variable_marks, array_marks, segment_marks, parameter_marks, moded_marks, mode_part_marks, specified_marks, specification_marks, headed_marks, heading_marks, procedure_marks, class_marks, qualified_marks, qualified_result, brings_class, provides_attribute, brought_marks, marks_of_standard, standard_marks, prefix_marks, class_prefix_marks, prefixed_marks, is_written, protected_marks, protection_marks, virtual_name_marks, virtual_marks, interface_marks, program_marks, inner_marks, of_segment, of_mode_part, of_specification, of_specifier, of_protection, of_virtual, of_heading, empty, declared_by, declarations_of}
 use Rattle.sim_scope.specs.Runs.{Runs, each}
-use Rattle.sim_scope.specs.Standard.{attributes_of_sets, attributes_of_simulation, classes_of_sets, classes_of_simulation, standard_prefix}
+use Rattle.sim_scope.specs.Standard.{class_owning, is_provided, standard_prefix}
+use Rattle.sim_values.specs.declared.standard.Owner.{Owner}
+use Rattle.sim_values.specs.declared.standard.Standard.{Standard}
+use Rattle.sim_values.specs.declared.standard.TheConstants.{STANDARD_NAMES}
+use Rattle.sim_values.specs.Standard.{row_of}
 use Rattle.sim_scope.specs.Walk.{of_statement, of_branch, of_arm, of_block, of_whole, of_declaration}
 use Rattle.sim_scope.proofs.Walks.{runs_both, runs_as, runs_none, runs_one, runs_first, leads_all, leads_next, leads_end, run_empty, run_block, run_block_of_class, run_body_of_class, run_prefixed, run_inner, run_call, run_assignment, run_if, run_while, run_for, run_for_reference, run_inspect, run_inspect_when, run_activation, run_some, run_no_branch, run_arm, run_compound, run_whole_block, run_whole, run_class_body, run_variables, run_arrays, run_procedure, run_class, run_program}
 
@@ -323,21 +326,22 @@ pub declare_brings : (b c : BuildingOf) (i : ℕ) (w : StandardClass) → c ≡ 
 unfolding brings_class
 declare_brings b c i w h = runs_one marked b c _ h
 
-pub declare_provides : (b c : BuildingOf) (i : ℕ) (p : Provided) → c ≡ marked b (Provides p.class p.name i) → Runs marked b c (provides_attribute i p)
+pub declare_provides : (b c : BuildingOf) (w : StandardPrefix) (i : ℕ) (name : Standard) (o : Owner) (t : Bool) (class : Option StandardClass) → o ≡ (row_of name).owner → t ≡ is_provided w o → t ≡ true → class ≡ class_owning o → c ≡ marked b (Provides class name i) → Runs marked b c (provides_attribute w i name)
 unfolding provides_attribute
-declare_provides b c i p h = runs_one marked b c _ h
+declare_provides b c w i name o t class of_row is holds classed h =
+    subst (λ z. Runs marked b c (if is_provided w z then Provides (class_owning z) name i ∷ [] else [])) of_row
+    (subst (λ z. Runs marked b c (if z then Provides (class_owning o) name i ∷ [] else [])) (sym holds ∙ is)
+    (runs_one marked b c _ (h ∙ ap (λ z. marked b (Provides z name i)) classed)))
 
-pub declare_brought : (b m c : BuildingOf) (i : ℕ) (ws : List StandardClass) (ps : List Provided) → Runs marked b m (each (brings_class i) ws) → Runs marked m c (each (provides_attribute i) ps) → Runs marked b c (brought_marks i ws ps)
+pub declare_provides_nothing : (b : BuildingOf) (w : StandardPrefix) (i : ℕ) (name : Standard) (o : Owner) (t : Bool) → o ≡ (row_of name).owner → t ≡ is_provided w o → t ≡ false → Runs marked b b (provides_attribute w i name)
+unfolding provides_attribute
+declare_provides_nothing b w i name o t of_row is fails =
+    subst (λ z. Runs marked b b (if is_provided w z then Provides (class_owning z) name i ∷ [] else [])) of_row
+    (subst (λ z. Runs marked b b (if z then Provides (class_owning o) name i ∷ [] else [])) (sym fails ∙ is) (runs_none marked b))
+
+pub declare_brought : (b m c : BuildingOf) (i : ℕ) (w : StandardPrefix) (ws : List StandardClass) (names : List Standard) → Runs marked b m (each (brings_class i) ws) → names ≡ STANDARD_NAMES → Runs marked m c (each (provides_attribute w i) names) → Runs marked b c (brought_marks i w ws)
 unfolding brought_marks
-declare_brought b m c i ws ps f g = runs_both marked b m c _ _ f g
-
-pub declare_sets : (b c : BuildingOf) (i : ℕ) (w : StandardPrefix) → w ≡ prefix.Simset → Runs marked b c (brought_marks i classes_of_sets attributes_of_sets) → Runs marked b c (marks_of_standard i (Some w))
-unfolding marks_of_standard
-declare_sets b c i w is h = subst (λ z. Runs marked b c (marks_of_standard i (Some z))) (sym is) h
-
-pub declare_simulation : (b c : BuildingOf) (i : ℕ) (w : StandardPrefix) → w ≡ prefix.Simulation → Runs marked b c (brought_marks i classes_of_simulation attributes_of_simulation) → Runs marked b c (marks_of_standard i (Some w))
-unfolding marks_of_standard
-declare_simulation b c i w is h = subst (λ z. Runs marked b c (marks_of_standard i (Some z))) (sym is) h
+declare_brought b m c i w ws names f same g = runs_both marked b m c _ _ f (runs_as marked m c _ _ (ap (each (provides_attribute w i)) same) g)
 
 pub declare_standard : (b c : BuildingOf) (i : ℕ) (name : List ℕ) (o : Option StandardPrefix) (w : StandardPrefix) → o ≡ standard_prefix name → o ≡ Some w → Runs marked b c (marks_of_standard i (Some w)) → Runs marked b c (standard_marks i name)
 unfolding standard_marks
@@ -389,7 +393,7 @@ pub prefixed_program_begins : (b c : BuildingOf) (p : Option BlockPrefix) (q : B
 unfolding program_marks
 prefixed_program_begins b c p q i some h = subst (λ z. Runs marked b c (program_marks (option_map prefix_syntax z) i.0)) (sym some) h
 
-pub ruleset declares = (run_empty, run_block, run_block_of_class, run_body_of_class, run_some, run_no_branch, run_compound, run_class_body, leads_all, leads_next, leads_end, declare_prefixed, declare_inner, declare_call, declare_assignment, declare_activation, declare_if, declare_while, declare_for, declare_for_reference, declare_inspect, declare_inspect_when, declare_arm, declare_block, declare_whole, declare_variables, declare_arrays, declare_procedure, declare_class, qualify_reference, qualify_integer, qualify_boolean, qualify_character, qualify_text, qualify_some, qualify_none, declare_variable, declare_constant, declare_array, declare_segment, declare_parameter, declare_moded, declare_mode_part, declare_simple, declare_array_formal, declare_procedure_formal, declare_specification, declare_headed, declare_heading, declare_protected, declare_protection, declare_virtual_name, declare_virtual, procedure_begins, declare_brings, declare_provides, declare_brought, declare_sets, declare_simulation, declare_standard, declare_no_standard, declare_prefix, declare_class_prefix, declare_no_prefix, prefixed_begins, class_begins, inner_of_class, inner_as_body, inner_elsewhere, program_begins, prefixed_program_begins)
+pub ruleset declares = (run_empty, run_block, run_block_of_class, run_body_of_class, run_some, run_no_branch, run_compound, run_class_body, leads_all, leads_next, leads_end, declare_prefixed, declare_inner, declare_call, declare_assignment, declare_activation, declare_if, declare_while, declare_for, declare_for_reference, declare_inspect, declare_inspect_when, declare_arm, declare_block, declare_whole, declare_variables, declare_arrays, declare_procedure, declare_class, qualify_reference, qualify_integer, qualify_boolean, qualify_character, qualify_text, qualify_some, qualify_none, declare_variable, declare_constant, declare_array, declare_segment, declare_parameter, declare_moded, declare_mode_part, declare_simple, declare_array_formal, declare_procedure_formal, declare_specification, declare_headed, declare_heading, declare_protected, declare_protection, declare_virtual_name, declare_virtual, procedure_begins, declare_brings, declare_standard, declare_no_standard, declare_prefix, declare_class_prefix, declare_no_prefix, prefixed_begins, class_begins, inner_of_class, inner_as_body, inner_elsewhere, program_begins, prefixed_program_begins)
 
 -- The whole program.
 tables_of_program : (m c : BuildingOf) (p : Program) → Runs marked empty m (program_marks (option_map prefix_syntax p.prefix) p.block.token.0) → Runs marked m c (of_whole declaring p.block) → c ≡ declarations_of p

@@ -5,7 +5,7 @@ use Rattle.std.proofs.lemmas.Bool.Decides.{nat_tests}
 use Rattle.sim_scope.specs.declared.scopes.Denotation.{Denotation}
 use Rattle.sim_scope.specs.declared.types.SimType.{SimType}
 use Rattle.sim_scope.specs.declared.found.Fault.{Fault}
-use Rattle.sim_scope.specs.Found.{Event, Broken, Uses, Typed, Findings, after, found, lesser, precedes, rank}
+use Rattle.sim_scope.specs.Found.{Event, Broken, FoundIn, Uses, Typed, Findings, after, found, lesser, precedes, rank}
 use Rattle.sim_scope.specs.Runs.{run}
 use Rattle.sim_scope.specs.Least.{Among, here, there, IsLeast, nothing, least, faults, least_found}
 
@@ -18,6 +18,7 @@ unfolding noted run found
 after-noted f [] = refl
 after-noted f (Broken token rule ∷ es) = after-noted (found f (Broken token rule)) es
 after-noted f (Uses token d ∷ es) = after-noted (found f (Uses token d)) es
+after-noted f (FoundIn token block ∷ es) = after-noted (found f (FoundIn token block)) es
 after-noted f (Typed token ty ∷ es) = after-noted (found f (Typed token ty)) es
 
 lex : (a b m n : ℕ) → Bool
@@ -84,5 +85,6 @@ unfolding noted Least
 noted-least [] = nothing refl
 noted-least (x ∷ xs) = let l = so_far x xs in subst (λ o. IsLeast (x ∷ xs) o) (sym l.1) (least l.2 l.3)
 
-pub least_law : (es : List Event) (uses : List (Option Denotation)) (types : List (Option SimType)) → IsLeast (faults es) (least_found es uses types)
-least_law es uses types = subst (λ o. IsLeast (faults es) o) (sym (after-noted (record { least = None; uses = uses; types = types }) es)) (noted-least (faults es))
+pub least_law : (es : List Event) (uses : List (Option Denotation)) (found_in : List (Option ℕ)) (types : List (Option SimType)) → IsLeast (faults es) (least_found es uses found_in types)
+least_law es uses found_in types =
+    subst (λ o. IsLeast (faults es) o) (sym (after-noted (record { least = None; uses = uses; found_in = found_in; types = types }) es)) (noted-least (faults es))

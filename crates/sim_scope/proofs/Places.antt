@@ -14,7 +14,7 @@ use Rattle.sim_base.specs.declared.rule.Rule.TheVariants as r
 use Rattle.sim_tree.specs.declared.expr.Identifier.{Identifier}
 use Rattle.sim_tree.specs.Syntax.{Program}
 use Rattle.sim_scope.specs.declared.scopes.Declaration.{Declaration}
-use Rattle.sim_scope.specs.declared.standard.Attribute.{Attribute}
+use Rattle.sim_values.specs.declared.standard.Standard.{Standard}
 use Rattle.sim_scope.specs.declared.types.Entry.{Entry}
 use Rattle.sim_scope.specs.declared.types.Entry.TheVariants as entry
 use Rattle.sim_scope.specs.declared.types.FormalKind.{FormalKind}
@@ -107,23 +107,23 @@ module _ (a : BuildingOf) where
   qualified-same b class None h = h
   qualified-same b class (Some d) h = alike b _ refl refl refl h
 
-  alone-row : (b : BuildingOf) (name : Attribute) (token : ℕ) (first : Option DeclNo) (block : ℕ) (o : Option BlockOf) → slice_get b.tables.blocks block ≡ o → Same a b → Same a (provided_alone b name token first block o)
+  alone-row : (b : BuildingOf) (name : Standard) (token : ℕ) (first : Option DeclNo) (block : ℕ) (o : Option BlockOf) → slice_get b.tables.blocks block ≡ o → Same a b → Same a (provided_alone b name token first block o)
   alone-row b name token first block None at h = h
   alone-row b name token first block (Some row) at h =
       if-same (list_any (bytes_eq (attribute_name name)) row.brought_names) b _ h
       (row-same b _ block row (with_brought (attribute_name name) (record { 0 = length b.tables.declarations }) row) at refl refl refl refl h)
 
-  provided-row : (b : BuildingOf) (name : Attribute) (token : ℕ) (first : Option DeclNo) (block : ℕ) (o : Option BlockOf) → slice_get b.tables.blocks block ≡ o → Same a b → Same a (provided_in b name token first block o)
+  provided-row : (b : BuildingOf) (name : Standard) (token : ℕ) (first : Option DeclNo) (block : ℕ) (o : Option BlockOf) → slice_get b.tables.blocks block ≡ o → Same a b → Same a (provided_in b name token first block o)
   provided-row b name token first block None at h = h
   provided-row b name token first block (Some row) at h =
       if-same (list_any (bytes_eq (attribute_name name)) row.names) b _ h
       (row-same b _ block row (with_name row (attribute_name name) (record { 0 = length b.tables.declarations })) at refl refl refl refl h)
 
-  provides-at : (b : BuildingOf) (which : Option StandardClass) (name : Attribute) (token block : ℕ) (first : Option DeclNo) → Same a b → Same a (provides_in b which name token block first)
+  provides-at : (b : BuildingOf) (which : Option StandardClass) (name : Standard) (token block : ℕ) (first : Option DeclNo) → Same a b → Same a (provides_in b which name token block first)
   provides-at b None name token block first h = alone-row b name token first block (slice_get b.tables.blocks block) refl h
   provides-at b (Some which) name token block first h = provided-row b name token first (block + 1 + place_of which) (slice_get b.tables.blocks (block + 1 + place_of which)) refl h
 
-  provides-same : (b : BuildingOf) (which : Option StandardClass) (name : Attribute) (token : ℕ) (o : Option ℕ) → Same a b → Same a (provides b which name token o)
+  provides-same : (b : BuildingOf) (which : Option StandardClass) (name : Standard) (token : ℕ) (o : Option ℕ) → Same a b → Same a (provides b which name token o)
   provides-same b which name token None h = h
   provides-same b which name token (Some block) h = provides-at b which name token block (first_brought (slice_get b.tables.blocks block)) h
 

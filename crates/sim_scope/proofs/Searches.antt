@@ -1,10 +1,13 @@
 -- The search outward finds the innermost declaration.
-use Rattle.std.proofs.Common.{◌≡◌, ◌<◌, ℕ, zero, suc, Bool, true, false, List, Option, Some, None, refl, ap, ◌∙◌, arith, length, if◌then◌else◌}
+use Rattle.std.proofs.Common.{◌≡◌, ◌<◌, ℕ, zero, suc, Bool, true, false, List, Option, Some, None, refl, sym, ap, ◌∙◌, arith, length, if◌then◌else◌}
 use Rattle.std.specs.Option.{option_or}
 use Rattle.sim_base.specs.declared.numbering.DeclNo.{DeclNo}
-use Rattle.sim_scope.specs.Access.{encloser}
+use Rattle.std.specs.Prelude.{◌||◌}
+use Rattle.sim_scope.specs.Access.{block_at, encloser}
+use Rattle.sim_scope.specs.Along.{first_along, from_next}
+use Rattle.sim_scope.specs.Levels.{level_beyond}
 use Rattle.sim_scope.specs.Laws.{Innermost, here, further, Nested}
-use Rattle.sim_scope.specs.Scopes.{beyond, ends_search, outward, searched, shown}
+use Rattle.sim_scope.specs.Scopes.{beyond, declaration_from, ends_search, found_in, if_found, is_shown, outward, searched, shown}
 use Rattle.sim_scope.specs.Tables.{Tables}
 
 module _ (s : Tables) (from : Option ℕ) (name : List ℕ) where
@@ -48,3 +51,27 @@ found_within s from (suc more) block name d nested (further {around = b} at out 
 
 pub every_innermost : (s : Tables) (from : Option ℕ) (block : ℕ) (name : List ℕ) (d : DeclNo) → Nested s.blocks → Innermost s from name block d → block < length s.blocks → searched s from (length s.blocks) block name ≡ Some d
 every_innermost s from block name d nested is le = found_within s from (length s.blocks) block name d nested is le
+
+-- ---- the block in which a name is found
+
+module _ (s : Tables) (token : ℕ) (name : List ℕ) where
+  pub shown_along_blocks : (most block : ℕ) → searched s (Some token) most block name ≡ beyond (λ b. shown s (Some token) b name) (first_along (encloser s) most (if_found s token name) block)
+  unfolding searched first_along if_found outward
+  shown_along_blocks zero block = refl
+  shown_along_blocks (suc more) block = go (λ b. shown_along_blocks more b) (shown s (Some token) block name) refl (ends_search s block name) (encloser s block)
+    where
+      go : ((b : ℕ) → searched s (Some token) more b name ≡ beyond (λ b. shown s (Some token) b name) (first_along (encloser s) more (if_found s token name) b)) → (x : Option DeclNo) → shown s (Some token) block name ≡ x → (ends : Bool) → (e : Option ℕ)
+          → option_or x (beyond (λ b. searched s (Some token) more b name) (if ends then None else e))
+          ≡ beyond (λ b. shown s (Some token) b name) (option_or (if is_shown x || ends then Some block else None) (from_next (λ b. first_along (encloser s) more (if_found s token name) b) e))
+      go deep (Some d) at ends e = sym at
+      go deep None at true e = sym at
+      go deep None at false None = refl
+      go deep None at false (Some p) = deep p
+
+  pub shown_where_found : declaration_from s (Some token) (block_at s token) name ≡ beyond (λ b. shown s (Some token) b name) (found_in s token name)
+  unfolding declaration_from found_in
+  shown_where_found = go (block_at s token)
+    where
+      go : (o : Option ℕ) → declaration_from s (Some token) o name ≡ beyond (λ b. shown s (Some token) b name) (level_beyond (first_along (encloser s) (length s.blocks) (if_found s token name)) o)
+      go None = refl
+      go (Some block) = shown_along_blocks (length s.blocks) block

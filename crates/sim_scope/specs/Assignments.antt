@@ -12,7 +12,7 @@ use Rattle.sim_scope.specs.declared.outcome.LeftSides.{LeftSides}
 use Rattle.sim_scope.specs.declared.outcome.Outcome.{Outcome}
 use Rattle.sim_scope.specs.declared.outcome.Outcome.TheVariants as is
 use Rattle.sim_scope.specs.declared.outcome.Side.{Side}
-use Rattle.sim_scope.specs.declared.standard.Standard.{Standard}
+use Rattle.sim_scope.specs.declared.standard.StandardName.{StandardName}
 use Rattle.sim_scope.specs.declared.types.SimType.{SimType}
 use Rattle.sim_scope.specs.declared.types.SimType.TheVariants as t
 use Rattle.sim_scope.specs.Actuals.{result_in}
@@ -96,7 +96,7 @@ abbrev pub procedure_assigned : Tables → Assignment → (first : ℕ) → Outc
 procedure_assigned s sign first o true result = own_result first result
 procedure_assigned s sign first o false result = result_assigned s sign first o result
 
-abbrev pub standard_assigned : Tables → Assignment → (first : ℕ) → Outcome → Standard → Judged Side
+abbrev pub standard_assigned : Tables → Assignment → (first : ℕ) → Outcome → StandardName → Judged Side
 standard_assigned s sign first o name =
     if is_stream name then call_assigned s sign first o else result_assigned s sign first o (signature name).result
 

@@ -9,9 +9,8 @@ use Rattle.sim_base.specs.declared.rule.Rule.TheVariants as r
 use Rattle.sim_tree.specs.declared.expr.Identifier.{Identifier}
 use Rattle.sim_scope.specs.declared.found.Fault.{Fault}
 use Rattle.sim_scope.specs.declared.scopes.Declaration.{Declaration}
-use Rattle.sim_scope.specs.declared.standard.Attribute.{Attribute}
-use Rattle.sim_scope.specs.declared.standard.StandardType.{StandardType}
-use Rattle.sim_scope.specs.declared.standard.StandardType.TheVariants as standard_type
+use Rattle.sim_values.specs.declared.standard.Standard.{Standard}
+use Rattle.sim_values.specs.declared.standard.StandardType.{StandardType}
 use Rattle.sim_scope.specs.declared.types.BlockKind.{BlockKind}
 use Rattle.sim_scope.specs.declared.types.BlockKind.TheVariants as kind
 use Rattle.sim_scope.specs.declared.types.Entry.{Entry}
@@ -27,7 +26,7 @@ use Rattle.sim_scope.specs.declared.types.StandardClass.TheVariants as standard_
 use Rattle.sim_scope.specs.declared.types.WrittenMode.{WrittenMode}
 use Rattle.sim_scope.specs.Found.{fault, lesser}
 use Rattle.sim_scope.specs.Scopes.{declared_in, entry_of, lookup}
-use Rattle.sim_scope.specs.Standard.{attribute_name, parameter_of, result_of}
+use Rattle.sim_scope.specs.Standard.{attribute_name, class_typed, parameter_of, plain_type, result_of}
 use Rattle.sim_scope.specs.Tables.{BlockOf, Tables}
 
 -- the tables so far; how many identifiers the program itself declares; the innermost block that is open; the declaration of the identifier
@@ -61,7 +60,7 @@ pub data Mark : Type 0 where
   Prefixes : (class : Identifier) → Mark
   -- `simset` or `simulation` in front of the innermost block declares a standard class, and an attribute of one or of its own
   Brings : StandardClass → (token : ℕ) → Mark
-  Provides : Option StandardClass → Attribute → (token : ℕ) → Mark
+  Provides : Option StandardClass → Standard → (token : ℕ) → Mark
   -- a class hides or protects an attribute, or both
   Protects : (hides keeps : Bool) → (attribute : Identifier) → Mark
   -- an `inner` in the statement list of a class's body
@@ -324,15 +323,13 @@ class_type None which = t.NoneType
 class_type (Some d) which = t.Ref (record { 0 = d.0 + place_of which })
 
 abbrev pub typed : (first : Option DeclNo) → StandardType → SimType
-typed first standard_type.Integer = t.Integer
-typed first standard_type.Boolean = t.Boolean
-typed first (standard_type.Ref which) = class_type first which
+typed first ty = elim (class_typed ty) [ None ↦ plain_type ty | Some which ↦ class_type first which ]
 
 abbrev pub typed_or_none : (first : Option DeclNo) → Option StandardType → Option SimType
 typed_or_none first None = None
 typed_or_none first (Some ty) = Some (typed first ty)
 
-abbrev pub attribute_entry : (first : Option DeclNo) → Attribute → Entry
+abbrev pub attribute_entry : (first : Option DeclNo) → Standard → Entry
 attribute_entry first name = entry.Attribute name (typed_or_none first (parameter_of name)) (typed_or_none first (result_of name))
 
 abbrev pub first_brought : Option BlockOf → Option DeclNo
@@ -340,7 +337,7 @@ first_brought None = None
 first_brought (Some row) = slice_get row.brought 0
 
 -- one more declaration of an attribute, with the row of its block after it
-abbrev pub provided_at : BuildingOf → (new : BlockOf) → Attribute → (token : ℕ) → (first : Option DeclNo) → (block : ℕ) → (listed : Bool) → BuildingOf
+abbrev pub provided_at : BuildingOf → (new : BlockOf) → Standard → (token : ℕ) → (first : Option DeclNo) → (block : ℕ) → (listed : Bool) → BuildingOf
 provided_at b new name token first block listed = record b {
   tables = record b.tables {
     blocks = slice_set b.tables.blocks block new;
@@ -349,25 +346,25 @@ provided_at b new name token first block listed = record b {
 }
 
 -- an attribute of `simulation` itself, which the block does not list
-abbrev pub provided_alone : BuildingOf → Attribute → (token : ℕ) → (first : Option DeclNo) → (block : ℕ) → Option BlockOf → BuildingOf
+abbrev pub provided_alone : BuildingOf → Standard → (token : ℕ) → (first : Option DeclNo) → (block : ℕ) → Option BlockOf → BuildingOf
 provided_alone b name token first block None = b
 provided_alone b name token first block (Some row) =
     if list_any (bytes_eq (attribute_name name)) row.brought_names then b
     else provided_at b (with_brought (attribute_name name) (record { 0 = length b.tables.declarations }) row) name token first block false
 
 -- an attribute of a standard class, which the block of that class lists
-abbrev pub provided_in : BuildingOf → Attribute → (token : ℕ) → (first : Option DeclNo) → (block : ℕ) → Option BlockOf → BuildingOf
+abbrev pub provided_in : BuildingOf → Standard → (token : ℕ) → (first : Option DeclNo) → (block : ℕ) → Option BlockOf → BuildingOf
 provided_in b name token first block None = b
 provided_in b name token first block (Some row) =
     if list_any (bytes_eq (attribute_name name)) row.names then b
     else provided_at b (with_name row (attribute_name name) (record { 0 = length b.tables.declarations })) name token first block true
 
-abbrev pub provides_in : BuildingOf → Option StandardClass → Attribute → (token block : ℕ) → (first : Option DeclNo) → BuildingOf
+abbrev pub provides_in : BuildingOf → Option StandardClass → Standard → (token block : ℕ) → (first : Option DeclNo) → BuildingOf
 provides_in b None name token block first = provided_alone b name token first block (slice_get b.tables.blocks block)
 provides_in b (Some which) name token block first =
     provided_in b name token first (block + 1 + place_of which) (slice_get b.tables.blocks (block + 1 + place_of which))
 
-abbrev pub provides : BuildingOf → Option StandardClass → Attribute → (token : ℕ) → Option ℕ → BuildingOf
+abbrev pub provides : BuildingOf → Option StandardClass → Standard → (token : ℕ) → Option ℕ → BuildingOf
 provides b which name token None = b
 provides b which name token (Some block) = provides_in b which name token block (first_brought (slice_get b.tables.blocks block))
 

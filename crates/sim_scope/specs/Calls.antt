@@ -15,20 +15,21 @@ use Rattle.sim_scope.specs.declared.scopes.Declaration.{Declaration}
 use Rattle.sim_scope.specs.declared.scopes.Denotation.{Denotation}
 use Rattle.sim_scope.specs.declared.scopes.Denotation.TheVariants as denotation
 use Rattle.sim_scope.specs.declared.standard.Signature.{Signature}
-use Rattle.sim_scope.specs.declared.standard.Standard.{Standard}
-use Rattle.sim_scope.specs.declared.standard.Standard.TheVariants as standard
+use Rattle.sim_scope.specs.declared.standard.StandardName.{StandardName}
+use Rattle.sim_scope.specs.declared.standard.StandardName.TheVariants as standard
+use Rattle.sim_values.specs.declared.standard.Standard.TheVariants as procedure
 use Rattle.sim_scope.specs.declared.types.Entry.{Entry}
 use Rattle.sim_scope.specs.declared.types.Entry.TheVariants as entry
 use Rattle.sim_scope.specs.declared.types.Formal.{Formal}
 use Rattle.sim_scope.specs.declared.types.FormalKind.TheVariants as kind
 use Rattle.sim_scope.specs.declared.types.SimType.{SimType}
 use Rattle.sim_scope.specs.declared.types.SimType.TheVariants as t
-use Rattle.sim_scope.specs.Found.{Broken, Typed, Uses}
+use Rattle.sim_scope.specs.Found.{Broken, FoundIn, Typed, Uses}
 use Rattle.sim_scope.specs.Judged.{Judged, gives, next, telling}
 use Rattle.sim_scope.specs.Access.{block_at}
 use Rattle.sim_scope.specs.Levels.{class_block, has_classes, has_level}
 use Rattle.sim_scope.specs.Outcomes.{breaks, call_of, is_stream, side, varies}
-use Rattle.sim_scope.specs.Scopes.{binding, block_in, declaration_from, declared_or_standard, entry_of, formals_of, is_detach, is_passed_over, shown}
+use Rattle.sim_scope.specs.Scopes.{binding, block_in, declaration_from, declared_or_standard, entry_of, formals_of, found_in, is_detach, is_passed_over, is_shown, shown}
 use Rattle.sim_scope.specs.Standard.{is_standard_class, signature, sysin_attribute, sysout_attribute, text_attribute, undeclared}
 use Rattle.sim_scope.specs.Tables.{BlockOf, Tables}
 
@@ -61,6 +62,14 @@ abbrev pub used_or_barred : (token : ℕ) → Denotation → Bool → Judged (Op
 used_or_barred token d true = telling (Broken token r.BoundDependsOnItsBlock) None
 used_or_barred token d false = telling (Uses token d) (Some d)
 
+-- the block in which an identifier is found, if it is found in one
+unfoldable pub located : (token : ℕ) → (block : Option ℕ) → Judged (Unit {0})
+located token None = gives tt
+located token (Some block) = telling (FoundIn token block) tt
+
+unfoldable pub used_in : (token : ℕ) → (block : Option ℕ) → Denotation → (barred : Bool) → Judged (Option Denotation)
+used_in token block d barred = next (located token block) (λ n. used_or_barred token d barred)
+
 -- S11: an attribute of this name is there, and not accessible
 abbrev pub missing : (passed : Bool) → List ℕ → Rule
 missing true name = r.NotAccessible
@@ -68,26 +77,22 @@ missing false name = undeclared name
 
 abbrev pub found_as : Tables → Extent → (token : ℕ) → List ℕ → Option Denotation → Judged (Option Denotation)
 found_as s e token name None = telling (Broken token (missing (is_passed_over s token name) name)) None
-found_as s e token name (Some d) = used_or_barred token d (is_barred s e token d)
+found_as s e token name (Some d) = used_in token (found_in s token name) d (is_barred s e token d)
 
 unfoldable pub bound : Tables → Extent → Identifier → Judged (Option Denotation)
 bound s e x = found_as s e x.token.0 x.name (binding s x.token.0 x.name)
 
 -- What an attribute behind a dot denotes. S10: the object has it. S13: only texts and objects have attributes.
-abbrev pub attribute_found : Identifier → Option Standard → Judged (Option Denotation)
+abbrev pub attribute_found : Identifier → Option StandardName → Judged (Option Denotation)
 attribute_found x None = telling (Broken x.token.0 (undeclared x.name)) None
 attribute_found x (Some name) = telling (Uses x.token.0 (denotation.Standard name)) (Some (denotation.Standard name))
 
 -- The attribute of an object: what its class shows, where it is accessible, and `detach` behind that.
-abbrev pub detach_or_none : List ℕ → Option Standard
-detach_or_none name = if is_detach name then Some standard.Detach else None
+abbrev pub detach_or_none : List ℕ → Option StandardName
+detach_or_none name = if is_detach name then Some (standard.Procedure procedure.Detach) else None
 
 unfoldable pub attribute_in : Tables → (token block : ℕ) → List ℕ → Option Denotation
 attribute_in s token block name = declared_or_standard s (shown s (Some token) block name) (detach_or_none name)
-
-abbrev pub is_shown : Option DeclNo → Bool
-is_shown None = false
-is_shown (Some d) = true
 
 -- S11: the class has an attribute of this name, which is not accessible
 unfoldable pub attribute_missing : Tables → (block : ℕ) → Identifier → Rule
@@ -227,7 +232,7 @@ declared_applied naming token (Some (entry.Formal f)) formals a = formal_applied
 declared_applied naming token _ formals a = breaks token r.WrongKind
 
 -- S23: `sysin` and `sysout` stand before a dot alone
-abbrev pub standard_applied : (naming token : ℕ) → Standard → Signature → Actuals → Judged Outcome
+abbrev pub standard_applied : (naming token : ℕ) → StandardName → Signature → Actuals → Judged Outcome
 standard_applied naming token name s a =
     if is_stream name then breaks token r.StandardNameLeftOut
     else if is_standard_class name then breaks token r.WrongKind

@@ -1,5 +1,5 @@
 -- What a program declares, read from left to right.
-use Rattle.std.specs.Prelude.{ℕ, Bool, true, false, List, [], ◌∷◌, ◌++◌, length, Option, Some, None}
+use Rattle.std.specs.Prelude.{ℕ, Bool, true, false, if◌then◌else◌, List, [], ◌∷◌, ◌++◌, length, Option, Some, None}
 use Rattle.sim_tree.specs.declared.expr.Identifier.{Identifier}
 use Rattle.sim_tree.specs.declared.program.Program.{Program as Tree}
 use Rattle.sim_tree.specs.declared.stmt.ArraySegment.{ArraySegment}
@@ -30,8 +30,10 @@ use Rattle.sim_scope.specs.declared.types.StandardPrefix.{StandardPrefix}
 use Rattle.sim_scope.specs.declared.types.StandardPrefix.TheVariants as prefix
 use Rattle.sim_scope.specs.Building.{BuildingOf, Mark, Opens, Closes, Declares, DeclaresProcedure, DeclaresClass, Parameter, Moded, Specified, Headed, Qualifies, Prefixes, Brings, Provides, Protects, Inner, Breaks, marked}
 use Rattle.sim_scope.specs.Runs.{each, run}
-use Rattle.sim_scope.specs.declared.standard.Provided.{Provided}
-use Rattle.sim_scope.specs.Standard.{attributes_of_sets, attributes_of_simulation, classes_of_sets, classes_of_simulation, standard_prefix}
+use Rattle.sim_scope.specs.Standard.{class_owning, classes_of_sets, classes_of_simulation, is_provided, standard_prefix}
+use Rattle.sim_values.specs.declared.standard.Standard.{Standard}
+use Rattle.sim_values.specs.declared.standard.TheConstants.{STANDARD_NAMES}
+use Rattle.sim_values.specs.Standard.{row_of}
 use Rattle.sim_scope.specs.Walk.{Visit, program_events}
 
 -- Types and modes as they are written. The class of a `ref` is not looked for yet.
@@ -122,17 +124,17 @@ procedure_marks result token x =
 unfoldable pub brings_class : (token : ℕ) → StandardClass → List Mark
 brings_class token which = Brings which token ∷ []
 
-unfoldable pub provides_attribute : (token : ℕ) → Provided → List Mark
-provides_attribute token p = Provides p.class p.name token ∷ []
+unfoldable pub provides_attribute : StandardPrefix → (token : ℕ) → Standard → List Mark
+provides_attribute which token name = if is_provided which (row_of name).owner then Provides (class_owning (row_of name).owner) name token ∷ [] else []
 
-unfoldable pub brought_marks : (token : ℕ) → List StandardClass → List Provided → List Mark
-brought_marks token classes attributes = each (brings_class token) classes ++ each (provides_attribute token) attributes
+unfoldable pub brought_marks : (token : ℕ) → StandardPrefix → List StandardClass → List Mark
+brought_marks token which classes = each (brings_class token) classes ++ each (provides_attribute which token) STANDARD_NAMES
 
 -- what a prefix declares in its block, where it turns out to be the standard one of this name
 unfoldable pub marks_of_standard : (token : ℕ) → Option StandardPrefix → List Mark
 marks_of_standard token None = []
-marks_of_standard token (Some prefix.Simset) = brought_marks token classes_of_sets attributes_of_sets
-marks_of_standard token (Some prefix.Simulation) = brought_marks token classes_of_simulation attributes_of_simulation
+marks_of_standard token (Some prefix.Simset) = brought_marks token prefix.Simset classes_of_sets
+marks_of_standard token (Some prefix.Simulation) = brought_marks token prefix.Simulation classes_of_simulation
 
 unfoldable pub standard_marks : (token : ℕ) → List ℕ → List Mark
 standard_marks token name = marks_of_standard token (standard_prefix name)

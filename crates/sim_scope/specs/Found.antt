@@ -68,21 +68,25 @@ abbrev pub lesser_of : Option Fault → Option Fault → Option Fault
 lesser_of least None = least
 lesser_of least (Some fault) = lesser least fault
 
--- What was found: the least broken rule; for each token of an identifier what it denotes; for each token that names an expression its type.
+-- What was found: the least broken rule; for each token of an identifier what it denotes; for each token of an identifier, and of `this`, the
+-- block in which it was found; for each token that names an expression its type.
 pub record Findings : Type 0 where
   pub least : Option Fault
   pub uses : List (Option Denotation)
+  pub found_in : List (Option ℕ)
   pub types : List (Option SimType)
 
 -- what a piece of a program contributes
 pub data Event : Type 0 where
   Broken : (token : ℕ) → Rule → Event
   Uses : (token : ℕ) → Denotation → Event
+  FoundIn : (token block : ℕ) → Event
   Typed : (token : ℕ) → SimType → Event
 
 unfoldable pub found : Findings → Event → Findings
 found f (Broken token rule) = record f { least = lesser f.least (fault token rule) }
 found f (Uses token denotation) = record f { uses = slice_set f.uses token (Some denotation) }
+found f (FoundIn token block) = record f { found_in = slice_set f.found_in token (Some block) }
 found f (Typed token ty) = record f { types = slice_set f.types token (Some ty) }
 
 abbrev pub after : Findings → List Event → Findings
@@ -90,4 +94,4 @@ after f es = run found f es
 
 -- nothing found yet of so many tokens
 abbrev pub unknown : ℕ → Findings
-unknown tokens = record { least = None; uses = replicate tokens None; types = replicate tokens None }
+unknown tokens = record { least = None; uses = replicate tokens None; found_in = replicate tokens None; types = replicate tokens None }

@@ -9,8 +9,8 @@ use Rattle.sim_scope.specs.declared.outcome.Outcome.{Outcome}
 use Rattle.sim_scope.specs.declared.outcome.Outcome.TheVariants as is
 use Rattle.sim_scope.specs.declared.outcome.Side.{Side}
 use Rattle.sim_scope.specs.declared.standard.Signature.{Signature}
-use Rattle.sim_scope.specs.declared.standard.Standard.{Standard}
-use Rattle.sim_scope.specs.declared.standard.Standard.TheVariants as standard
+use Rattle.sim_scope.specs.declared.standard.StandardName.{StandardName}
+use Rattle.sim_scope.specs.declared.standard.StandardName.TheVariants as standard
 use Rattle.sim_scope.specs.declared.types.Entry.{Entry}
 use Rattle.sim_scope.specs.declared.types.Entry.TheVariants as entry
 use Rattle.sim_scope.specs.declared.types.SimType.{SimType}
@@ -49,7 +49,7 @@ procedure_called token formals (Some (entry.Attribute name None result)) = gives
 procedure_called token formals (Some (entry.Attribute name (Some ty) result)) = breaks token r.WrongNumber
 procedure_called token formals _ = gives is.Refused
 
-abbrev pub is_stream : Standard → Bool
+abbrev pub is_stream : StandardName → Bool
 is_stream standard.Sysin = true
 is_stream standard.Sysout = true
 is_stream _ = false
@@ -58,7 +58,7 @@ abbrev pub signature_called : (token : ℕ) → Signature → Judged Outcome
 signature_called token s = (elim s.first [ None ↦ gives (call_of s.result) | Some a ↦ breaks token r.WrongNumber ])
 
 -- S23: `sysin` and `sysout` stand before a dot alone. S15: there are no parameters.
-abbrev pub standard_called : (token : ℕ) → Standard → Judged Outcome
+abbrev pub standard_called : (token : ℕ) → StandardName → Judged Outcome
 standard_called token name = if is_stream name then breaks token r.StandardNameLeftOut else signature_called token (signature name)
 
 -- A procedure identifier and a standard name alone are calls, where they are not passed on and not assigned to.

@@ -11,12 +11,13 @@ use Rattle.sim_scope.specs.declared.outcome.Outcome.TheVariants as is
 use Rattle.sim_scope.specs.declared.outcome.Side.{Side}
 use Rattle.sim_scope.specs.declared.scopes.Denotation.{Denotation}
 use Rattle.sim_scope.specs.declared.scopes.Denotation.TheVariants as denotation
-use Rattle.sim_scope.specs.declared.standard.Standard.{Standard}
-use Rattle.sim_scope.specs.declared.standard.Standard.TheVariants as standard
+use Rattle.sim_scope.specs.declared.standard.StandardName.{StandardName}
+use Rattle.sim_scope.specs.declared.standard.StandardName.TheVariants as standard
+use Rattle.sim_scope.specs.declared.types.StandardPrefix.TheVariants as standard_prefix
 use Rattle.sim_scope.specs.declared.types.SimType.{SimType}
 use Rattle.sim_scope.specs.declared.types.SimType.TheVariants as t
 use Rattle.sim_scope.specs.Access.{block_at, encloser, is_kind}
-use Rattle.sim_scope.specs.Calls.{bound, misfitting_or}
+use Rattle.sim_scope.specs.Calls.{bound, located, misfitting_or}
 use Rattle.sim_scope.specs.Found.{Broken, Typed}
 use Rattle.sim_scope.specs.Judged.{Judged, gives, next, telling}
 use Rattle.sim_scope.specs.Levels.{class_block, has_level, has_standard, is_for_prefixing, is_simulation_block, level_beyond, on_one_chain, some_level}
@@ -35,7 +36,7 @@ abbrev pub declared_class : (token : ℕ) → DeclNo → Option ℕ → Judged (
 declared_class token d None = no_class token
 declared_class token d (Some block) = gives (Some (denotation.Declared d))
 
-abbrev pub standard_class : (token : ℕ) → Standard → Judged (Option Denotation)
+abbrev pub standard_class : (token : ℕ) → StandardName → Judged (Option Denotation)
 standard_class token name = if is_standard_class name then gives (Some (denotation.Standard name)) else no_class token
 
 unfoldable pub as_class : Tables → (token : ℕ) → Option Denotation → Judged (Option Denotation)
@@ -90,7 +91,7 @@ qualified s naming x name class = class_compared s x name.token.0 x.ty class (λ
 abbrev pub level_is : Tables → Denotation → Option ℕ → (block : ℕ) → Bool
 level_is s (denotation.Declared d) None block = false
 level_is s (denotation.Declared d) (Some level) block = has_level s block level
-level_is s (denotation.Standard standard.Simulation) level block = some_level s (is_simulation_block s) block
+level_is s (denotation.Standard (standard.Prefix standard_prefix.Simulation)) level block = some_level s (is_simulation_block s) block
 level_is s (denotation.Standard name) level block = some_level s (has_standard s) block
 
 abbrev pub block_of_class : Tables → Denotation → Option ℕ
@@ -122,10 +123,13 @@ abbrev pub this_or_barred : Bool → (token : ℕ) → Judged Outcome → Judged
 this_or_barred true token j = breaks token r.BoundDependsOnItsBlock
 this_or_barred false token j = j
 
+abbrev pub this_in : Tables → Extent → (naming token : ℕ) → Denotation → (block : ℕ) → Judged Outcome
+this_in s e naming token class block =
+    unless_prefix (is_only_prefix s class) token (this_or_barred (this_barred s e token block) token (has naming (class_type class)))
+
 abbrev pub this_found : Tables → Extent → (naming token : ℕ) → Denotation → Option ℕ → Judged Outcome
 this_found s e naming token class None = breaks token r.ThisOutsideItsClass
-this_found s e naming token class (Some block) =
-    unless_prefix (is_only_prefix s class) token (this_or_barred (this_barred s e token block) token (has naming (class_type class)))
+this_found s e naming token class (Some block) = next (located naming (Some block)) (λ n. this_in s e naming token class block)
 
 -- S18: there is such a block
 unfoldable pub this_object : Tables → Extent → (naming : ℕ) → Identifier → Option Denotation → Judged Outcome

@@ -1,12 +1,12 @@
 -- What an identifier denotes.
-use Rattle.std.specs.Prelude.{ℕ, zero, suc, Bool, true, false, ◌&&◌, not, if◌then◌else◌, List, [], ◌++◌, length, position, slice_get, take, codes, Option, Some, None}
+use Rattle.std.specs.Prelude.{ℕ, zero, suc, Bool, true, false, ◌||◌, ◌&&◌, not, if◌then◌else◌, List, [], ◌++◌, length, position, slice_get, take, codes, Option, Some, None}
 use Rattle.std.specs.Option.{option_or}
 use Rattle.std.specs.Str.{bytes_eq}
 use Rattle.sim_base.specs.declared.numbering.DeclNo.{DeclNo}
 use Rattle.sim_scope.specs.declared.scopes.Declaration.{Declaration}
 use Rattle.sim_scope.specs.declared.scopes.Denotation.{Denotation}
 use Rattle.sim_scope.specs.declared.scopes.Denotation.TheVariants as denotation
-use Rattle.sim_scope.specs.declared.standard.Standard.{Standard}
+use Rattle.sim_scope.specs.declared.standard.StandardName.{StandardName}
 use Rattle.sim_scope.specs.declared.types.BlockKind.{BlockKind}
 use Rattle.sim_scope.specs.declared.types.BlockKind.TheVariants as kind
 use Rattle.sim_scope.specs.declared.types.Entry.{Entry}
@@ -14,7 +14,8 @@ use Rattle.sim_scope.specs.declared.types.Entry.TheVariants as entry
 use Rattle.sim_scope.specs.declared.types.Formal.{Formal}
 use Rattle.sim_scope.specs.declared.types.SimType.{SimType}
 use Rattle.sim_scope.specs.Access.{accessible, block_at, encloser, is_kind, some_around}
-use Rattle.sim_scope.specs.Levels.{base}
+use Rattle.sim_scope.specs.Along.{first_along}
+use Rattle.sim_scope.specs.Levels.{base, level_beyond}
 use Rattle.sim_scope.specs.Standard.{standard_name}
 use Rattle.sim_scope.specs.Tables.{BlockOf, Tables}
 
@@ -93,6 +94,17 @@ unfoldable pub declaration_from : Tables → Option ℕ → Option ℕ → List 
 declaration_from s from None name = None
 declaration_from s from (Some block) name = searched s from (length s.blocks) block name
 
+-- Where a name is found: in the innermost block around a token that shows it, or that has `detach`, if it is that name.
+abbrev pub is_shown : Option DeclNo → Bool
+is_shown None = false
+is_shown (Some d) = true
+
+unfoldable pub if_found : Tables → (token : ℕ) → List ℕ → (block : ℕ) → Option ℕ
+if_found s token name block = if is_shown (shown s (Some token) block name) || ends_search s block name then Some block else None
+
+unfoldable pub found_in : Tables → (token : ℕ) → List ℕ → Option ℕ
+found_in s token name = level_beyond (first_along (encloser s) (length s.blocks) (if_found s token name)) (block_at s token)
+
 -- Virtual procedures. At the level of a virtual and at every level inside it the identifier denotes the virtual, also where that level
 -- declares a match.
 abbrev pub is_virtual : Entry → Bool
@@ -137,13 +149,13 @@ represented_row s d (Some row) =
 unfoldable pub represented : Tables → DeclNo → DeclNo
 represented s d = represented_row s d (slice_get s.declarations d.0)
 
-abbrev pub declared_or_standard : Tables → Option DeclNo → Option Standard → Option Denotation
+abbrev pub declared_or_standard : Tables → Option DeclNo → Option StandardName → Option Denotation
 declared_or_standard s (Some d) k = Some (denotation.Declared (represented s d))
 declared_or_standard s None (Some k) = Some (denotation.Standard k)
 declared_or_standard s None None = None
 
 -- the standard name that is seen at a token; `detach` is seen in classes, prefixed blocks and connections alone
-unfoldable pub standard_at : Tables → (token : ℕ) → List ℕ → Option Standard
+unfoldable pub standard_at : Tables → (token : ℕ) → List ℕ → Option StandardName
 standard_at s token name = if is_detach name && not (some_around s (is_kind has_detach s) token) then None else standard_name name
 
 -- what a name denotes at a token: what the innermost block declares that declares it, else a standard name

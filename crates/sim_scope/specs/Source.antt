@@ -14,18 +14,24 @@ use Rattle.sim_scope.specs.Tables.{BlockOf, Tables}
 pub record Source : Type 0 where
   pub program : Program
   pub tables : Tables
-  -- for each token of an identifier what it denotes; for each token that names an expression its type
+  -- for each token of an identifier what it denotes; for each token of an identifier, and of `this`, the block in which it was found; for each
+  -- token that names an expression its type
   pub uses : List (Option Denotation)
+  pub found_in : List (Option ℕ)
   pub types : List (Option SimType)
   -- for each token its line
   pub lines : List Line
 
 unfoldable pub source_of : Bound → Source
-source_of b = record { program = program_syntax b.program; tables = b.scopes; uses = b.uses.items; types = b.types.items; lines = b.program.lines.items }
+source_of b = record { program = program_syntax b.program; tables = b.scopes; uses = b.uses.items; found_in = b.found_in.items; types = b.types.items; lines = b.program.lines.items }
 
 -- what an identifier denotes
 unfoldable pub denoted : Source → (token : ℕ) → Option Denotation
 denoted s token = joined (slice_get s.uses token)
+
+-- the block in which an identifier was found, and the block whose object `this` means
+unfoldable pub found_at : Source → (token : ℕ) → Option ℕ
+found_at s token = joined (slice_get s.found_in token)
 
 -- the type of an expression, by the token that names it
 unfoldable pub type_at : Source → (token : ℕ) → Option SimType

@@ -1,168 +1,124 @@
--- The standard names: which there are, the types of their operands, and the type of their result. And the names that are left out.
-use Rattle.std.specs.Prelude.{◌≡◌, drop, ℕ, Bool, true, false, if◌then◌else◌, List, [], ◌∷◌, Option, Some, None, codes}
+-- The standard names: which are seen where, the types of their operands, and the type of their result. And the names that are left out.
+use Rattle.std.specs.Prelude.{◌≡◌, ◌&&◌, drop, ℕ, Bool, true, false, if◌then◌else◌, List, [], ◌∷◌, Option, Some, None, codes, slice_get}
 use Rattle.std.specs.List.{list_any}
 use Rattle.std.specs.Str.{bytes_eq}
 use Rattle.sim_base.specs.declared.rule.Rule.{Rule}
 use Rattle.sim_base.specs.declared.rule.Rule.TheVariants as rule
-use Rattle.sim_scope.specs.declared.standard.Row.{Row}
-use Rattle.sim_scope.specs.declared.standard.Attribute.{Attribute}
-use Rattle.sim_scope.specs.declared.standard.Attribute.TheVariants as attribute
-use Rattle.sim_scope.specs.declared.standard.Provided.{Provided}
-use Rattle.sim_scope.specs.declared.standard.StandardType.{StandardType}
-use Rattle.sim_scope.specs.declared.standard.StandardType.TheVariants as of
+use Rattle.sim_values.specs.declared.standard.Owner.{Owner}
+use Rattle.sim_values.specs.declared.standard.Owner.TheVariants as owner
+use Rattle.sim_values.specs.declared.standard.Standard.{Standard}
+use Rattle.sim_values.specs.declared.standard.StandardType.{StandardType}
+use Rattle.sim_values.specs.declared.standard.StandardType.TheVariants as of
+use Rattle.sim_values.specs.declared.standard.TheConstants.{STANDARD_NAMES}
+use Rattle.sim_values.specs.Standard.{row_of}
+use Rattle.sim_scope.specs.declared.standard.Place.{Place}
+use Rattle.sim_scope.specs.declared.standard.Place.TheVariants as place
+use Rattle.sim_scope.specs.declared.standard.Signature.{Signature}
+use Rattle.sim_scope.specs.declared.standard.StandardName.{StandardName}
+use Rattle.sim_scope.specs.declared.standard.StandardName.TheVariants as standard
+use Rattle.sim_scope.specs.declared.types.SimType.{SimType}
+use Rattle.sim_scope.specs.declared.types.SimType.TheVariants as t
 use Rattle.sim_scope.specs.declared.types.StandardClass.{StandardClass}
 use Rattle.sim_scope.specs.declared.types.StandardClass.TheVariants as class
 use Rattle.sim_scope.specs.declared.types.StandardPrefix.{StandardPrefix}
 use Rattle.sim_scope.specs.declared.types.StandardPrefix.TheVariants as prefix
-use Rattle.sim_scope.specs.declared.standard.Signature.{Signature}
-use Rattle.sim_scope.specs.declared.standard.Standard.{Standard}
-use Rattle.sim_scope.specs.declared.standard.Standard.TheVariants as standard
-use Rattle.sim_scope.specs.declared.types.SimType.{SimType}
-use Rattle.sim_scope.specs.declared.types.SimType.TheVariants as t
 
--- a name of a table, and what it stands for
-abbrev pub Entries : Type 0
-Entries = List (List ℕ × Standard)
+-- Which names are seen at a place, by where the table has them. Alone `pos`, `setpos`, `more`, `length` and `image` are those of sysout.
+abbrev pub is_seen : Place → Owner → Bool
+is_seen place.Alone owner.Environment = true
+is_seen place.Alone owner.Sysin = true
+is_seen place.Alone owner.Sysout = true
+is_seen place.Alone owner.Images = true
+is_seen place.Alone owner.Object = true
+is_seen place.Text owner.Text = true
+is_seen place.Sysin owner.Sysin = true
+is_seen place.Sysin owner.Images = true
+is_seen place.Sysout owner.Sysout = true
+is_seen place.Sysout owner.Images = true
+is_seen _ _ = false
 
-abbrev pub entry_named : List ℕ → Entries → Option Standard
-entry_named name [] = None
-entry_named name (e ∷ es) = if bytes_eq name e.0 then Some e.1 else entry_named name es
+abbrev pub is_named : Place → List ℕ → Standard → Bool
+is_named place name x = is_seen place (row_of x).owner && bytes_eq name (row_of x).spelling
 
--- the tables of the code
-abbrev pub rows : List Row → Entries
-rows [] = []
-rows (r ∷ rs) = (r.name.now, r.standard) ∷ rows rs
+-- the first of these names that is seen at a place, and spelt so
+abbrev pub first_named : Place → List ℕ → List Standard → Option Standard
+first_named place name [] = None
+first_named place name (x ∷ xs) = if is_named place name x then Some x else first_named place name xs
 
--- what a name stands for in a table of the code
-unfoldable pub Names : List ℕ → List Row → Option Standard → Type 0
-Names name table standard = standard ≡ entry_named name (rows table)
+unfoldable pub Names : Place → List ℕ → List Standard → Option Standard → Type 0
+Names place name table standard = standard ≡ first_named place name table
 
--- in a loop: the name is not among the rows before this one
-unfoldable pub Passes : List ℕ → List Row → ℕ → Type 0
-Passes name table i = entry_named name (rows table) ≡ entry_named name (rows (drop i table))
+-- in a loop: the name is not among those before this one
+unfoldable pub Passes : Place → List ℕ → List Standard → ℕ → Type 0
+Passes place name table i = first_named place name table ≡ first_named place name (drop i table)
 
--- The names that are written alone. `pos`, `setpos`, `more`, `length` and `image` are those of sysout.
-abbrev pub names_alone : Entries
-names_alone =
-    (codes "abs", standard.Abs) ∷ (codes "sign", standard.Sign) ∷ (codes "min", standard.Min) ∷ (codes "max", standard.Max) ∷
-    (codes "mod", standard.Mod) ∷ (codes "rem", standard.Rem) ∷ (codes "maxint", standard.Maxint) ∷ (codes "minint", standard.Minint) ∷
-    (codes "char", standard.Char) ∷ (codes "rank", standard.Rank) ∷ (codes "isochar", standard.Isochar) ∷ (codes "isorank", standard.Isorank) ∷
-    (codes "digit", standard.Digit) ∷ (codes "letter", standard.Letter) ∷ (codes "blanks", standard.Blanks) ∷ (codes "copy", standard.Copy) ∷
-    (codes "upcase", standard.Upcase) ∷ (codes "lowcase", standard.Lowcase) ∷ (codes "inimage", standard.Inimage) ∷
-    (codes "inchar", standard.Inchar) ∷ (codes "inint", standard.Inint) ∷ (codes "intext", standard.Intext) ∷
-    (codes "lastitem", standard.Lastitem) ∷ (codes "endfile", standard.Endfile) ∷ (codes "outimage", standard.Outimage) ∷
-    (codes "outchar", standard.Outchar) ∷ (codes "outtext", standard.Outtext) ∷ (codes "outint", standard.Outint) ∷
-    (codes "image", standard.Image) ∷ (codes "pos", standard.Pos) ∷ (codes "setpos", standard.Setpos) ∷ (codes "more", standard.More) ∷
-    (codes "length", standard.Length) ∷ (codes "sysin", standard.Sysin) ∷ (codes "sysout", standard.Sysout) ∷
-    (codes "detach", standard.Detach) ∷ (codes "call", standard.Call) ∷ (codes "resume", standard.Resume) ∷
-    (codes "simset", standard.Simset) ∷ (codes "simulation", standard.Simulation) ∷ []
+-- the standard prefix of this name
+unfoldable pub standard_prefix : List ℕ → Option StandardPrefix
+standard_prefix name =
+    if bytes_eq name (codes "simset") then Some prefix.Simset
+    else if bytes_eq name (codes "simulation") then Some prefix.Simulation
+    else None
+
+-- `sysin` and `sysout` stand only before a dot, and the prefixes are classes: the table has none of these
+abbrev pub prefix_or_none : Option StandardPrefix → Option StandardName
+prefix_or_none None = None
+prefix_or_none (Some which) = Some (standard.Prefix which)
+
+abbrev pub named_beside : List ℕ → Option StandardName
+named_beside name =
+    if bytes_eq name (codes "sysin") then Some standard.Sysin
+    else if bytes_eq name (codes "sysout") then Some standard.Sysout
+    else prefix_or_none (standard_prefix name)
+
+abbrev pub procedure_or : Option Standard → Option StandardName → Option StandardName
+procedure_or None other = other
+procedure_or (Some x) other = Some (standard.Procedure x)
 
 -- what a name written alone stands for, where the program does not declare it
-unfoldable pub standard_name : List ℕ → Option Standard
-standard_name name = entry_named name names_alone
+unfoldable pub standard_name : List ℕ → Option StandardName
+standard_name name = procedure_or (first_named place.Alone name STANDARD_NAMES) (named_beside name)
 
--- The attributes of texts, which stand behind a dot.
-abbrev pub attributes_of_texts : Entries
-attributes_of_texts =
-    (codes "constant", standard.TextConstant) ∷ (codes "start", standard.TextStart) ∷ (codes "length", standard.TextLength) ∷
-    (codes "pos", standard.TextPos) ∷ (codes "more", standard.TextMore) ∷ (codes "main", standard.TextMain) ∷
-    (codes "setpos", standard.TextSetpos) ∷ (codes "getchar", standard.TextGetchar) ∷ (codes "putchar", standard.TextPutchar) ∷
-    (codes "sub", standard.TextSub) ∷ (codes "strip", standard.TextStrip) ∷ (codes "getint", standard.TextGetint) ∷
-    (codes "putint", standard.TextPutint) ∷ []
+-- The attributes of texts, of sysin and of sysout, which stand behind a dot.
+unfoldable pub text_attribute : List ℕ → Option StandardName
+text_attribute name = procedure_or (first_named place.Text name STANDARD_NAMES) None
 
-unfoldable pub text_attribute : List ℕ → Option Standard
-text_attribute name = entry_named name attributes_of_texts
+unfoldable pub sysin_attribute : List ℕ → Option StandardName
+sysin_attribute name = procedure_or (first_named place.Sysin name STANDARD_NAMES) None
 
--- The attributes of sysin and of sysout, which stand behind a dot.
-abbrev pub attributes_of_both : Entries
-attributes_of_both =
-    (codes "image", standard.Image) ∷ (codes "pos", standard.Pos) ∷ (codes "setpos", standard.Setpos) ∷ (codes "more", standard.More) ∷
-    (codes "length", standard.Length) ∷ []
+unfoldable pub sysout_attribute : List ℕ → Option StandardName
+sysout_attribute name = procedure_or (first_named place.Sysout name STANDARD_NAMES) None
 
-abbrev pub attributes_of_sysin : Entries
-attributes_of_sysin =
-    (codes "inimage", standard.Inimage) ∷ (codes "inchar", standard.Inchar) ∷ (codes "inint", standard.Inint) ∷
-    (codes "intext", standard.Intext) ∷ (codes "lastitem", standard.Lastitem) ∷ (codes "endfile", standard.Endfile) ∷ attributes_of_both
+-- The types of operands and results. A parameter of the type of `none` takes every reference.
+abbrev pub plain_type : StandardType → SimType
+plain_type of.Integer = t.Integer
+plain_type of.Boolean = t.Boolean
+plain_type of.Character = t.Character
+plain_type of.Text = t.Text
+plain_type _ = t.NoneType
 
-abbrev pub attributes_of_sysout : Entries
-attributes_of_sysout =
-    (codes "outimage", standard.Outimage) ∷ (codes "outchar", standard.Outchar) ∷ (codes "outtext", standard.Outtext) ∷
-    (codes "outint", standard.Outint) ∷ attributes_of_both
-
-unfoldable pub sysin_attribute : List ℕ → Option Standard
-sysin_attribute name = entry_named name attributes_of_sysin
-
-unfoldable pub sysout_attribute : List ℕ → Option Standard
-sysout_attribute name = entry_named name attributes_of_sysout
-
--- The types of operands and results.
-abbrev pub yields : SimType → Signature
-yields result = record { first = None; second = None; result = Some result }
-
-abbrev pub of_one : SimType → Option SimType → Signature
-of_one first result = record { first = Some first; second = None; result = result }
-
-abbrev pub of_two : SimType → SimType → Option SimType → Signature
-of_two first second result = record { first = Some first; second = Some second; result = result }
+abbrev pub plain_or_none : Option StandardType → Option SimType
+plain_or_none None = None
+plain_or_none (Some ty) = Some (plain_type ty)
 
 abbrev pub of_none : Signature
 of_none = record { first = None; second = None; result = None }
 
--- A parameter of the type of `none` takes every reference. `simset` and `simulation` are classes and never called.
-unfoldable pub signature : Standard → Signature
-signature standard.Abs = of_one t.Integer (Some t.Integer)
-signature standard.Sign = of_one t.Integer (Some t.Integer)
-signature standard.Min = of_two t.Integer t.Integer (Some t.Integer)
-signature standard.Max = of_two t.Integer t.Integer (Some t.Integer)
-signature standard.Mod = of_two t.Integer t.Integer (Some t.Integer)
-signature standard.Rem = of_two t.Integer t.Integer (Some t.Integer)
-signature standard.Maxint = yields t.Integer
-signature standard.Minint = yields t.Integer
-signature standard.Char = of_one t.Integer (Some t.Character)
-signature standard.Rank = of_one t.Character (Some t.Integer)
-signature standard.Isochar = of_one t.Integer (Some t.Character)
-signature standard.Isorank = of_one t.Character (Some t.Integer)
-signature standard.Digit = of_one t.Character (Some t.Boolean)
-signature standard.Letter = of_one t.Character (Some t.Boolean)
-signature standard.Blanks = of_one t.Integer (Some t.Text)
-signature standard.Copy = of_one t.Text (Some t.Text)
-signature standard.Upcase = of_one t.Text (Some t.Text)
-signature standard.Lowcase = of_one t.Text (Some t.Text)
-signature standard.TextConstant = yields t.Boolean
-signature standard.TextStart = yields t.Integer
-signature standard.TextLength = yields t.Integer
-signature standard.TextPos = yields t.Integer
-signature standard.TextMore = yields t.Boolean
-signature standard.TextMain = yields t.Text
-signature standard.TextSetpos = of_one t.Integer None
-signature standard.TextGetchar = yields t.Character
-signature standard.TextPutchar = of_one t.Character None
-signature standard.TextSub = of_two t.Integer t.Integer (Some t.Text)
-signature standard.TextStrip = yields t.Text
-signature standard.TextGetint = yields t.Integer
-signature standard.TextPutint = of_one t.Integer None
-signature standard.Inimage = of_none
-signature standard.Inchar = yields t.Character
-signature standard.Inint = yields t.Integer
-signature standard.Intext = of_one t.Integer (Some t.Text)
-signature standard.Lastitem = yields t.Boolean
-signature standard.Endfile = yields t.Boolean
-signature standard.Outimage = of_none
-signature standard.Outchar = of_one t.Character None
-signature standard.Outtext = of_one t.Text None
-signature standard.Outint = of_two t.Integer t.Integer None
-signature standard.Image = yields t.Text
-signature standard.Pos = yields t.Integer
-signature standard.Setpos = of_one t.Integer None
-signature standard.More = yields t.Boolean
-signature standard.Length = yields t.Integer
-signature standard.Sysin = of_none
-signature standard.Sysout = of_none
-signature standard.Detach = of_none
-signature standard.Call = of_one t.NoneType None
-signature standard.Resume = of_one t.NoneType None
-signature standard.Simset = of_none
-signature standard.Simulation = of_none
+abbrev pub signature_of : Standard → Signature
+signature_of x = record {
+  first = plain_or_none (slice_get (row_of x).parameters 0);
+  second = plain_or_none (slice_get (row_of x).parameters 1);
+  result = plain_or_none (row_of x).result;
+}
+
+-- what is no procedure is never called
+unfoldable pub signature : StandardName → Signature
+signature (standard.Procedure x) = signature_of x
+signature _ = of_none
+
+-- `simset` and `simulation` are classes
+unfoldable pub is_standard_class : StandardName → Bool
+is_standard_class (standard.Prefix which) = true
+is_standard_class _ = false
 
 -- The names that the language leaves out, where the program does not declare them, and the rule that refuses them.
 abbrev pub real_functions : List (List ℕ)
@@ -208,99 +164,44 @@ undeclared name =
     else if is_environment_name name then rule.EnvironmentName
     else rule.NotDeclared
 
--- The classes that `simset` and `simulation` declare in the block that they stand in front of, and the attributes of these classes. `simulation`
--- has attributes of its own beside them.
-abbrev pub attribute_of : StandardClass → Attribute → Provided
-attribute_of which name = record { class = Some which; name = name }
-
-abbrev pub attribute_alone : Attribute → Provided
-attribute_alone name = record { class = None; name = name }
-
+-- The classes that `simset` and `simulation` declare in the block that they stand in front of, and the names of the table that they declare
+-- with these: the attributes of the classes, and those of `simulation` itself.
 abbrev pub classes_of_sets : List StandardClass
 classes_of_sets = class.Linkage ∷ class.Link ∷ class.Head ∷ []
 
 abbrev pub classes_of_simulation : List StandardClass
 classes_of_simulation = class.Linkage ∷ class.Link ∷ class.Head ∷ class.Process ∷ []
 
-abbrev pub attributes_of_sets : List Provided
-attributes_of_sets =
-    attribute_of class.Linkage attribute.Suc ∷ attribute_of class.Linkage attribute.Pred ∷ attribute_of class.Linkage attribute.Prev ∷
-    attribute_of class.Link attribute.Out ∷ attribute_of class.Link attribute.Follow ∷ attribute_of class.Link attribute.Precede ∷
-    attribute_of class.Link attribute.Into ∷ attribute_of class.Head attribute.First ∷ attribute_of class.Head attribute.Last ∷
-    attribute_of class.Head attribute.Empty ∷ attribute_of class.Head attribute.Cardinal ∷ attribute_of class.Head attribute.Clear ∷ []
+abbrev pub is_provided : StandardPrefix → Owner → Bool
+is_provided _ owner.Linkage = true
+is_provided _ owner.Link = true
+is_provided _ owner.Head = true
+is_provided prefix.Simulation owner.Process = true
+is_provided prefix.Simulation owner.Simulation = true
+is_provided _ _ = false
 
-abbrev pub attributes_of_simulation : List Provided
-attributes_of_simulation =
-    attribute_of class.Linkage attribute.Suc ∷ attribute_of class.Linkage attribute.Pred ∷ attribute_of class.Linkage attribute.Prev ∷
-    attribute_of class.Link attribute.Out ∷ attribute_of class.Link attribute.Follow ∷ attribute_of class.Link attribute.Precede ∷
-    attribute_of class.Link attribute.Into ∷ attribute_of class.Head attribute.First ∷ attribute_of class.Head attribute.Last ∷
-    attribute_of class.Head attribute.Empty ∷ attribute_of class.Head attribute.Cardinal ∷ attribute_of class.Head attribute.Clear ∷
-    attribute_of class.Process attribute.Idle ∷ attribute_of class.Process attribute.Terminated ∷ attribute_of class.Process attribute.Evtime ∷
-    attribute_of class.Process attribute.Nextev ∷ attribute_alone attribute.Time ∷ attribute_alone attribute.Current ∷
-    attribute_alone attribute.Main ∷ attribute_alone attribute.Hold ∷ attribute_alone attribute.Passivate ∷ attribute_alone attribute.Wait ∷
-    attribute_alone attribute.Cancel ∷ []
+-- the class that has an attribute; those of `simulation` have none
+abbrev pub class_owning : Owner → Option StandardClass
+class_owning owner.Linkage = Some class.Linkage
+class_owning owner.Link = Some class.Link
+class_owning owner.Head = Some class.Head
+class_owning owner.Process = Some class.Process
+class_owning _ = None
 
-abbrev pub attribute_name : Attribute → List ℕ
-attribute_name attribute.Suc = codes "suc"
-attribute_name attribute.Pred = codes "pred"
-attribute_name attribute.Prev = codes "prev"
-attribute_name attribute.Out = codes "out"
-attribute_name attribute.Follow = codes "follow"
-attribute_name attribute.Precede = codes "precede"
-attribute_name attribute.Into = codes "into"
-attribute_name attribute.First = codes "first"
-attribute_name attribute.Last = codes "last"
-attribute_name attribute.Empty = codes "empty"
-attribute_name attribute.Cardinal = codes "cardinal"
-attribute_name attribute.Clear = codes "clear"
-attribute_name attribute.Idle = codes "idle"
-attribute_name attribute.Terminated = codes "terminated"
-attribute_name attribute.Evtime = codes "evtime"
-attribute_name attribute.Nextev = codes "nextev"
-attribute_name attribute.Time = codes "time"
-attribute_name attribute.Current = codes "current"
-attribute_name attribute.Main = codes "main"
-attribute_name attribute.Hold = codes "hold"
-attribute_name attribute.Passivate = codes "passivate"
-attribute_name attribute.Wait = codes "wait"
-attribute_name attribute.Cancel = codes "cancel"
+-- the class of a type of the table
+abbrev pub class_typed : StandardType → Option StandardClass
+class_typed of.Linkage = Some class.Linkage
+class_typed of.Link = Some class.Link
+class_typed of.Head = Some class.Head
+class_typed of.Process = Some class.Process
+class_typed _ = None
+
+abbrev pub attribute_name : Standard → List ℕ
+attribute_name name = (row_of name).spelling
 
 -- the type of the parameter of an attribute, and that of its result
-abbrev pub parameter_of : Attribute → Option StandardType
-parameter_of attribute.Follow = Some (of.Ref class.Linkage)
-parameter_of attribute.Precede = Some (of.Ref class.Linkage)
-parameter_of attribute.Into = Some (of.Ref class.Head)
-parameter_of attribute.Hold = Some of.Integer
-parameter_of attribute.Wait = Some (of.Ref class.Head)
-parameter_of attribute.Cancel = Some (of.Ref class.Process)
-parameter_of _ = None
+abbrev pub parameter_of : Standard → Option StandardType
+parameter_of name = slice_get (row_of name).parameters 0
 
-abbrev pub result_of : Attribute → Option StandardType
-result_of attribute.Suc = Some (of.Ref class.Link)
-result_of attribute.Pred = Some (of.Ref class.Link)
-result_of attribute.Prev = Some (of.Ref class.Linkage)
-result_of attribute.First = Some (of.Ref class.Link)
-result_of attribute.Last = Some (of.Ref class.Link)
-result_of attribute.Empty = Some of.Boolean
-result_of attribute.Cardinal = Some of.Integer
-result_of attribute.Idle = Some of.Boolean
-result_of attribute.Terminated = Some of.Boolean
-result_of attribute.Evtime = Some of.Integer
-result_of attribute.Nextev = Some (of.Ref class.Process)
-result_of attribute.Time = Some of.Integer
-result_of attribute.Current = Some (of.Ref class.Process)
-result_of attribute.Main = Some (of.Ref class.Process)
-result_of _ = None
-
--- `simset` and `simulation` are classes
-unfoldable pub is_standard_class : Standard → Bool
-is_standard_class standard.Simset = true
-is_standard_class standard.Simulation = true
-is_standard_class _ = false
-
--- the standard prefix of this name
-unfoldable pub standard_prefix : List ℕ → Option StandardPrefix
-standard_prefix name =
-    if bytes_eq name (codes "simset") then Some prefix.Simset
-    else if bytes_eq name (codes "simulation") then Some prefix.Simulation
-    else None
+abbrev pub result_of : Standard → Option StandardType
+result_of name = (row_of name).result

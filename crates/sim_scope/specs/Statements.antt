@@ -21,8 +21,8 @@ use Rattle.sim_scope.specs.declared.outcome.Outcome.TheVariants as is
 use Rattle.sim_scope.specs.declared.outcome.Side.{Side}
 use Rattle.sim_scope.specs.declared.scopes.Denotation.{Denotation}
 use Rattle.sim_scope.specs.declared.scopes.Denotation.TheVariants as denotation
-use Rattle.sim_scope.specs.declared.standard.Standard.{Standard}
-use Rattle.sim_scope.specs.declared.standard.Standard.TheVariants as standard
+use Rattle.sim_scope.specs.declared.standard.StandardName.{StandardName}
+use Rattle.sim_scope.specs.declared.standard.StandardName.TheVariants as standard
 use Rattle.sim_scope.specs.declared.types.Entry.{Entry}
 use Rattle.sim_scope.specs.declared.types.Entry.TheVariants as entry
 use Rattle.sim_scope.specs.declared.types.FormalKind.{FormalKind}
@@ -36,7 +36,7 @@ use Rattle.sim_scope.specs.declared.types.StandardPrefix.TheVariants as standard
 use Rattle.sim_scope.specs.Access.{block_at, encloser}
 use Rattle.sim_scope.specs.Actuals.{no_actuals}
 use Rattle.sim_scope.specs.Assignments.{Nothing, assigned, fine, takes, told, wrong}
-use Rattle.sim_scope.specs.Calls.{bound}
+use Rattle.sim_scope.specs.Calls.{bound, used_in}
 use Rattle.sim_scope.specs.Expressions.{actuals, judge, judge_side}
 use Rattle.sim_scope.specs.Found.{Event, Broken, Typed, Uses}
 use Rattle.sim_scope.specs.Judged.{Judged, gives, next, telling}
@@ -45,7 +45,7 @@ use Rattle.sim_scope.specs.Operators.{is_reference, is_same, misfit_of}
 use Rattle.sim_scope.specs.Outcomes.{called}
 use Rattle.sim_scope.specs.References.{block_of_class, chained_with, class_named, formal_count, is_only_prefix}
 use Rattle.sim_scope.specs.Runs.{each}
-use Rattle.sim_scope.specs.Scopes.{entry_of}
+use Rattle.sim_scope.specs.Scopes.{binding, entry_of, found_in}
 use Rattle.sim_scope.specs.Tables.{BlockOf, Tables}
 use Rattle.sim_scope.specs.Walk.{Visit}
 
@@ -143,6 +143,26 @@ unfoldable pub control_events : Tables → Identifier → Assignment → List El
 control_events s x sign es = (controlled s sign x).events ++ each (element_events s (controlled s sign x).value) es
 
 -- Declarations.
+-- The class in the `ref( )` of a declaration is used. That it is one that may stand there was judged before (S7). In specifications and virtual
+-- parts it is no use.
+abbrev pub class_used : Tables → Identifier → Option Denotation → List Event
+class_used s class None = []
+class_used s class (Some d) = (used_in class.token.0 (found_in s class.token.0 class.name) d false).events
+
+unfoldable pub class_events : Tables → Identifier → List Event
+class_events s class = class_used s class (binding s class.token.0 class.name)
+
+abbrev pub type_events : Tables → TypeName → List Event
+type_events s (type_name.Integer i) = []
+type_events s (type_name.Boolean i) = []
+type_events s (type_name.Character i) = []
+type_events s (type_name.Text i) = []
+type_events s (type_name.Reference i class) = class_events s class
+
+abbrev pub result_events : Tables → Option TypeName → List Event
+result_events s None = []
+result_events s (Some type) = type_events s type
+
 -- S13: the value of a constant has the declared type
 abbrev pub value_type : TypeName → Option SimType
 value_type (type_name.Integer i) = Some t.Integer
@@ -191,17 +211,13 @@ abbrev pub array_events : Tables → Arrayed → List Event
 array_events s a = each (pair_events s) a.bounds
 
 -- Prefixes. What the prefix of a block denotes, as the first round found it.
-abbrev pub standard_named : StandardPrefix → Standard
-standard_named standard_prefix.Simset = standard.Simset
-standard_named standard_prefix.Simulation = standard.Simulation
-
 abbrev pub class_denoted : Option DeclNo → Option Denotation
 class_denoted None = None
 class_denoted (Some d) = Some (denotation.Declared d)
 
 abbrev pub prefix_in : Tables → Option BlockOf → Option Denotation
 prefix_in s None = None
-prefix_in s (Some row) = (elim row.standard [ None ↦ class_denoted (owner_of_level s row.base) | Some which ↦ Some (denotation.Standard (standard_named which)) ])
+prefix_in s (Some row) = (elim row.standard [ None ↦ class_denoted (owner_of_level s row.base) | Some which ↦ Some (denotation.Standard (standard.Prefix which)) ])
 
 abbrev pub prefix_of_block : Tables → Option ℕ → Option Denotation
 prefix_of_block s None = None
@@ -334,13 +350,13 @@ judging s = record {
   program = program_prefix_events s;
   block = λ begin. [];
   prefixed = prefixed_events s;
-  procedure = λ result token h. [];
+  procedure = λ result token h. result_events s result;
   class = λ prefix token h i. class_prefix_events s prefix h.name.token.0;
   connected = λ do_token. [];
   arm = λ class. [];
   leave = λ end. [];
-  variables = λ type vs. each (variable_events type) vs;
-  arrays = λ type segments. each (array_events s) segments;
+  variables = λ type vs. type_events s type ++ each (variable_events type) vs;
+  arrays = λ type segments. type_events s type ++ each (array_events s) segments;
   inner = λ p token. [];
   call = call_events s;
   assign = assignment_events s;

@@ -1,10 +1,12 @@
 //! What a walk over a program has found: the least broken rule, and what its identifiers and expressions are.
 ghost use Rattle.std.specs.Prelude.{◌≡◌, None, Some, replicate, IfOk};
-ghost use Rattle.sim_scope.specs.Found.{Broken, Typed, Uses, found, lesser, lesser_of, precedes, rank, unknown};
+ghost use Rattle.sim_scope.specs.Found.{Broken, FoundIn, Typed, Uses, found, lesser, lesser_of, precedes, rank, unknown};
 
-use crate::scopes::Denotation;
+use crate::bound::Bound;
+use crate::scopes::{Denotation, Scopes};
 use crate::types::SimType;
 use sim_base::{Rule, TokenNo};
+use sim_tree::Program;
 use std::alloc::{AllocError, Global};
 use std::marker::Model;
 
@@ -17,11 +19,12 @@ pub struct Fault {
     pub rule: Rule,
 }
 
-/// What was found. Contracts see the least broken rule and the two tables.
+/// What was found. Contracts see the least broken rule and the three tables.
 #[derive(Drop)]
 pub struct Found {
     least: Option<Fault>,
     uses: Vec<Option<Denotation>>,
+    found_in: Vec<Option<u32>>,
     types: Vec<Option<SimType>>,
 }
 
@@ -30,7 +33,7 @@ impl Model for Found {
 
     ghost Value = { Findings };
 
-    ghost view = { λ f. record { least = f.least; uses = f.uses.items; types = f.types.items } };
+    ghost view = { λ f. record { least = f.least; uses = f.uses.items; found_in = f.found_in.items; types = f.types.items } };
 }
 
 /// The place of a rule in the table.
@@ -76,6 +79,17 @@ fn nothing_used(alloc: Global, count: usize) -> Result<Vec<Option<Denotation>>, 
     Ok(list)
 }
 
+/// Nothing found in a block yet.
+fn nowhere_found(alloc: Global, count: usize) -> Result<Vec<Option<u32>>, AllocError>
+    ensures { IfOk result (λ list. list.items ≡ replicate count None) }
+{
+    let mut list = Vec::new(alloc);
+    for made in 0..count {
+        list.push(None)?;
+    }
+    Ok(list)
+}
+
 /// No types yet.
 fn nothing_typed(alloc: Global, count: usize) -> Result<Vec<Option<SimType>>, AllocError>
     ensures { IfOk result (λ list. list.items ≡ replicate count None) }
@@ -95,6 +109,7 @@ impl Found {
         Ok(Found {
             least: None,
             uses: nothing_used(alloc, tokens)?,
+            found_in: nowhere_found(alloc, tokens)?,
             types: nothing_typed(alloc, tokens)?,
         })
     }
@@ -106,17 +121,33 @@ impl Found {
         Found {
             least: None,
             uses: Vec::new(alloc),
+            found_in: Vec::new(alloc),
             types: Vec::new(alloc),
         }
     }
 
-    /// The least broken rule, and the two tables.
-    pub fn into_parts(self) -> (Option<Fault>, Vec<Option<Denotation>>, Vec<Option<SimType>>)
-        ensures least { result.0 ≡ self.least }
-        ensures uses { result.1.items ≡ self.uses }
-        ensures types { result.2.items ≡ self.types }
+    /// The least broken rule, if there is one.
+    pub fn least(&self) -> Option<Fault>
+        ensures { result ≡ self.now.least }
     {
-        (self.least, self.uses, self.types)
+        self.least
+    }
+
+    /// A program with its tables and with what was found in it.
+    pub fn bind_program(self, program: Program, scopes: Scopes) -> Bound
+        ensures program { result.program ≡ program }
+        ensures scopes { result.scopes ≡ scopes }
+        ensures uses { result.uses.items ≡ self.uses }
+        ensures found_in { result.found_in.items ≡ self.found_in }
+        ensures types { result.types.items ≡ self.types }
+    {
+        Bound {
+            program,
+            scopes,
+            uses: self.uses,
+            found_in: self.found_in,
+            types: self.types,
+        }
     }
 
     /// A rule is broken at a token.
@@ -143,6 +174,16 @@ impl Found {
     {
         if let Some(slot) = self.uses.get_mut(token.0 as usize) {
             *slot = Some(denotation);
+        }
+    }
+
+    /// An identifier, or the object of `this`, is found in a block. A token outside the program is let go.
+    #[tactic(auto, unfolding(crate::specs::Found::found))]
+    pub fn locate(&mut self, token: TokenNo, block: u32)
+        ensures { self.new ≡ found self.old (FoundIn token.0 block) }
+    {
+        if let Some(slot) = self.found_in.get_mut(token.0 as usize) {
+            *slot = Some(block);
         }
     }
 

@@ -2,12 +2,13 @@
 ghost use Rattle.std.specs.Prelude.{◌≡◌, ◌<◌, ℕ, List, None, Option, Some, length, slice_get};
 ghost use Rattle.sim_base.specs.declared.numbering.DeclNo.{DeclNo};
 ghost use Rattle.sim_tree.specs.Syntax.{Program};
+ghost use Rattle.sim_scope.specs.Access.{block_at};
 ghost use Rattle.sim_scope.specs.Breaks.{broken_by};
 ghost use Rattle.sim_scope.specs.Declare.{declared_by, declaring};
 ghost use Rattle.sim_scope.specs.Found.{Event};
 ghost use Rattle.sim_scope.specs.Laws.{Innermost, IsPlace, Named, Nested, Rising};
 ghost use Rattle.sim_scope.specs.Least.{IsLeast, faults, least_found};
-ghost use Rattle.sim_scope.specs.Scopes.{searched};
+ghost use Rattle.sim_scope.specs.Scopes.{beyond, declaration_from, found_in, searched, shown};
 ghost use Rattle.sim_scope.specs.Tables.{Tables};
 ghost use Rattle.sim_scope.specs.Walk.{program_events};
 ghost use Rattle.sim_scope.specs.declared.scopes.Denotation.{Denotation};
@@ -15,7 +16,7 @@ ghost use Rattle.sim_scope.specs.declared.types.SimType.{SimType};
 
 /// The answer of a round is one of the rules that are broken, and none of these stands before it.
 pub fn least_of_all()
-    ensures { (es : List Event) (uses : List (Option Denotation)) (types : List (Option SimType)) → IsLeast (faults es) (least_found es uses types) }
+    ensures { (es : List Event) (uses : List (Option Denotation)) (found_in : List (Option ℕ)) (types : List (Option SimType)) → IsLeast (faults es) (least_found es uses found_in types) }
 {}
 
 /// What stands as the fault of a program's declarations is one of the rules that they break, and none of these stands before it.
@@ -41,4 +42,9 @@ pub fn places()
 pub fn innermost()
     ensures found { (s : Tables) (from : Option ℕ) (most block : ℕ) (name : List ℕ) (d : DeclNo) → searched s from most block name ≡ Some d → Innermost s from name block d }
     ensures every { (s : Tables) (from : Option ℕ) (block : ℕ) (name : List ℕ) (d : DeclNo) → Nested s.blocks → Innermost s from name block d → block < length s.blocks → searched s from (length s.blocks) block name ≡ Some d }
+{}
+
+/// A name denotes what the block shows in which it is found.
+pub fn shown_where_found()
+    ensures { (s : Tables) (token : ℕ) (name : List ℕ) → declaration_from s (Some token) (block_at s token) name ≡ beyond (λ b. shown s (Some token) b name) (found_in s token name) }
 {}

@@ -40,15 +40,15 @@ pub use levels::{
 };
 pub use names::Names;
 pub use outcome::{Actual, Actuals, Extent, Fit, LeftSides, Outcome, Parameter, Side};
-pub use provided::{is_standard_class, standard_prefix};
 pub use refusal::StaticRefusal;
 pub use scopes::{Block, Declaration, Denotation, Protection, Qualification, Scopes};
 pub use search::{
-    binding, brought_by, declaration_from, declared_or_standard, entry_of, is_detach,
-    is_passed_over, level_shows, lookup, outward, represented, shown, standard_at, virtual_of,
+    binding, binding_and_block, brought_by, declaration_from, declared_or_standard, entry_of,
+    found_in, is_detach, is_passed_over, level_shows, lookup, outward, represented, shown,
+    standard_at, virtual_of,
 };
 pub use standard::{
-    Attribute, Provided, Signature, Standard, StandardType, standard_name, sysin_attribute,
+    Place, Signature, StandardName, standard_name, standard_prefix, sysin_attribute,
     sysout_attribute, text_attribute, undeclared,
 };
 pub use types::{

@@ -1,7 +1,7 @@
 //! What an expression is, and what is known while it is judged.
 
 use crate::found::Fault;
-use crate::standard::Standard;
+use crate::standard::StandardName;
 use crate::types::{Formal, SimType};
 use sim_base::{DeclNo, TokenNo};
 
@@ -32,7 +32,7 @@ pub enum Outcome {
     },
     /// A standard name alone, and its token.
     Standard {
-        name: Standard,
+        name: StandardName,
         token: TokenNo,
     },
     /// A class identifier alone.

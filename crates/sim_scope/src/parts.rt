@@ -6,17 +6,15 @@ ghost use Rattle.sim_scope.specs.Declare.{array_marks, brings_class, brought_mar
 ghost use Rattle.sim_scope.specs.Runs.{Runs, each};
 
 use crate::building::Building;
-use crate::provided::{
-    ATTRIBUTES_OF_SETS, ATTRIBUTES_OF_SIMULATION, CLASSES_OF_SETS, CLASSES_OF_SIMULATION,
-    standard_prefix,
-};
-use crate::standard::Provided;
+use crate::provided::{CLASSES_OF_SETS, CLASSES_OF_SIMULATION, class_owning, is_provided};
+use crate::standard::standard_prefix;
 use crate::types::{BlockKind, Entry, FormalKind, Mode, SimType, StandardClass, StandardPrefix};
 use sim_base::TokenNo;
 use sim_tree::{
     ArraySegment, Identifier, ModePart, Protection, Specification, Specifier, TypeName, Variable,
     VirtualSpecification,
 };
+use sim_values::{STANDARD_NAMES, Standard};
 use std::alloc::{AllocError, Global};
 
 /// The type that is written. The class of a `ref` is not looked for yet.
@@ -456,48 +454,53 @@ fn brought_classes(
     Ok(())
 }
 
-/// An attribute that a standard prefix declares.
-#[tactic(auto, using(crate::proofs::Declarations::declares))]
+/// A name of the table, where a standard prefix declares it.
 fn provided_attribute(
     alloc: Global,
     tables: &mut Building,
     token: TokenNo,
-    provided: &Provided,
+    prefix: StandardPrefix,
+    name: Standard,
 ) -> Result<(), AllocError>
-    ensures { OnOk result (Runs marked tables.old tables.new (provides_attribute token.0 provided.now)) }
+    ensures { OnOk result (Runs marked tables.old tables.new (provides_attribute prefix token.0 name)) }
 {
-    tables.provide(alloc, provided.class, provided.name, token)
+    let owner = name.owner();
+    if is_provided(prefix, owner) {
+        return tables.provide(alloc, class_owning(owner), name, token);
+    }
+    Ok(())
 }
 
-/// The attributes that a standard prefix declares.
+/// Those of some names of the table that a standard prefix declares.
 #[tactic(auto, using(crate::proofs::Declarations::declares))]
 fn provided_attributes(
     alloc: Global,
     tables: &mut Building,
     token: TokenNo,
-    list: &[Provided],
+    prefix: StandardPrefix,
+    list: &[Standard],
 ) -> Result<(), AllocError>
-    ensures { OnOk result (Runs marked tables.old tables.new (each (provides_attribute token.0) list.now)) }
+    ensures { OnOk result (Runs marked tables.old tables.new (each (provides_attribute prefix token.0) list.now)) }
 {
     for item in list {
-        provided_attribute(alloc, tables, token, item)?;
+        provided_attribute(alloc, tables, token, prefix, *item)?;
     }
     Ok(())
 }
 
 /// What a standard prefix declares.
-#[tactic(auto, using(crate::proofs::Declarations::declares))]
+#[tactic(auto, using(crate::proofs::Declarations::declare_brought))]
 fn brought(
     alloc: Global,
     tables: &mut Building,
     token: TokenNo,
+    prefix: StandardPrefix,
     classes: &[StandardClass],
-    attributes: &[Provided],
 ) -> Result<(), AllocError>
-    ensures { OnOk result (Runs marked tables.old tables.new (brought_marks token.0 classes.now attributes.now)) }
+    ensures { OnOk result (Runs marked tables.old tables.new (brought_marks token.0 prefix classes.now)) }
 {
     brought_classes(alloc, tables, token, classes)?;
-    provided_attributes(alloc, tables, token, attributes)
+    provided_attributes(alloc, tables, token, prefix, &STANDARD_NAMES)
 }
 
 /// What a standard prefix declares in its block.
@@ -511,20 +514,24 @@ fn standard(
     ensures { OnOk result (Runs marked tables.old tables.new (marks_of_standard token.0 (Some prefix))) }
 {
     match prefix {
-        StandardPrefix::Simset => brought(
-            alloc,
-            tables,
-            token,
-            &CLASSES_OF_SETS,
-            &ATTRIBUTES_OF_SETS,
-        ),
-        StandardPrefix::Simulation => brought(
-            alloc,
-            tables,
-            token,
-            &CLASSES_OF_SIMULATION,
-            &ATTRIBUTES_OF_SIMULATION,
-        ),
+        StandardPrefix::Simset => {
+            brought(
+                alloc,
+                tables,
+                token,
+                StandardPrefix::Simset,
+                &CLASSES_OF_SETS,
+            )
+        }
+        StandardPrefix::Simulation => {
+            brought(
+                alloc,
+                tables,
+                token,
+                StandardPrefix::Simulation,
+                &CLASSES_OF_SIMULATION,
+            )
+        }
     }
 }
 

@@ -7,11 +7,13 @@ ghost use Rattle.sim_scope.specs.Building.{Brings, Prefixes, Protects, Provides,
 
 use crate::building::Building;
 use crate::names::Names;
+use crate::provided::class_typed;
 use crate::scopes::{Block, Declaration, Protection, Qualification};
-use crate::standard::{Attribute, StandardType};
+use crate::standard::plain_type;
 use crate::types::{BlockKind, Entry, SimType, StandardClass};
 use sim_base::{ByteString, DeclNo, TokenNo};
 use sim_tree::Identifier;
+use sim_values::{Standard, StandardType};
 use std::alloc::{AllocError, Global};
 
 /// The name of a standard class, in lower case.
@@ -73,10 +75,9 @@ fn class_type(first: Option<DeclNo>, class: StandardClass) -> Result<SimType, Al
 fn typed(first: Option<DeclNo>, ty: StandardType) -> Result<SimType, AllocError>
     ensures { IfOk result (λ made. made ≡ typed first ty) }
 {
-    match ty {
-        StandardType::Integer => Ok(SimType::Integer),
-        StandardType::Boolean => Ok(SimType::Boolean),
-        StandardType::Ref(class) => class_type(first, class),
+    match class_typed(ty) {
+        Some(class) => class_type(first, class),
+        None => Ok(plain_type(ty)),
     }
 }
 
@@ -93,10 +94,10 @@ fn typed_or_none(
 }
 
 /// What an attribute is, where this is the declaration of the first standard class.
-fn attribute_entry(first: Option<DeclNo>, name: Attribute) -> Result<Entry, AllocError>
+fn attribute_entry(first: Option<DeclNo>, name: Standard) -> Result<Entry, AllocError>
     ensures { IfOk result (λ entry. entry ≡ attribute_entry first name) }
 {
-    let parameter = typed_or_none(first, name.parameter())?;
+    let parameter = typed_or_none(first, name.parameters().get(0).copied())?;
     let ty = typed_or_none(first, name.result())?;
     Ok(Entry::Attribute {
         name,
@@ -313,7 +314,7 @@ impl Building {
         &mut self,
         alloc: Global,
         class: Option<StandardClass>,
-        name: Attribute,
+        name: Standard,
         token: TokenNo,
     ) -> Result<(), AllocError>
         ensures { OnOk result (self.new ≡ marked self.old (Provides class name token.0)) }
@@ -335,7 +336,7 @@ impl Building {
     fn provide_alone(
         &mut self,
         alloc: Global,
-        name: Attribute,
+        name: Standard,
         token: TokenNo,
         first: Option<DeclNo>,
         block: u32,
@@ -345,7 +346,7 @@ impl Building {
         if block as usize >= self.blocks.len() {
             return Ok(());
         }
-        let word = name.name().as_bytes();
+        let word = name.spelling().as_bytes();
         if self.blocks[block as usize].brought_names.contains(word) {
             return Ok(());
         }
@@ -354,7 +355,7 @@ impl Building {
         };
         let entry = attribute_entry(first, name)?;
         self.blocks[block as usize].bring(Vec::from_slice(alloc, word)?, DeclNo(number))?;
-        let row = standard_row(alloc, name.name(), token, block, entry, false)?;
+        let row = standard_row(alloc, name.spelling(), token, block, entry, false)?;
         self.declarations.push(row)?;
         Ok(())
     }
@@ -363,7 +364,7 @@ impl Building {
     fn provide_in(
         &mut self,
         alloc: Global,
-        name: Attribute,
+        name: Standard,
         token: TokenNo,
         first: Option<DeclNo>,
         block: u32,
@@ -373,7 +374,7 @@ impl Building {
         if block as usize >= self.blocks.len() {
             return Ok(());
         }
-        let word = name.name().as_bytes();
+        let word = name.spelling().as_bytes();
         if self.blocks[block as usize].has(word) {
             return Ok(());
         }
@@ -382,7 +383,7 @@ impl Building {
         };
         let entry = attribute_entry(first, name)?;
         self.blocks[block as usize].add(Vec::from_slice(alloc, word)?, DeclNo(number))?;
-        let row = standard_row(alloc, name.name(), token, block, entry, true)?;
+        let row = standard_row(alloc, name.spelling(), token, block, entry, true)?;
         self.declarations.push(row)?;
         Ok(())
     }

@@ -7,7 +7,7 @@ ghost use Rattle.sim_scope.specs.Scopes.{brought_in, declared_in};
 ghost use Rattle.sim_scope.specs.Tables.{with_base_at, with_entry_at, with_standard_at};
 
 use crate::names::Names;
-use crate::standard::Standard;
+use crate::standard::StandardName;
 use crate::types::{BlockKind, Entry, StandardPrefix};
 use sim_base::{ByteString, DeclNo, TokenNo};
 use sim_tree::Identifier;
@@ -20,7 +20,7 @@ pub enum Denotation {
     /// A declaration of the program.
     Declared(DeclNo),
     /// A standard name that the program does not declare.
-    Standard(Standard),
+    Standard(StandardName),
 }
 
 /// A declaration.

@@ -1,13 +1,13 @@
 //! What an identifier denotes.
-ghost use Rattle.std.specs.Prelude.{◌≡◌, length};
+ghost use Rattle.std.specs.Prelude.{◌≡◌, Some, length};
 ghost use Rattle.sim_scope.specs.Access.{is_kind, some_around as around_spec};
-ghost use Rattle.sim_scope.specs.Scopes.{binding, brought_by, declaration_from, declared_or_standard, entry_is, entry_of, has_detach, is_detach, is_passed_over, is_procedure_entry, is_virtual, level_shows, lookup, outward, represented, searched, seen, seen_from, shown, standard_at, virtual_among, virtual_of};
+ghost use Rattle.sim_scope.specs.Scopes.{beyond, binding, brought_by, declaration_from, declared_or_standard, entry_is, entry_of, found_in, has_detach, if_found, is_detach, is_passed_over, is_procedure_entry, is_virtual, level_shows, lookup, outward, represented, searched, seen, seen_from, shown, standard_at, virtual_among, virtual_of};
 
-use crate::access::{accessible, block_at, encloser, has_detach_at, some_around};
+use crate::access::{accessible, block_at, encloser, first_around, has_detach_at, some_around};
 use crate::along::first_along;
 use crate::levels::first_level;
 use crate::scopes::{Denotation, Scopes};
-use crate::standard::{Standard, standard_name};
+use crate::standard::{StandardName, standard_name};
 use crate::types::Entry;
 use sim_base::{DeclNo, TokenNo};
 
@@ -109,6 +109,31 @@ pub fn declaration_from(
     searched(scopes, from, block?, name)
 }
 
+/// A block, where a name is found in it.
+#[tactic(auto, unfolding(crate::specs::Scopes::if_found, crate::specs::Scopes::ends_search))]
+fn if_found(scopes: &Scopes, token: TokenNo, name: &[u8], block: u32) -> Option<u32>
+    ensures { result ≡ if_found scopes.now token.0 name.now block }
+{
+    if shown(scopes, Some(token.0), block, name).is_some()
+        || is_detach(name) && has_detach_at(scopes, block)
+    {
+        Some(block)
+    } else {
+        None
+    }
+}
+
+/// The block in which a name is found: the innermost one around a token that shows it, or that has `detach`, if it is that name.
+#[tactic(auto, unfolding(crate::specs::Scopes::found_in))]
+pub fn found_in(scopes: &Scopes, token: TokenNo, name: &[u8]) -> Option<u32>
+    ensures { result ≡ found_in scopes.now token.0 name.now }
+{
+    match block_at(scopes, token) {
+        Some(block) => first_around(scopes, block, |b| if_found(scopes, token, name, b)),
+        None => None,
+    }
+}
+
 /// What a declaration declares.
 #[tactic(auto, unfolding(crate::specs::Scopes::entry_of))]
 pub fn entry_of(scopes: &Scopes, declaration: DeclNo) -> Option<Entry>
@@ -187,7 +212,7 @@ pub fn represented(scopes: &Scopes, declaration: DeclNo) -> DeclNo
 pub fn declared_or_standard(
     scopes: &Scopes,
     declaration: Option<DeclNo>,
-    standard: Option<Standard>,
+    standard: Option<StandardName>,
 ) -> Option<Denotation>
     ensures { result ≡ declared_or_standard scopes.now declaration standard }
 {
@@ -209,7 +234,7 @@ fn has_detach_around(scopes: &Scopes, token: TokenNo) -> bool
 
 /// The standard name that is seen at a token. `detach` is seen in classes, prefixed blocks and connections alone.
 #[tactic(auto, unfolding(crate::specs::Scopes::standard_at))]
-pub fn standard_at(scopes: &Scopes, token: TokenNo, name: &[u8]) -> Option<Standard>
+pub fn standard_at(scopes: &Scopes, token: TokenNo, name: &[u8]) -> Option<StandardName>
     ensures { result ≡ standard_at scopes.now token.0 name.now }
 {
     if is_detach(name) && !has_detach_around(scopes, token) {
@@ -227,6 +252,34 @@ pub fn binding(scopes: &Scopes, token: TokenNo, name: &[u8]) -> Option<Denotatio
     let block = block_at(scopes, token);
     let declaration = declaration_from(scopes, Some(token.0), block, name);
     declared_or_standard(scopes, declaration, standard_at(scopes, token, name))
+}
+
+/// The declaration that the block shows in which a name is found.
+fn shown_in(scopes: &Scopes, token: TokenNo, block: Option<u32>, name: &[u8]) -> Option<DeclNo>
+    ensures { result ≡ beyond (λ b. shown scopes.now (Some token.0) b name.now) block }
+{
+    match block {
+        Some(block) => shown(scopes, Some(token.0), block, name),
+        None => None,
+    }
+}
+
+/// What a name denotes at a token, and the block in which it is found.
+#[tactic(auto, unfolding(crate::specs::Scopes::binding), using(crate::proofs::Searches::shown_where_found))]
+pub fn binding_and_block(
+    scopes: &Scopes,
+    token: TokenNo,
+    name: &[u8],
+) -> (Option<Denotation>, Option<u32>)
+    ensures denotes { result.0 ≡ binding scopes.now token.0 name.now }
+    ensures found { result.1 ≡ found_in scopes.now token.0 name.now }
+{
+    let block = found_in(scopes, token, name);
+    let declaration = shown_in(scopes, token, block, name);
+    (
+        declared_or_standard(scopes, declaration, standard_at(scopes, token, name)),
+        block,
+    )
 }
 
 /// Whether an attribute of this name is declared around a token, which then is not accessible there where nothing is found.

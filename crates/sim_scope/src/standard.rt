@@ -1,192 +1,37 @@
 //! The standard names: what is declared outside every program.
-ghost use Rattle.std.specs.Prelude.{◌≡◌};
+ghost use Rattle.std.specs.Prelude.{◌≡◌, slice_get};
 ghost use Rattle.std.specs.List.{list_any};
 ghost use Rattle.std.specs.Str.{bytes_eq};
-ghost use Rattle.sim_scope.specs.Standard.{Names, is_environment_name, is_file_or_layout, is_random_drawing, is_real_function, of_none, of_one, of_two, signature, standard_name, sysin_attribute, sysout_attribute, text_attribute, undeclared, yields};
+ghost use Rattle.sim_scope.specs.Standard.{Names, first_named, is_environment_name, is_file_or_layout, is_named, is_random_drawing, is_real_function, is_seen, named_beside, of_none, plain_or_none, plain_type, procedure_or, signature, signature_of, standard_name, standard_prefix, sysin_attribute, sysout_attribute, text_attribute, undeclared};
 
-use crate::types::{SimType, StandardClass};
+use crate::types::{SimType, StandardPrefix};
 use sim_base::Rule;
+use sim_values::{Owner, STANDARD_NAMES, Standard, StandardType};
 
-/// An attribute of a standard class, or of `simulation`.
+/// What a standard name stands for.
 #[derive(Clone, Copy, Debug, PartialEq, Eq)]
-pub enum Attribute {
-    /// `suc` of a linkage.
-    Suc,
-    /// `pred` of a linkage.
-    Pred,
-    /// `prev` of a linkage.
-    Prev,
-    /// `out` of a link.
-    Out,
-    /// `follow(x)` of a link.
-    Follow,
-    /// `precede(x)` of a link.
-    Precede,
-    /// `into(h)` of a link.
-    Into,
-    /// `first` of a head.
-    First,
-    /// `last` of a head.
-    Last,
-    /// `empty` of a head.
-    Empty,
-    /// `cardinal` of a head.
-    Cardinal,
-    /// `clear` of a head.
-    Clear,
-    /// `idle` of a process.
-    Idle,
-    /// `terminated` of a process.
-    Terminated,
-    /// `evtime` of a process.
-    Evtime,
-    /// `nextev` of a process.
-    Nextev,
-    /// `time` of a simulation.
-    Time,
-    /// `current` of a simulation.
-    Current,
-    /// `main` of a simulation.
-    Main,
-    /// `hold(t)` of a simulation.
-    Hold,
-    /// `passivate` of a simulation.
-    Passivate,
-    /// `wait(h)` of a simulation.
-    Wait,
-    /// `cancel(x)` of a simulation.
-    Cancel,
-}
-
-/// The type of a parameter or a result of an attribute. A class is one of those that the same prefix declares.
-#[derive(Clone, Copy, Debug, PartialEq, Eq)]
-pub enum StandardType {
-    /// `integer`.
-    Integer,
-    /// `boolean`.
-    Boolean,
-    /// `ref` of a standard class.
-    Ref(StandardClass),
-}
-
-/// An attribute with the class that has it. Those of `simulation` itself have none.
-#[derive(Clone, Copy, Debug, PartialEq, Eq)]
-pub struct Provided {
-    /// The class.
-    pub class: Option<StandardClass>,
-    /// The attribute.
-    pub name: Attribute,
-}
-
-/// A standard name, in the order of the table of standard names. The number of a name is its place.
-#[derive(Clone, Copy, Debug, PartialEq, Eq)]
-pub enum Standard {
-    /// `abs(i)`.
-    Abs,
-    /// `sign(i)`: -1, 0 or 1.
-    Sign,
-    /// `min(i,j)`.
-    Min,
-    /// `max(i,j)`.
-    Max,
-    /// `mod(i,j)`, with the sign of j.
-    Mod,
-    /// `rem(i,j)`.
-    Rem,
-    /// `maxint`.
-    Maxint,
-    /// `minint`.
-    Minint,
-    /// `char(n)`.
-    Char,
-    /// `rank(c)`.
-    Rank,
-    /// `isochar(n)`.
-    Isochar,
-    /// `isorank(c)`.
-    Isorank,
-    /// `digit(c)`.
-    Digit,
-    /// `letter(c)`.
-    Letter,
-    /// `blanks(n)`.
-    Blanks,
-    /// `copy(t)`.
-    Copy,
-    /// `upcase(t)`.
-    Upcase,
-    /// `lowcase(t)`.
-    Lowcase,
-    /// `t.constant`.
-    TextConstant,
-    /// `t.start`.
-    TextStart,
-    /// `t.length`.
-    TextLength,
-    /// `t.pos`.
-    TextPos,
-    /// `t.more`.
-    TextMore,
-    /// `t.main`.
-    TextMain,
-    /// `t.setpos(i)`.
-    TextSetpos,
-    /// `t.getchar`.
-    TextGetchar,
-    /// `t.putchar(c)`.
-    TextPutchar,
-    /// `t.sub(i,n)`.
-    TextSub,
-    /// `t.strip`.
-    TextStrip,
-    /// `t.getint`.
-    TextGetint,
-    /// `t.putint(i)`.
-    TextPutint,
-    /// `inimage`, of sysin.
-    Inimage,
-    /// `inchar`, of sysin.
-    Inchar,
-    /// `inint`, of sysin.
-    Inint,
-    /// `intext(n)`, of sysin.
-    Intext,
-    /// `lastitem`, of sysin.
-    Lastitem,
-    /// `endfile`, of sysin.
-    Endfile,
-    /// `outimage`, of sysout.
-    Outimage,
-    /// `outchar(c)`, of sysout.
-    Outchar,
-    /// `outtext(t)`, of sysout.
-    Outtext,
-    /// `outint(i,j)`, of sysout.
-    Outint,
-    /// `image`, of sysin and sysout.
-    Image,
-    /// `pos`, of sysin and sysout.
-    Pos,
-    /// `setpos(i)`, of sysin and sysout.
-    Setpos,
-    /// `more`, of sysin and sysout.
-    More,
-    /// `length`, of sysin and sysout.
-    Length,
+pub enum StandardName {
+    /// A name of the table of standard names.
+    Procedure(Standard),
     /// `sysin`, which stands only before a dot.
     Sysin,
     /// `sysout`, which stands only before a dot.
     Sysout,
-    /// `detach`: an attribute of each class, prefixed block and connection.
-    Detach,
-    /// `call(x)`.
-    Call,
-    /// `resume(x)`.
-    Resume,
-    /// `simset`: a class.
-    Simset,
-    /// `simulation`: a class.
-    Simulation,
+    /// `simset` or `simulation`: a class.
+    Prefix(StandardPrefix),
+}
+
+/// Where a standard name is written.
+#[derive(Clone, Copy, Debug, PartialEq, Eq)]
+pub enum Place {
+    /// Alone.
+    Alone,
+    /// Behind a text and a dot.
+    Text,
+    /// Behind `sysin` and a dot.
+    Sysin,
+    /// Behind `sysout` and a dot.
+    Sysout,
 }
 
 /// The types of the operands and of the result of a standard name, in order. Operands are passed by value.
@@ -200,399 +45,144 @@ pub struct Signature {
     pub result: Option<SimType>,
 }
 
-/// A name of a table, and what it stands for.
-struct Row {
-    name: &'static str,
-    standard: Standard,
-}
-
-/// The names that are written alone.
-static NAMES_ALONE: [Row; 40] = [
-    Row {
-        name: "abs",
-        standard: Standard::Abs,
-    },
-    Row {
-        name: "sign",
-        standard: Standard::Sign,
-    },
-    Row {
-        name: "min",
-        standard: Standard::Min,
-    },
-    Row {
-        name: "max",
-        standard: Standard::Max,
-    },
-    Row {
-        name: "mod",
-        standard: Standard::Mod,
-    },
-    Row {
-        name: "rem",
-        standard: Standard::Rem,
-    },
-    Row {
-        name: "maxint",
-        standard: Standard::Maxint,
-    },
-    Row {
-        name: "minint",
-        standard: Standard::Minint,
-    },
-    Row {
-        name: "char",
-        standard: Standard::Char,
-    },
-    Row {
-        name: "rank",
-        standard: Standard::Rank,
-    },
-    Row {
-        name: "isochar",
-        standard: Standard::Isochar,
-    },
-    Row {
-        name: "isorank",
-        standard: Standard::Isorank,
-    },
-    Row {
-        name: "digit",
-        standard: Standard::Digit,
-    },
-    Row {
-        name: "letter",
-        standard: Standard::Letter,
-    },
-    Row {
-        name: "blanks",
-        standard: Standard::Blanks,
-    },
-    Row {
-        name: "copy",
-        standard: Standard::Copy,
-    },
-    Row {
-        name: "upcase",
-        standard: Standard::Upcase,
-    },
-    Row {
-        name: "lowcase",
-        standard: Standard::Lowcase,
-    },
-    Row {
-        name: "inimage",
-        standard: Standard::Inimage,
-    },
-    Row {
-        name: "inchar",
-        standard: Standard::Inchar,
-    },
-    Row {
-        name: "inint",
-        standard: Standard::Inint,
-    },
-    Row {
-        name: "intext",
-        standard: Standard::Intext,
-    },
-    Row {
-        name: "lastitem",
-        standard: Standard::Lastitem,
-    },
-    Row {
-        name: "endfile",
-        standard: Standard::Endfile,
-    },
-    Row {
-        name: "outimage",
-        standard: Standard::Outimage,
-    },
-    Row {
-        name: "outchar",
-        standard: Standard::Outchar,
-    },
-    Row {
-        name: "outtext",
-        standard: Standard::Outtext,
-    },
-    Row {
-        name: "outint",
-        standard: Standard::Outint,
-    },
-    Row {
-        name: "image",
-        standard: Standard::Image,
-    },
-    Row {
-        name: "pos",
-        standard: Standard::Pos,
-    },
-    Row {
-        name: "setpos",
-        standard: Standard::Setpos,
-    },
-    Row {
-        name: "more",
-        standard: Standard::More,
-    },
-    Row {
-        name: "length",
-        standard: Standard::Length,
-    },
-    Row {
-        name: "sysin",
-        standard: Standard::Sysin,
-    },
-    Row {
-        name: "sysout",
-        standard: Standard::Sysout,
-    },
-    Row {
-        name: "detach",
-        standard: Standard::Detach,
-    },
-    Row {
-        name: "call",
-        standard: Standard::Call,
-    },
-    Row {
-        name: "resume",
-        standard: Standard::Resume,
-    },
-    Row {
-        name: "simset",
-        standard: Standard::Simset,
-    },
-    Row {
-        name: "simulation",
-        standard: Standard::Simulation,
-    },
-];
-
-/// The attributes of texts.
-static ATTRIBUTES_OF_TEXTS: [Row; 13] = [
-    Row {
-        name: "constant",
-        standard: Standard::TextConstant,
-    },
-    Row {
-        name: "start",
-        standard: Standard::TextStart,
-    },
-    Row {
-        name: "length",
-        standard: Standard::TextLength,
-    },
-    Row {
-        name: "pos",
-        standard: Standard::TextPos,
-    },
-    Row {
-        name: "more",
-        standard: Standard::TextMore,
-    },
-    Row {
-        name: "main",
-        standard: Standard::TextMain,
-    },
-    Row {
-        name: "setpos",
-        standard: Standard::TextSetpos,
-    },
-    Row {
-        name: "getchar",
-        standard: Standard::TextGetchar,
-    },
-    Row {
-        name: "putchar",
-        standard: Standard::TextPutchar,
-    },
-    Row {
-        name: "sub",
-        standard: Standard::TextSub,
-    },
-    Row {
-        name: "strip",
-        standard: Standard::TextStrip,
-    },
-    Row {
-        name: "getint",
-        standard: Standard::TextGetint,
-    },
-    Row {
-        name: "putint",
-        standard: Standard::TextPutint,
-    },
-];
-
-/// The attributes of sysin.
-static ATTRIBUTES_OF_SYSIN: [Row; 11] = [
-    Row {
-        name: "inimage",
-        standard: Standard::Inimage,
-    },
-    Row {
-        name: "inchar",
-        standard: Standard::Inchar,
-    },
-    Row {
-        name: "inint",
-        standard: Standard::Inint,
-    },
-    Row {
-        name: "intext",
-        standard: Standard::Intext,
-    },
-    Row {
-        name: "lastitem",
-        standard: Standard::Lastitem,
-    },
-    Row {
-        name: "endfile",
-        standard: Standard::Endfile,
-    },
-    Row {
-        name: "image",
-        standard: Standard::Image,
-    },
-    Row {
-        name: "pos",
-        standard: Standard::Pos,
-    },
-    Row {
-        name: "setpos",
-        standard: Standard::Setpos,
-    },
-    Row {
-        name: "more",
-        standard: Standard::More,
-    },
-    Row {
-        name: "length",
-        standard: Standard::Length,
-    },
-];
-
-/// The attributes of sysout.
-static ATTRIBUTES_OF_SYSOUT: [Row; 9] = [
-    Row {
-        name: "outimage",
-        standard: Standard::Outimage,
-    },
-    Row {
-        name: "outchar",
-        standard: Standard::Outchar,
-    },
-    Row {
-        name: "outtext",
-        standard: Standard::Outtext,
-    },
-    Row {
-        name: "outint",
-        standard: Standard::Outint,
-    },
-    Row {
-        name: "image",
-        standard: Standard::Image,
-    },
-    Row {
-        name: "pos",
-        standard: Standard::Pos,
-    },
-    Row {
-        name: "setpos",
-        standard: Standard::Setpos,
-    },
-    Row {
-        name: "more",
-        standard: Standard::More,
-    },
-    Row {
-        name: "length",
-        standard: Standard::Length,
-    },
-];
-
-/// Whether a row is that of a name.
-fn is_named(row: &Row, name: &[u8]) -> bool
-    ensures { result ≡ bytes_eq name.now row.now.name.now }
+/// Whether what is found there is seen at a place.
+fn is_seen(place: Place, owner: Owner) -> bool
+    ensures { result ≡ is_seen place owner }
 {
-    name == row.name.as_bytes()
+    match (place, owner) {
+        (Place::Alone, Owner::Environment) => true,
+        (Place::Alone, Owner::Sysin) => true,
+        (Place::Alone, Owner::Sysout) => true,
+        (Place::Alone, Owner::Images) => true,
+        (Place::Alone, Owner::Object) => true,
+        (Place::Text, Owner::Text) => true,
+        (Place::Sysin, Owner::Sysin) => true,
+        (Place::Sysin, Owner::Images) => true,
+        (Place::Sysout, Owner::Sysout) => true,
+        (Place::Sysout, Owner::Images) => true,
+        _ => false,
+    }
 }
 
-/// What a name stands for in a table.
+/// Whether a name of the table is seen at a place, and spelt so.
+fn is_named(place: Place, standard: Standard, name: &[u8]) -> bool
+    ensures { result ≡ is_named place name.now standard }
+{
+    is_seen(place, standard.owner()) && name == standard.spelling().as_bytes()
+}
+
+/// The first name of a table that is seen at a place, and spelt so.
 #[tactic(auto, using(crate::proofs::Rows::rows_passed))]
-fn find(table: &[Row], name: &[u8]) -> Option<Standard>
-    ensures { Names name.now table.now result }
+fn find(place: Place, table: &[Standard], name: &[u8]) -> Option<Standard>
+    ensures { Names place name.now table.now result }
 {
-    for row in table {
-        if is_named(row, name) {
-            return Some(row.standard);
+    for standard in table {
+        if is_named(place, *standard, name) {
+            return Some(*standard);
         }
     }
     None
 }
 
+/// What is seen of the standard names at a place. The name is in lower case.
+#[tactic(auto, unfolding(crate::specs::Standard::Names))]
+fn first_named(place: Place, name: &[u8]) -> Option<Standard>
+    ensures { result ≡ first_named place name.now STANDARD_NAMES }
+{
+    find(place, &STANDARD_NAMES, name)
+}
+
+/// What a name stands for that is none of the table.
+fn named_beside(name: &[u8]) -> Option<StandardName>
+    ensures { result ≡ named_beside name.now }
+{
+    if name == "sysin".as_bytes() {
+        Some(StandardName::Sysin)
+    } else if name == "sysout".as_bytes() {
+        Some(StandardName::Sysout)
+    } else {
+        match standard_prefix(name) {
+            Some(prefix) => Some(StandardName::Prefix(prefix)),
+            None => None,
+        }
+    }
+}
+
+/// A name of the table, else another one.
+fn procedure_or(procedure: Option<Standard>, other: Option<StandardName>) -> Option<StandardName>
+    ensures { result ≡ procedure_or procedure other }
+{
+    match procedure {
+        Some(name) => Some(StandardName::Procedure(name)),
+        None => other,
+    }
+}
+
 /// What a name written alone stands for, where the program does not declare it. The name is in lower case.
-#[tactic(auto, unfolding(crate::specs::Standard::standard_name, crate::specs::Standard::Names))]
-pub fn standard_name(name: &[u8]) -> Option<Standard>
+#[tactic(auto, unfolding(crate::specs::Standard::standard_name))]
+pub fn standard_name(name: &[u8]) -> Option<StandardName>
     ensures { result ≡ standard_name name.now }
 {
-    find(&NAMES_ALONE, name)
+    procedure_or(first_named(Place::Alone, name), named_beside(name))
 }
 
 /// What an attribute of a text stands for. The name is in lower case.
-#[tactic(auto, unfolding(crate::specs::Standard::text_attribute, crate::specs::Standard::Names))]
-pub fn text_attribute(name: &[u8]) -> Option<Standard>
+#[tactic(auto, unfolding(crate::specs::Standard::text_attribute))]
+pub fn text_attribute(name: &[u8]) -> Option<StandardName>
     ensures { result ≡ text_attribute name.now }
 {
-    find(&ATTRIBUTES_OF_TEXTS, name)
+    procedure_or(first_named(Place::Text, name), None)
 }
 
 /// What an attribute of sysin stands for. The name is in lower case.
-#[tactic(auto, unfolding(crate::specs::Standard::sysin_attribute, crate::specs::Standard::Names))]
-pub fn sysin_attribute(name: &[u8]) -> Option<Standard>
+#[tactic(auto, unfolding(crate::specs::Standard::sysin_attribute))]
+pub fn sysin_attribute(name: &[u8]) -> Option<StandardName>
     ensures { result ≡ sysin_attribute name.now }
 {
-    find(&ATTRIBUTES_OF_SYSIN, name)
+    procedure_or(first_named(Place::Sysin, name), None)
 }
 
 /// What an attribute of sysout stands for. The name is in lower case.
-#[tactic(auto, unfolding(crate::specs::Standard::sysout_attribute, crate::specs::Standard::Names))]
-pub fn sysout_attribute(name: &[u8]) -> Option<Standard>
+#[tactic(auto, unfolding(crate::specs::Standard::sysout_attribute))]
+pub fn sysout_attribute(name: &[u8]) -> Option<StandardName>
     ensures { result ≡ sysout_attribute name.now }
 {
-    find(&ATTRIBUTES_OF_SYSOUT, name)
+    procedure_or(first_named(Place::Sysout, name), None)
 }
 
-fn yields(result_type: SimType) -> Signature
-    ensures { result ≡ yields result_type }
+/// The standard prefix of this name, if it is the name of one. The name is in lower case.
+#[tactic(auto, unfolding(crate::specs::Standard::standard_prefix))]
+pub fn standard_prefix(name: &[u8]) -> Option<StandardPrefix>
+    ensures { result ≡ standard_prefix name.now }
 {
-    Signature {
-        first: None,
-        second: None,
-        result: Some(result_type),
+    if name == "simset".as_bytes() {
+        Some(StandardPrefix::Simset)
+    } else if name == "simulation".as_bytes() {
+        Some(StandardPrefix::Simulation)
+    } else {
+        None
     }
 }
 
-fn of_one(first: SimType, result_type: Option<SimType>) -> Signature
-    ensures { result ≡ of_one first result_type }
+/// A type of the table that is no class.
+pub(crate) fn plain_type(ty: StandardType) -> SimType
+    ensures { result ≡ plain_type ty }
 {
-    Signature {
-        first: Some(first),
-        second: None,
-        result: result_type,
+    match ty {
+        StandardType::Integer => SimType::Integer,
+        StandardType::Boolean => SimType::Boolean,
+        StandardType::Character => SimType::Character,
+        StandardType::Text => SimType::Text,
+        _ => SimType::NoneType,
     }
 }
 
-fn of_two(first: SimType, second: SimType, result_type: Option<SimType>) -> Signature
-    ensures { result ≡ of_two first second result_type }
+fn plain_or_none(ty: Option<StandardType>) -> Option<SimType>
+    ensures { result ≡ plain_or_none ty }
 {
-    Signature {
-        first: Some(first),
-        second: Some(second),
-        result: result_type,
+    match ty {
+        Some(ty) => Some(plain_type(ty)),
+        None => None,
     }
 }
 
@@ -606,66 +196,27 @@ fn of_none() -> Signature
     }
 }
 
-impl Standard {
+/// What the table has of a name.
+fn signature_of(name: Standard) -> Signature
+    ensures { result ≡ signature_of name }
+{
+    let parameters = name.parameters();
+    Signature {
+        first: plain_or_none(parameters.get(0).copied()),
+        second: plain_or_none(parameters.get(1).copied()),
+        result: plain_or_none(name.result()),
+    }
+}
+
+impl StandardName {
     /// The types of the operands and of the result.
     #[tactic(auto, unfolding(crate::specs::Standard::signature))]
     pub fn signature(self) -> Signature
         ensures { result ≡ signature self }
     {
         match self {
-            Standard::Abs => of_one(SimType::Integer, Some(SimType::Integer)),
-            Standard::Sign => of_one(SimType::Integer, Some(SimType::Integer)),
-            Standard::Min => of_two(SimType::Integer, SimType::Integer, Some(SimType::Integer)),
-            Standard::Max => of_two(SimType::Integer, SimType::Integer, Some(SimType::Integer)),
-            Standard::Mod => of_two(SimType::Integer, SimType::Integer, Some(SimType::Integer)),
-            Standard::Rem => of_two(SimType::Integer, SimType::Integer, Some(SimType::Integer)),
-            Standard::Maxint => yields(SimType::Integer),
-            Standard::Minint => yields(SimType::Integer),
-            Standard::Char => of_one(SimType::Integer, Some(SimType::Character)),
-            Standard::Rank => of_one(SimType::Character, Some(SimType::Integer)),
-            Standard::Isochar => of_one(SimType::Integer, Some(SimType::Character)),
-            Standard::Isorank => of_one(SimType::Character, Some(SimType::Integer)),
-            Standard::Digit => of_one(SimType::Character, Some(SimType::Boolean)),
-            Standard::Letter => of_one(SimType::Character, Some(SimType::Boolean)),
-            Standard::Blanks => of_one(SimType::Integer, Some(SimType::Text)),
-            Standard::Copy => of_one(SimType::Text, Some(SimType::Text)),
-            Standard::Upcase => of_one(SimType::Text, Some(SimType::Text)),
-            Standard::Lowcase => of_one(SimType::Text, Some(SimType::Text)),
-            Standard::TextConstant => yields(SimType::Boolean),
-            Standard::TextStart => yields(SimType::Integer),
-            Standard::TextLength => yields(SimType::Integer),
-            Standard::TextPos => yields(SimType::Integer),
-            Standard::TextMore => yields(SimType::Boolean),
-            Standard::TextMain => yields(SimType::Text),
-            Standard::TextSetpos => of_one(SimType::Integer, None),
-            Standard::TextGetchar => yields(SimType::Character),
-            Standard::TextPutchar => of_one(SimType::Character, None),
-            Standard::TextSub => of_two(SimType::Integer, SimType::Integer, Some(SimType::Text)),
-            Standard::TextStrip => yields(SimType::Text),
-            Standard::TextGetint => yields(SimType::Integer),
-            Standard::TextPutint => of_one(SimType::Integer, None),
-            Standard::Inimage => of_none(),
-            Standard::Inchar => yields(SimType::Character),
-            Standard::Inint => yields(SimType::Integer),
-            Standard::Intext => of_one(SimType::Integer, Some(SimType::Text)),
-            Standard::Lastitem => yields(SimType::Boolean),
-            Standard::Endfile => yields(SimType::Boolean),
-            Standard::Outimage => of_none(),
-            Standard::Outchar => of_one(SimType::Character, None),
-            Standard::Outtext => of_one(SimType::Text, None),
-            Standard::Outint => of_two(SimType::Integer, SimType::Integer, None),
-            Standard::Image => yields(SimType::Text),
-            Standard::Pos => yields(SimType::Integer),
-            Standard::Setpos => of_one(SimType::Integer, None),
-            Standard::More => yields(SimType::Boolean),
-            Standard::Length => yields(SimType::Integer),
-            Standard::Sysin => of_none(),
-            Standard::Sysout => of_none(),
-            Standard::Detach => of_none(),
-            Standard::Call => of_one(SimType::NoneType, None),
-            Standard::Resume => of_one(SimType::NoneType, None),
-            Standard::Simset => of_none(),
-            Standard::Simulation => of_none(),
+            StandardName::Procedure(name) => signature_of(name),
+            _ => of_none(),
         }
     }
 }

@@ -1,7 +1,7 @@
 //! Types, parameters, and what a declared identifier is.
 
-use crate::standard::Attribute;
 use sim_base::{DeclNo, TokenNo};
+use sim_values::Standard;
 
 /// The type of a value.
 #[derive(Clone, Copy, Debug, PartialEq, Eq)]
@@ -92,7 +92,7 @@ pub enum Entry {
     Formal(Formal),
     /// An attribute of a standard class, or of `simulation`, with the types of its parameter and its result, if it has them.
     Attribute {
-        name: Attribute,
+        name: Standard,
         parameter: Option<SimType>,
         result: Option<SimType>,
     },

@@ -27,8 +27,8 @@ use Rattle.sim_values.specs.declared.kind.Kind.{Kind}
 use Rattle.sim_values.specs.declared.kind.Kind.TheVariants as kind
 use Rattle.sim_values.specs.declared.standard.Standard.{Standard}
 use Rattle.sim_values.specs.Standard.{is_image, moves_position, on_image, operands_of, row_of}
-use Rattle.sim_scope.specs.declared.standard.Standard.{Standard as Found}
-use Rattle.sim_scope.specs.declared.standard.Standard.TheVariants as found
+use Rattle.sim_scope.specs.declared.standard.StandardName.{StandardName}
+use Rattle.sim_scope.specs.declared.standard.StandardName.TheVariants as found
 use Rattle.sim_scope.specs.declared.types.SimType.TheVariants as type
 use Rattle.sim_values.specs.declared.standard.Standard.TheVariants as name_of
 use Rattle.sim_meaning.specs.Closing.{Joining, Lazily, Negated, Plainly, Sort, actual_term, array_place, array_term, behind_dot, close, close_actuals, close_all, close_place, constant_term, declared_place, declared_term, dot_term, formal_place, formal_term, home_of, image_place, in_instance, is_image_behind, is_text, is_text_type, is_variable, is_variable_denoted, is_variable_entry, literal_term, name_term, named_place, named_term, object_term, signed_term, sort_of, standard_term, stream_denoted, stream_of, sysout, two_term, variable_place, variable_term}
@@ -103,14 +103,9 @@ abbrev StreamIs : Option ℕ → Type 0
 StreamIs None = Unit {0}
 StreamIs (Some n) = IsImage n
 
-stream_found : (name : Found) → StreamIs (stream_named name)
+stream_found : (name : StandardName) → StreamIs (stream_named name)
 stream_found found.Sysin = tt
 stream_found found.Sysout = tt
-stream_found found.Detach = tt
-stream_found found.Call = tt
-stream_found found.Resume = tt
-stream_found found.Simset = tt
-stream_found found.Simulation = tt
 stream_found _ = tt
 
 stream_denotes : (d : Option Denotation) → StreamIs (stream_denoted d)

@@ -1,6 +1,6 @@
 -- The last round, construct by construct.
 use Rattle.std.proofs.Common.{◌≡◌, ◌<◌, ℕ, List, [], ◌∷◌, ◌++◌, Option, Some, None, refl, sym, ap, ◌∙◌, map, length}
-use Rattle.std.specs.Prelude.{option_map}
+use Rattle.std.specs.Prelude.{false, option_map}
 use Rattle.std.specs.declared.alloc.Global.{Global}
 use Rattle.std.specs.declared.boxed.Box.{Box}
 use Rattle.std.specs.declared.vec.Vec.{Vec}
@@ -46,7 +46,7 @@ use Rattle.sim_scope.specs.declared.types.Position.TheVariants.{ClassBody, Insid
 use Rattle.sim_scope.specs.declared.types.SimType.{SimType}
 use Rattle.sim_scope.specs.declared.types.SimType.TheVariants as type
 use Rattle.sim_scope.specs.Assignments.{Nothing}
-use Rattle.sim_scope.specs.Calls.{bound}
+use Rattle.sim_scope.specs.Calls.{bound, used_in}
 use Rattle.sim_scope.specs.Actuals.{no_actuals}
 use Rattle.sim_scope.specs.ExpressionWalk.{Finds, FindsActuals, FindsSide}
 use Rattle.sim_scope.specs.Expressions.{actuals, judge, judge_side}
@@ -55,7 +55,8 @@ use Rattle.sim_scope.specs.Judged.{Judged, Judges, next}
 use Rattle.sim_scope.specs.Outcomes.{called}
 use Rattle.sim_scope.specs.References.{block_of_class, class_named}
 use Rattle.sim_scope.specs.Runs.{Runs, each}
-use Rattle.sim_scope.specs.Statements.{activate_events, activates, arm_class_fits, arm_events, arm_fits, array_events, assignment_events, call_alone, class_connected, class_prefix_events, connected_by, call_events, control_events, controlled, element_events, first_step, first_value, in_simulation, inspect_events, inspect_when_events, judging, needs, needs_reference, pair_events, prefix_at, prefix_used, prefixed_events, prefixed_with, process_at, process_events, program_prefix_events, required, schedule_events, simple, stands, starts, taken_by, variable_events}
+use Rattle.sim_scope.specs.Statements.{activate_events, activates, arm_class_fits, arm_events, arm_fits, array_events, assignment_events, call_alone, class_connected, class_events, class_prefix_events, class_used, connected_by, call_events, control_events, controlled, element_events, first_step, first_value, in_simulation, inspect_events, inspect_when_events, judging, needs, needs_reference, pair_events, prefix_at, prefix_used, prefixed_events, prefixed_with, process_at, process_events, program_prefix_events, required, result_events, schedule_events, simple, stands, starts, taken_by, type_events, variable_events}
+use Rattle.sim_scope.specs.Scopes.{binding, found_in}
 use Rattle.sim_scope.specs.Tables.{Tables}
 use Rattle.sim_scope.specs.Walk.{arm_classes, of_statement, of_branch, of_arm, of_block, of_whole, of_declaration}
 use Rattle.sim_scope.proofs.Walks.{runs_both, runs_as, runs_none, leads_all, leads_next, leads_end, run_empty, run_block, run_block_of_class, run_body_of_class, run_prefixed, run_inner, run_call, run_assignment, run_if, run_while, run_for, run_for_reference, run_inspect, run_inspect_when, run_activation, run_some, run_no_branch, run_arm, run_compound, run_whole_block, run_whole, run_class_body, run_variables, run_arrays, run_procedure, run_class}
@@ -331,20 +332,40 @@ unfolding judging
 tell_whole t b n c k ds l same f also_ g = run_whole found (judging t) b n c c k ds l same f also_ g (runs_none found c)
 
 -- Declarations.
-pub tell_variables : (t : Tables) (b c : Findings) (x : Decl) (n : TypeName) (v : Vec Variable Global) (l : List Variable) → x ≡ d.Variables n v → l ≡ v.items → Runs found b c (each (variable_events n) l) → Runs found b c (of_declaration (judging t) x)
-unfolding judging
-tell_variables t b c x n v l is same h = run_variables found (judging t) b c x n v is (runs_as found b c _ _ (ap (each (variable_events n)) same) h)
+pub runs_class : (t : Tables) (f g : Findings) (class : Identifier) (d : Option Denotation) (o : Option ℕ) (e : Denotation) (x : Option Denotation) → d ≡ binding t class.token.0 class.name → o ≡ found_in t class.token.0 class.name → d ≡ Some e
+    → Judges f g x (used_in class.token.0 o e false) → Runs found f g (class_events t class)
+unfolding class_events
+runs_class t f g class d o e x denotes at is h =
+    runs_as found f g _ _
+    (ap (λ z. (used_in class.token.0 z e false).events) at ∙ ap (class_used t class) (sym is ∙ denotes))
+    (runs_judged f g x (used_in class.token.0 o e false) h)
 
-pub tell_arrays : (t : Tables) (b c : Findings) (x : Decl) (n : TypeName) (i : TokenNo) (v : Vec ArraySegment Global) (l : List ArraySegment) → x ≡ d.Arrays n i v → l ≡ v.items → Runs found b c (each (of_segment t) l)
+pub runs_no_class : (t : Tables) (f : Findings) (class : Identifier) (d : Option Denotation) → d ≡ binding t class.token.0 class.name → d ≡ None → Runs found f f (class_events t class)
+unfolding class_events
+runs_no_class t f class d denotes is = runs_as found f f [] _ (ap (class_used t class) (sym is ∙ denotes)) (runs_none found f)
+
+pub runs_nothing : (f : Findings) → Runs found f f []
+runs_nothing f = runs_none found f
+
+pub ruleset classes = (runs_class, runs_no_class, runs_nothing)
+
+pub tell_variables : (t : Tables) (b m c : Findings) (x : Decl) (n : TypeName) (v : Vec Variable Global) (l : List Variable) → x ≡ d.Variables n v → l ≡ v.items → Runs found b m (type_events t n) → Runs found m c (each (variable_events n) l)
     → Runs found b c (of_declaration (judging t) x)
 unfolding judging
-tell_arrays t b c x n i v l is same h =
-    run_arrays found (judging t) b c x n i v is (runs_as found b c _ _ (each-segments t l ∙ ap (λ z. each (array_events t) (map segment_syntax z)) same) h)
+tell_variables t b m c x n v l is same class h =
+    run_variables found (judging t) b c x n v is (runs_both found b m c _ _ class (runs_as found m c _ _ (ap (each (variable_events n)) same) h))
 
-pub tell_procedure : (t : Tables) (b c : Findings) (x : Decl) (r : Option TypeName) (i : TokenNo) (q : Procedure) (y : Stmt) → x ≡ d.Procedure r i q → y ≡ q.body.value → Runs found b c (of_statement (judging t) Inside y)
+pub tell_arrays : (t : Tables) (b m c : Findings) (x : Decl) (n : TypeName) (i : TokenNo) (v : Vec ArraySegment Global) (l : List ArraySegment) → x ≡ d.Arrays n i v → l ≡ v.items → Runs found b m (type_events t n) → Runs found m c (each (of_segment t) l)
     → Runs found b c (of_declaration (judging t) x)
 unfolding judging
-tell_procedure t b c x r i q y is same h = run_procedure found (judging t) b b c c x r i q y is (runs_none found b) same h (runs_none found c)
+tell_arrays t b m c x n i v l is same class h =
+    run_arrays found (judging t) b c x n i v is
+    (runs_both found b m c _ _ class (runs_as found m c _ _ (each-segments t l ∙ ap (λ z. each (array_events t) (map segment_syntax z)) same) h))
+
+pub tell_procedure : (t : Tables) (b m c : Findings) (x : Decl) (r : Option TypeName) (i : TokenNo) (q : Procedure) (y : Stmt) → x ≡ d.Procedure r i q → y ≡ q.body.value → Runs found b m (result_events t r) → Runs found m c (of_statement (judging t) Inside y)
+    → Runs found b c (of_declaration (judging t) x)
+unfolding judging
+tell_procedure t b m c x r i q y is same class h = run_procedure found (judging t) b m c c x r i q y is class same h (runs_none found c)
 
 pub tell_class : (t : Tables) (b m c : Findings) (x : Decl) (r : Option Identifier) (i : TokenNo) (q : Class) (y : Stmt) → x ≡ d.Class r i q → Runs found b m (of_class_prefix t r q.name.token.0) → y ≡ q.body.value
     → Runs found m c (of_statement (judging t) ClassBody y) → Runs found b c (of_declaration (judging t) x)

@@ -24,8 +24,8 @@ use Rattle.sim_scope.specs.Walk.{program_events}
 pub data Checked : Type 0 where
   -- the first broken rule
   Refused : Fault → Checked
-  -- the block tables, what each identifier denotes, and the type of each expression
-  Allowed : Tables → (uses : List (Option Denotation)) → (types : List (Option SimType)) → Checked
+  -- the block tables, what each identifier denotes, the block in which it and the object of each `this` is found, and the type of each expression
+  Allowed : Tables → (uses : List (Option Denotation)) → (found_in : List (Option ℕ)) → (types : List (Option SimType)) → Checked
 
 -- the first round: what the declarations of a program break, its prefixes, and the cells of its instances
 abbrev pub first_least : BuildingOf → Option Fault
@@ -45,7 +45,7 @@ judged tokens tables p = run found (unknown tokens) (program_events (judging tab
 
 abbrev pub last_answer : Tables → Findings → Option Fault → Checked
 last_answer tables f (Some fault) = Refused fault
-last_answer tables f None = Allowed tables f.uses f.types
+last_answer tables f None = Allowed tables f.uses f.found_in f.types
 
 abbrev pub second_answer : (tokens : ℕ) → Program → Tables → Option Fault → Checked
 second_answer tokens p tables (Some fault) = Refused fault
@@ -62,12 +62,12 @@ answer tokens p = first_answer tokens p (declared_by p).tables (first_least (dec
 abbrev pub check_of : Tree → Checked
 check_of p = answer (length p.lines.items) (program_syntax p)
 
--- A program with what the definition gives it: it is allowed, and its tables, what its identifiers denote and the types of its expressions are
--- those of its check.
+-- A program with what the definition gives it: it is allowed, and its tables, what its identifiers denote, where they are found and the types of
+-- its expressions are those of its check.
 unfoldable pub IsBound : Bound → Type 0
-IsBound b = check_of b.program ≡ Allowed b.scopes b.uses.items b.types.items
+IsBound b = check_of b.program ≡ Allowed b.scopes b.uses.items b.found_in.items b.types.items
 
 abbrev pub Answers : Tree → Result Bound StaticRefusal → Type 0
-Answers p (Ok b) = (b.program ≡ p) × (check_of p ≡ Allowed b.scopes b.uses.items b.types.items)
+Answers p (Ok b) = (b.program ≡ p) × (check_of p ≡ Allowed b.scopes b.uses.items b.found_in.items b.types.items)
 Answers p (Err (refusal.Broken rule token)) = check_of p ≡ Refused (record { token = token; rule = rule })
 Answers p (Err refusal.Memory) = ⊤

@@ -1,6 +1,6 @@
 -- For each rule a small source that it refuses and one that it lets through. Tokens are numbered from 0; under a
 -- source stand the numbers of those that are named.
-use Rattle.std.specs.Prelude.{◌≡◌, ℕ, zero, suc, ◌+◌, ◌*◌, Bool, true, false, pos, List, [], ◌∷◌, replicate, Some, None, codes}
+use Rattle.std.specs.Prelude.{◌≡◌, ℕ, zero, suc, ◌+◌, ◌*◌, Bool, true, false, pos, List, [], ◌∷◌, replicate, slice_get, Option, Some, None, codes}
 use Rattle.std.specs.List.{list_any}
 use Rattle.std.specs.Str.{bytes_eq}
 use Rattle.sim_base.specs.declared.numbering.TokenNo.{TokenNo}
@@ -21,6 +21,7 @@ use Rattle.sim_scope.specs.declared.types.BlockKind.TheVariants as kind
 use Rattle.sim_scope.specs.declared.types.Entry.{Entry}
 use Rattle.sim_scope.specs.declared.types.Entry.TheVariants as entry
 use Rattle.sim_scope.specs.declared.types.SimType.TheVariants as t
+use Rattle.sim_scope.specs.Access.{joined}
 use Rattle.sim_scope.specs.Breaks.{row_breaks}
 use Rattle.sim_scope.specs.Building.{BuildingOf}
 use Rattle.sim_scope.specs.Found.{fault}
@@ -95,7 +96,7 @@ Refuses rule token checked = checked ≡ Refused (fault token rule)
 
 abbrev pub is_allowed : Checked → Bool
 is_allowed (Refused x) = false
-is_allowed (Allowed tables uses types) = true
+is_allowed (Allowed tables uses found_in types) = true
 
 abbrev pub Allows : Checked → Type 0
 Allows checked = is_allowed checked ≡ true
@@ -289,6 +290,8 @@ pub record Classes : Type 0 where
   -- S3, class in its own prefix chain:  begin a class a; ; end
   --                                                    3
   pub its_own_prefix : Refuses r.ClassInItsOwnChain 3 (source (subclass 1 a a plain (Empty 5) 5 ∷ []) [] 6)
+  -- .. and  begin class a; ; a class b; ; b class c; ; end
+  pub a_chain_of_prefixes : Allows (source (class 1 a plain (Empty 4) 4 ∷ subclass 5 a b plain (Empty 9) 9 ∷ subclass 10 b c plain (Empty 14) 14 ∷ []) [] 15)
   -- S6, inner out of place:  begin class a; inner; end  and  begin class a; begin inner end; end
   --                                         4
   pub inner_alone : Refuses r.InnerOutOfPlace 4 (source (class 1 a plain (Inner 4) 5 ∷ []) [] 6)
@@ -375,6 +378,24 @@ pub record Objects : Type 0 where
   -- A virtual without a match is called:  begin class a; virtual: procedure p; ; ref(a) c; c.p end
   pub virtual_called : Allows (source (class 1 a (with_virtual 6 p) (Empty 9) 9 ∷ reference 10 a c ∷ []) (Call (Dot 17 (alone 16 c) (name 18 p) NoMore) ∷ []) 19)
 
+-- Where identifiers are found, by the numbers of blocks: 0 is that of the program, the others follow in the order in which they begin.
+abbrev pub block_found : Checked → (token : ℕ) → Option ℕ
+block_found (Refused x) token = None
+block_found (Allowed tables uses found_in types) token = joined (slice_get found_in token)
+
+pub record Places : Type 0 where
+  -- in a connection:  begin class a; begin integer b; end; ref(a) c; inspect c do b := 1 end
+  --                                                                          17   19
+  pub connected : let checked = source (class 1 a plain (body 4 (variable 5 b ∷ []) [] 8) 9 ∷ reference 10 a c ∷ []) (Inspect 16 (alone 17 c) 18 (set (alone 19 b) 20 (number 21 1)) 22 NoStatement ∷ []) 22 in
+      (block_found checked 17 ≡ Some 0) × (block_found checked 19 ≡ Some 2)
+  -- in the levels of a class:  begin class a; begin integer b; end; a class c; b := 1; end
+  --                                                                          14
+  pub inherited : block_found (source (class 1 a plain (body 4 (variable 5 b ∷ []) [] 8) 9 ∷ subclass 10 a c plain (set (alone 14 b) 15 (number 16 1)) 17 ∷ []) [] 18) 14 ≡ Some 2
+  -- the object of `this`:  begin class a; begin ref(a) c; c :- this a end; end
+  --                                                       11   13   14
+  pub object : let checked = source (class 1 a plain (body 4 (reference 5 a c ∷ []) (refer (alone 11 c) 12 (This 13 (name 14 a)) ∷ []) 15) 16 ∷ []) [] 17 in
+      (block_found checked 11 ≡ Some 1) × (block_found checked 13 ≡ Some 1) × (block_found checked 14 ≡ Some 0)
+
 -- The standard names that are left out:  begin integer a; a := sqrt end  and  begin integer sqrt; sqrt := 1 end
 --                                                              6
 abbrev pub used : List ℕ → Checked
@@ -398,4 +419,5 @@ pub record WorkedRules : Type 0 where
   pub bodies : Bodies
   pub classes : Classes
   pub objects : Objects
+  pub places : Places
   pub left_out : LeftOut

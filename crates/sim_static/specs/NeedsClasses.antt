@@ -1,26 +1,31 @@
 -- Which sources need classes, by their tokens. They do not run yet, so a run of one is refused before any of the static rules.
-use Rattle.std.specs.Prelude.{◌≡◌, ℕ, Bool, true, false, ◌||◌, ◌&&◌, List, [], ◌∷◌, drop}
+use Rattle.std.specs.Prelude.{◌≡◌, ℕ, Bool, true, false, not, ◌||◌, ◌&&◌, List, [], ◌∷◌, drop}
 use Rattle.sim_base.specs.declared.token.Token.{Token}
 use Rattle.sim_base.specs.declared.token.TokenKind.{TokenKind}
 use Rattle.sim_base.specs.declared.token.TokenKind.TheVariants as k
 use Rattle.sim_scope.specs.ClassNames.{is_name_of_classes}
 
--- a word or a name that only sources with classes have
-abbrev pub needs : TokenKind → Bool
-needs (k.Identifier name) = is_name_of_classes name
-needs k.Class = true
-needs k.Ref = true
-needs k.New = true
-needs k.This = true
-needs k.Qua = true
-needs k.Is = true
-needs k.In = true
-needs k.None = true
-needs k.Inspect = true
-needs k.Activate = true
-needs k.Reactivate = true
-needs k.Inner = true
-needs _ = false
+-- A word or a name that only sources with classes have. Where there are no classes a dot stands behind a text, so the name behind it is an
+-- attribute of texts, however it is spelt: `t.main` is the text of which t is a part.
+abbrev pub needs : (dotted : Bool) → TokenKind → Bool
+needs dotted (k.Identifier name) = not dotted && is_name_of_classes name
+needs dotted k.Class = true
+needs dotted k.Ref = true
+needs dotted k.New = true
+needs dotted k.This = true
+needs dotted k.Qua = true
+needs dotted k.Is = true
+needs dotted k.In = true
+needs dotted k.None = true
+needs dotted k.Inspect = true
+needs dotted k.Activate = true
+needs dotted k.Reactivate = true
+needs dotted k.Inner = true
+needs dotted _ = false
+
+abbrev pub is_dot : TokenKind → Bool
+is_dot k.Dot = true
+is_dot _ = false
 
 -- a block has a prefix where an identifier or a parenthesis stands in front of `begin`
 abbrev pub ends_prefix : TokenKind → Bool
@@ -32,17 +37,21 @@ abbrev pub is_begin : TokenKind → Bool
 is_begin k.Begin = true
 is_begin _ = false
 
-unfoldable pub needs_here : (before : Bool) → Token → Bool
-needs_here before token = needs token.kind || before && is_begin token.kind
+-- a token that needs classes: behind a dot or not, behind what may end a prefix or not
+unfoldable pub needs_here : (dotted before : Bool) → Token → Bool
+needs_here dotted before token = needs dotted token.kind || before && is_begin token.kind
 
-unfoldable pub needs_from : (before : Bool) → List Token → Bool
-needs_from before [] = false
-needs_from before (token ∷ tokens) = needs_here before token || needs_from (ends_prefix token.kind) tokens
+unfoldable pub needs_from : (dotted before : Bool) → List Token → Bool
+needs_from dotted before [] = false
+needs_from dotted before (token ∷ tokens) = needs_here dotted before token || needs_from (is_dot token.kind) (ends_prefix token.kind) tokens
 
 -- whether a source with these tokens needs classes
+abbrev pub needs_classes : List Token → Bool
+needs_classes tokens = needs_from false false tokens
+
 unfoldable pub NeedsClasses : List Token → Bool → Type 0
-NeedsClasses tokens answer = answer ≡ needs_from false tokens
+NeedsClasses tokens answer = answer ≡ needs_classes tokens
 
 -- in a loop: what is left needs them where the whole does
-unfoldable pub Passes : List Token → (before : Bool) → ℕ → Type 0
-Passes tokens before i = needs_from before (drop i tokens) ≡ needs_from false tokens
+unfoldable pub Passes : List Token → (dotted before : Bool) → ℕ → Type 0
+Passes tokens dotted before i = needs_from dotted before (drop i tokens) ≡ needs_classes tokens

@@ -8,7 +8,7 @@ ghost use Rattle.sim_static.specs.StatementWalk.{FindsLeft, FindsLefts, IsLast, 
 
 use sim_base::{Rule, TokenNo};
 use sim_scope::{
-    Extent, Fault, Found, LeftSides, Outcome, Scopes, Side, SimType, Standard, entry_of, lesser,
+    Extent, Fault, Found, LeftSides, Outcome, Scopes, Side, SimType, StandardName, entry_of, lesser,
 };
 use sim_tree::{Assigned, Assignment, Expr, first_token};
 use sim_types::{called, is_stream, judge, misfit_of, operand, result_in};
@@ -141,7 +141,7 @@ fn standard_assigned(
     sign: Assignment,
     first: TokenNo,
     outcome: Outcome,
-    name: Standard,
+    name: StandardName,
 ) -> Side
     ensures { Judges found.old found.new result (standard_assigned scopes.now sign first.0 outcome name) }
 {

@@ -1,14 +1,50 @@
-//! Declarations: the values of constants, and the bounds of arrays.
+//! Declarations: the classes of references, the values of constants, and the bounds of arrays.
 ghost use Rattle.std.specs.Prelude.{◌≡◌};
 ghost use Rattle.sim_scope.specs.Runs.{each};
-ghost use Rattle.sim_scope.specs.Statements.{constant_fits, constant_token, constant_type, has_type, signed_token, value_fits, value_type, variable_events};
+ghost use Rattle.sim_scope.specs.Statements.{class_events, constant_fits, constant_token, constant_type, has_type, result_events, signed_token, type_events, value_fits, value_type, variable_events};
 ghost use Rattle.sim_static.specs.StatementWalk.{Tells, of_pair, of_segment};
 
 use crate::statement::required;
 use sim_base::{Rule, TokenNo};
-use sim_scope::{Extent, Found, Scopes, SimType};
-use sim_tree::{ArraySegment, Bounds, Constant, LeadingSign, TypeName, Variable};
-use sim_types::is_same;
+use sim_scope::{Extent, Found, Scopes, SimType, binding_and_block};
+use sim_tree::{ArraySegment, Bounds, Constant, Identifier, LeadingSign, TypeName, Variable};
+use sim_types::{is_same, used_in};
+
+/// The class in the `ref( )` of a declaration is used.
+#[tactic(auto, using(crate::proofs::Tellings::classes))]
+fn class_of_references(scopes: &Scopes, found: &mut Found, class: &Identifier)
+    ensures { Tells found.old found.new (class_events scopes.now class.now) }
+{
+    let (denotation, block) = binding_and_block(scopes, class.token, class.name.as_bytes());
+    if let Some(denotation) = denotation {
+        used_in(found, class.token, block, denotation, false);
+    }
+}
+
+/// The type of a declaration.
+#[tactic(auto, using(crate::proofs::Tellings::classes))]
+pub(crate) fn declared_type(scopes: &Scopes, found: &mut Found, name: &TypeName)
+    ensures { Tells found.old found.new (type_events scopes.now name.now) }
+{
+    match name {
+        TypeName::Integer(_) => {}
+        TypeName::Boolean(_) => {}
+        TypeName::Character(_) => {}
+        TypeName::Text(_) => {}
+        TypeName::Reference { class, .. } => class_of_references(scopes, found, class),
+    }
+}
+
+/// The type of the result of a procedure.
+#[tactic(auto, using(crate::proofs::Tellings::classes))]
+pub(crate) fn result_type(scopes: &Scopes, found: &mut Found, name: &Option<TypeName>)
+    ensures { Tells found.old found.new (result_events scopes.now name.now) }
+{
+    match name {
+        Some(name) => declared_type(scopes, found, name),
+        None => {}
+    }
+}
 
 /// The type of a constant as it is declared, where constants of it are written.
 fn value_type(name: &TypeName) -> Option<SimType>

@@ -3,7 +3,7 @@ ghost use Rattle.std.specs.Prelude.{◌≡◌};
 ghost use Rattle.std.specs.List.{list_any};
 ghost use Rattle.std.specs.Str.{bytes_eq};
 ghost use Rattle.sim_scope.specs.ClassNames.{is_name_of_classes, names_of_classes, names_of_simulation};
-ghost use Rattle.sim_static.specs.NeedsClasses.{NeedsClasses, ends_prefix, is_begin, needs, needs_here};
+ghost use Rattle.sim_static.specs.NeedsClasses.{NeedsClasses, ends_prefix, is_begin, is_dot, needs, needs_here};
 
 use sim_base::{Token, TokenKind};
 
@@ -55,12 +55,12 @@ fn is_name_of_classes(name: &[u8]) -> bool
     is_of_classes(name) || is_of_simulation(name)
 }
 
-/// Whether only sources with classes have a token.
-fn needs(kind: &TokenKind) -> bool
-    ensures { result ≡ needs kind.now }
+/// Whether only sources with classes have a token, which stands behind a dot or not.
+fn needs(dotted: bool, kind: &TokenKind) -> bool
+    ensures { result ≡ needs dotted kind.now }
 {
     match kind {
-        TokenKind::Identifier(name) => is_name_of_classes(name.as_bytes()),
+        TokenKind::Identifier(name) => !dotted && is_name_of_classes(name.as_bytes()),
         TokenKind::Class => true,
         TokenKind::Ref => true,
         TokenKind::New => true,
@@ -73,6 +73,15 @@ fn needs(kind: &TokenKind) -> bool
         TokenKind::Activate => true,
         TokenKind::Reactivate => true,
         TokenKind::Inner => true,
+        _ => false,
+    }
+}
+
+fn is_dot(kind: &TokenKind) -> bool
+    ensures { result ≡ is_dot kind.now }
+{
+    match kind {
+        TokenKind::Dot => true,
         _ => false,
     }
 }
@@ -98,23 +107,25 @@ fn is_begin(kind: &TokenKind) -> bool
 }
 
 #[tactic(auto, unfolding(crate::specs::NeedsClasses::needs_here))]
-fn needs_here(before: bool, token: &Token) -> bool
-    ensures { result ≡ needs_here before token.now }
+fn needs_here(dotted: bool, before: bool, token: &Token) -> bool
+    ensures { result ≡ needs_here dotted before token.now }
 {
-    needs(&token.kind) || before && is_begin(&token.kind)
+    needs(dotted, &token.kind) || before && is_begin(&token.kind)
 }
 
 /// Whether the tokens of a source have a form of classes: a class, a prefixed block, a reference, a connection, an activation, or one of the
-/// standard names of these.
+/// standard names of these. Behind a dot stands no such name: where there are no classes a dot follows a text.
 #[tactic(auto, using(crate::proofs::Needed::needed))]
 pub fn needs_classes(tokens: &[Token]) -> bool
     ensures { NeedsClasses tokens.now result }
 {
+    let mut dotted = false;
     let mut before = false;
     for token in tokens {
-        if needs_here(before, token) {
+        if needs_here(dotted, before, token) {
             return true;
         }
+        dotted = is_dot(&token.kind);
         before = ends_prefix(&token.kind);
     }
     false

@@ -6,7 +6,7 @@ ghost use Rattle.sim_static.specs.StatementWalk.{Tells};
 
 use crate::activation::activation;
 use crate::assignment::assignment;
-use crate::bounds::{segments, variables};
+use crate::bounds::{declared_type, result_type, segments, variables};
 use crate::connection::{inspect, inspect_when};
 use crate::control::{references, values};
 use crate::prefix::{block_prefix, class_prefix};
@@ -195,9 +195,24 @@ fn declaration(scopes: &Scopes, found: &mut Found, decl: &Decl)
         Decl::Variables {
             type_name,
             variables: list,
-        } => variables(found, type_name, list),
-        Decl::Arrays { segments: list, .. } => segments(scopes, found, list),
-        Decl::Procedure { procedure, .. } => {
+        } => {
+            declared_type(scopes, found, type_name);
+            variables(found, type_name, list);
+        }
+        Decl::Arrays {
+            type_name,
+            segments: list,
+            ..
+        } => {
+            declared_type(scopes, found, type_name);
+            segments(scopes, found, list);
+        }
+        Decl::Procedure {
+            result: type_name,
+            procedure,
+            ..
+        } => {
+            result_type(scopes, found, type_name);
             statement(scopes, found, Position::Inside, &procedure.body)
         }
         Decl::Class { prefix, class, .. } => {

@@ -1,25 +1,16 @@
 //! The prefixes of blocks and classes, and the actual parameters of a block's.
 ghost use Rattle.std.specs.Prelude.{◌≡◌};
 ghost use Rattle.sim_scope.specs.Judged.{Judges};
-ghost use Rattle.sim_scope.specs.Statements.{class_denoted, prefix_applied, prefix_at, prefix_used, prefixed_with, standard_named};
+ghost use Rattle.sim_scope.specs.Statements.{class_denoted, prefix_applied, prefix_at, prefix_used, prefixed_with};
 ghost use Rattle.sim_static.specs.StatementWalk.{Tells, of_class_prefix, of_prefix, of_program_prefix};
 
 use crate::assignment::told;
 use sim_base::{DeclNo, Rule, TokenNo};
 use sim_scope::{
-    Actuals, Denotation, Extent, Found, Scopes, Standard, StandardPrefix, block_at, owner_of_level,
+    Actuals, Denotation, Extent, Found, Scopes, StandardName, block_at, owner_of_level,
 };
 use sim_tree::{BlockPrefix, Identifier};
 use sim_types::{actuals, formal_count};
-
-fn standard_named(prefix: StandardPrefix) -> Standard
-    ensures { result ≡ standard_named prefix }
-{
-    match prefix {
-        StandardPrefix::Simset => Standard::Simset,
-        StandardPrefix::Simulation => Standard::Simulation,
-    }
-}
 
 fn class_denoted(class: Option<DeclNo>) -> Option<Denotation>
     ensures { result ≡ class_denoted class }
@@ -38,7 +29,7 @@ fn prefix_at(scopes: &Scopes, token: TokenNo) -> Option<Denotation>
     let block = block_at(scopes, token)?;
     let row = scopes.blocks().get(block as usize)?;
     match row.standard() {
-        Some(which) => Some(Denotation::Standard(standard_named(which))),
+        Some(which) => Some(Denotation::Standard(StandardName::Prefix(which))),
         None => class_denoted(owner_of_level(scopes, row.base())),
     }
 }

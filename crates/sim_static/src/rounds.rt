@@ -80,14 +80,8 @@ pub fn check(alloc: Global, program: Program) -> Result<Bound, StaticRefusal>
         return Err(refusal(fault));
     }
     let found = last_round(&scopes, Found::new(alloc, program.lines.len())?, &program);
-    let (least, uses, types) = found.into_parts();
-    match least {
+    match found.least() {
         Some(fault) => Err(refusal(fault)),
-        None => Ok(Bound {
-            program,
-            scopes,
-            uses,
-            types,
-        }),
+        None => Ok(found.bind_program(program, scopes)),
     }
 }

@@ -1,5 +1,5 @@
 -- One judgement after another.
-use Rattle.std.proofs.Common.{◌≡◌, ℕ, ◌+◌, List, [], ◌∷◌, ◌++◌, Option, refl, sym, ap, ◌∙◌, subst, append_assoc, append-nil}
+use Rattle.std.proofs.Common.{◌≡◌, ℕ, ◌+◌, Bool, List, [], ◌∷◌, ◌++◌, Option, refl, sym, ap, ◌∙◌, subst, append_assoc, append-nil}
 use Rattle.sim_base.specs.declared.numbering.TokenNo.{TokenNo}
 use Rattle.sim_tree.specs.declared.expr.Identifier.{Identifier}
 use Rattle.sim_scope.specs.declared.outcome.Actual.{Actual}
@@ -11,7 +11,7 @@ use Rattle.sim_scope.specs.declared.outcome.Side.{Side}
 use Rattle.sim_scope.specs.declared.scopes.Denotation.{Denotation}
 use Rattle.sim_scope.specs.declared.types.SimType.{SimType}
 use Rattle.sim_scope.specs.Actuals.{actual, as_value, more, parameter_at, value_fits, with_actual}
-use Rattle.sim_scope.specs.Calls.{attribute_by_value, attribute_of_value, bound}
+use Rattle.sim_scope.specs.Calls.{attribute_by_value, attribute_of_value, bound, located, used_in, used_or_barred}
 use Rattle.sim_scope.specs.Found.{Event, Findings, after, found}
 use Rattle.sim_scope.specs.Judged.{Judged, Judges, gives, next}
 use Rattle.sim_scope.specs.Outcomes.{called, in_parentheses, parenthesized, side, side_of, type_in, value_of, valued}
@@ -62,6 +62,10 @@ judges_next {A} {B} {f} {g} {h} {x} {y} j k one two =
 pub judges_then : {A B : Type 0} {f g : Findings} {x : A} {y : B} (j : Judged A) (k : A → B) → Judges f g x j → y ≡ k x → Judges f g y (next j (λ z. gives (k z)))
 judges_then {A} {B} {f} {g} {x} {y} j k one e =
     judges_next j (λ z. gives (k z)) one (subst (λ z. Judges g g z (gives (k x))) (sym e) (judges_gives g (k x)))
+
+pub used_in_steps : (t : TokenNo) (o : Option ℕ) (d : Denotation) (barred : Bool) (f g h : Findings) (x : Option Denotation) → Judges f g tt (located t.0 o) → Judges g h x (used_or_barred t.0 d barred) → Judges f h x (used_in t.0 o d barred)
+unfolding used_in
+used_in_steps t o d barred f g h x one two = judges_next (located t.0 o) (λ n. used_or_barred t.0 d barred) one two
 
 pub valued_in_steps : (s : Tables) (t : TokenNo) (f g h : Findings) (o u v : Outcome) → Judges f g u (called s o) → Judges g h v (value_of t.0 u) → Judges f h v (valued s t.0 o)
 unfolding valued

@@ -1,16 +1,19 @@
 //! What an identifier denotes: alone, and behind a dot.
 ghost use Rattle.std.specs.Prelude.{◌≡◌, Some};
 ghost use Rattle.sim_scope.specs.Judged.{Judges};
-ghost use Rattle.sim_scope.specs.Calls.{attribute, attribute_by_value, attribute_found, attribute_in, attribute_missing, attribute_of_value, barred, bound as bound_to, detach_or_none, is_barred, is_fixed, is_own_level, is_shown, missing, remote, remote_as, remote_in, remote_or_barred, used_or_barred};
+ghost use Rattle.sim_scope.specs.Calls.{attribute, attribute_by_value, attribute_found, attribute_in, attribute_missing, attribute_of_value, barred, bound as bound_to, detach_or_none, is_barred, is_fixed, is_own_level, located, missing, remote, remote_as, remote_in, remote_or_barred, used_in, used_or_barred};
+ghost use Rattle.sim_scope.specs.Scopes.{is_shown};
 
 use crate::outcomes::side;
 use sim_base::{DeclNo, Rule, TokenNo};
 use sim_scope::{
-    Denotation, Entry, Extent, Found, Outcome, Scopes, Side, SimType, Standard, binding, block_at,
-    class_block, declared_or_standard, has_classes, has_level, is_detach, is_passed_over, shown,
-    sysin_attribute, sysout_attribute, text_attribute, undeclared,
+    Denotation, Entry, Extent, Found, Outcome, Scopes, Side, SimType, StandardName,
+    binding_and_block, block_at, class_block, declared_or_standard, has_classes, has_level,
+    is_detach, is_passed_over, shown, sysin_attribute, sysout_attribute, text_attribute,
+    undeclared,
 };
 use sim_tree::Identifier;
+use sim_values::Standard;
 
 /// Whether an array bound may use a declaration of its own block.
 fn is_fixed(entry: Entry) -> bool
@@ -77,6 +80,31 @@ fn used_or_barred(
     }
 }
 
+/// The block in which an identifier is found, if it is found in one. Also that of `this`, at the token of that word.
+#[tactic(auto, unfolding(sim_scope::specs::Calls::located, sim_scope::specs::Judged::gives, sim_scope::specs::Judged::telling, sim_scope::specs::Runs::run))]
+pub(crate) fn located(found: &mut Found, token: TokenNo, block: Option<u32>)
+    ensures { Judges found.old found.new result (located token.0 block) }
+{
+    match block {
+        Some(block) => found.locate(token, block),
+        None => (),
+    }
+}
+
+/// A use of an identifier that is found in a block, unless it may not stand there.
+pub fn used_in(
+    found: &mut Found,
+    token: TokenNo,
+    block: Option<u32>,
+    denotation: Denotation,
+    barred: bool,
+) -> Option<Denotation>
+    ensures { Judges found.old found.new result (used_in token.0 block denotation barred) }
+{
+    located(found, token, block);
+    used_or_barred(found, token, denotation, barred)
+}
+
 /// The rule that an identifier breaks which is not found: `S11` where it was passed over, else `S10` or one of `N1` to `N4`.
 fn missing(passed: bool, name: &[u8]) -> Rule
     ensures { result ≡ missing passed name.now }
@@ -98,10 +126,11 @@ pub fn bound(
 ) -> Option<Denotation>
     ensures { Judges found.old found.new result (bound_to scopes.now extent name.now) }
 {
-    match binding(scopes, name.token, name.name.as_bytes()) {
+    let (denotation, block) = binding_and_block(scopes, name.token, name.name.as_bytes());
+    match denotation {
         Some(denotation) => {
             let barred = is_barred(scopes, extent, name.token, denotation);
-            used_or_barred(found, name.token, denotation, barred)
+            used_in(found, name.token, block, denotation, barred)
         }
         None => {
             let passed = is_passed_over(scopes, name.token, name.name.as_bytes());
@@ -116,7 +145,7 @@ pub fn bound(
 fn attribute_found(
     found: &mut Found,
     name: &Identifier,
-    attribute: Option<Standard>,
+    attribute: Option<StandardName>,
 ) -> Option<Denotation>
     ensures { Judges found.old found.new result (attribute_found name.now attribute) }
 {
@@ -132,11 +161,11 @@ fn attribute_found(
     }
 }
 
-fn detach_or_none(name: &[u8]) -> Option<Standard>
+fn detach_or_none(name: &[u8]) -> Option<StandardName>
     ensures { result ≡ detach_or_none name.now }
 {
     if is_detach(name) {
-        Some(Standard::Detach)
+        Some(StandardName::Procedure(Standard::Detach))
     } else {
         None
     }
@@ -298,11 +327,11 @@ pub(crate) fn attribute(
 {
     match outcome {
         Outcome::Standard {
-            name: Standard::Sysin,
+            name: StandardName::Sysin,
             ..
         } => { attribute_found(found, name, sysin_attribute(name.name.as_bytes())) }
         Outcome::Standard {
-            name: Standard::Sysout,
+            name: StandardName::Sysout,
             ..
         } => { attribute_found(found, name, sysout_attribute(name.name.as_bytes())) }
         _ => attribute_of_outcome(scopes, extent, found, name, first, outcome),

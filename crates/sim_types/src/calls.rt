@@ -8,7 +8,7 @@ use crate::outcomes::{breaks, call_of, is_standard_class, is_stream, varies};
 use sim_base::{DeclNo, Rule, TokenNo};
 use sim_scope::{
     Actuals, Denotation, Entry, Fault, Formal, FormalKind, Found, Outcome, Scopes, Signature,
-    SimType, Standard, block_at, declaration_from, entry_of,
+    SimType, StandardName, block_at, declaration_from, entry_of,
 };
 use sim_tree::Identifier;
 
@@ -165,7 +165,7 @@ fn standard_alone(
     found: &mut Found,
     naming: TokenNo,
     name: &Identifier,
-    standard: Standard,
+    standard: StandardName,
 ) -> Outcome
     ensures { Judges found.old found.new result (alone scopes.now naming.0 name.now (Denotation.Standard standard)) }
 {
@@ -335,7 +335,7 @@ fn standard_applied(
     found: &mut Found,
     naming: TokenNo,
     token: TokenNo,
-    name: Standard,
+    name: StandardName,
     signature: Signature,
     actuals: Actuals,
 ) -> Outcome

@@ -1,11 +1,11 @@
 //! The formal parameters of procedures, and the text of blocks.
-ghost use Rattle.std.specs.Prelude.{◌≡◌, take};
+ghost use Rattle.std.specs.Prelude.{◌≡◌};
 ghost use Rattle.sim_scope.specs.Actuals.{result_in};
 ghost use Rattle.sim_scope.specs.Calls.{is_inside};
 ghost use Rattle.sim_scope.specs.Scopes.{block_in, formal_declared, formal_in, formal_of, formals_at, formals_of};
 
 use sim_base::{DeclNo, TokenNo};
-use sim_scope::{Block, Entry, Formal, Scopes, SimType, entry_of};
+use sim_scope::{Entry, Formal, Scopes, SimType, entry_of};
 
 /// The block of a procedure or a class.
 pub(crate) fn block_in(entry: Option<Entry>) -> Option<u32>
@@ -18,27 +18,11 @@ pub(crate) fn block_in(entry: Option<Entry>) -> Option<u32>
     }
 }
 
-/// The declarations of the formal parameters of a block.
-fn formals_in(block: &Block) -> &[DeclNo]
-    ensures { result.now ≡ take block.now.formals block.now.numbers }
-{
-    let numbers = block.numbers();
-    let count = block.formals();
-    if count < numbers.len() {
-        &numbers[..count]
-    } else {
-        numbers
-    }
-}
-
 fn formals_at(scopes: &Scopes, block: Option<u32>) -> &[DeclNo]
     ensures { result.now ≡ formals_at scopes.now block }
 {
     match block {
-        Some(block) => match scopes.blocks().get(block as usize) {
-            Some(block) => formals_in(block),
-            None => &[],
-        },
+        Some(block) => sim_scope::formals_at(scopes, block),
         None => &[],
     }
 }

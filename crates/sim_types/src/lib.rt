@@ -13,7 +13,7 @@ mod parameters;
 mod references;
 mod typing;
 
-pub use bindings::bound;
+pub use bindings::{bound, used_in};
 pub use chains::{common, subordinate};
 pub use expressions::{actuals, judge, operand};
 pub use fit::{is_reference, is_same, misfit_of};

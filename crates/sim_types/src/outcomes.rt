@@ -7,7 +7,9 @@ ghost use Rattle.sim_scope.specs.Outcomes.{breaks, call_of, called, has, in_pare
 use crate::fit::{common_type, is_same, operands_fit};
 use crate::headings::formals_of;
 use sim_base::{Rule, TokenNo};
-use sim_scope::{Entry, Fit, Found, Outcome, Scopes, Side, Signature, SimType, Standard, entry_of};
+use sim_scope::{
+    Entry, Fit, Found, Outcome, Scopes, Side, Signature, SimType, StandardName, entry_of,
+};
 use sim_tree::Operator;
 
 /// A value of a type, at the token that names the expression.
@@ -84,24 +86,23 @@ fn procedure_called(
 }
 
 /// Whether a standard name is `sysin` or `sysout`.
-pub fn is_stream(name: Standard) -> bool
+pub fn is_stream(name: StandardName) -> bool
     ensures { result ≡ is_stream name }
 {
     match name {
-        Standard::Sysin => true,
-        Standard::Sysout => true,
+        StandardName::Sysin => true,
+        StandardName::Sysout => true,
         _ => false,
     }
 }
 
 /// Whether a standard name is the class `simset` or `simulation`.
 #[tactic(auto, unfolding(sim_scope::specs::Standard::is_standard_class))]
-pub fn is_standard_class(name: Standard) -> bool
+pub fn is_standard_class(name: StandardName) -> bool
     ensures { result ≡ is_standard_class name }
 {
     match name {
-        Standard::Simset => true,
-        Standard::Simulation => true,
+        StandardName::Prefix(_) => true,
         _ => false,
     }
 }
@@ -116,7 +117,7 @@ fn signature_called(found: &mut Found, token: TokenNo, signature: Signature) -> 
     }
 }
 
-fn standard_called(found: &mut Found, token: TokenNo, name: Standard) -> Outcome
+fn standard_called(found: &mut Found, token: TokenNo, name: StandardName) -> Outcome
     ensures { Judges found.old found.new result (standard_called token.0 name) }
 {
     if is_stream(name) {

@@ -2,16 +2,16 @@
 ghost use Rattle.std.specs.Prelude.{◌≡◌, Some, length};
 ghost use Rattle.sim_scope.specs.Judged.{Judges};
 ghost use Rattle.sim_scope.specs.Outcomes.{has};
-ghost use Rattle.sim_scope.specs.References.{as_class, block_of_class, chained_with, class_compared, class_named, class_on_chain, class_type, declared_class, for_prefixing, formal_count, formal_count_of, generates, is_its_own, is_only_prefix, is_this, level_is, member, new_object, new_of, no_class, qualified, standard_class, this_barred, this_block, this_found, this_object, this_of, this_or_barred, unless_prefix};
+ghost use Rattle.sim_scope.specs.References.{as_class, block_of_class, chained_with, class_compared, class_named, class_on_chain, class_type, declared_class, for_prefixing, formal_count, formal_count_of, generates, is_its_own, is_only_prefix, is_this, level_is, member, new_object, new_of, no_class, qualified, standard_class, this_barred, this_block, this_found, this_in, this_object, this_of, this_or_barred, unless_prefix};
 
-use crate::bindings::bound;
+use crate::bindings::{bound, located};
 use crate::fit::is_reference;
 use crate::outcomes::{breaks, has, is_standard_class};
 use sim_base::{DeclNo, Rule, TokenNo};
 use sim_scope::{
-    Actuals, Denotation, Extent, Found, Outcome, Scopes, Side, SimType, Standard, block_at,
-    class_block, class_formals_count, encloser, has_detach_at, has_level, has_simulation,
-    is_for_prefixing, on_one_chain,
+    Actuals, Denotation, Extent, Found, Outcome, Scopes, Side, SimType, StandardName,
+    StandardPrefix, block_at, class_block, class_formals_count, encloser, has_detach_at, has_level,
+    has_simulation, is_for_prefixing, on_one_chain,
 };
 use sim_tree::Identifier;
 
@@ -40,7 +40,7 @@ fn declared_class(
 }
 
 #[tactic(auto, unfolding(sim_scope::specs::Judged::gives, sim_scope::specs::Runs::run))]
-fn standard_class(found: &mut Found, token: TokenNo, name: Standard) -> Option<Denotation>
+fn standard_class(found: &mut Found, token: TokenNo, name: StandardName) -> Option<Denotation>
     ensures { Judges found.old found.new result (standard_class token.0 name) }
 {
     if is_standard_class(name) {
@@ -231,7 +231,9 @@ fn level_is(scopes: &Scopes, class: Denotation, level: Option<u32>, block: u32) 
     match (class, level) {
         (Denotation::Declared(_), Some(level)) => has_level(scopes, block, level),
         (Denotation::Declared(_), None) => false,
-        (Denotation::Standard(Standard::Simulation), _) => has_simulation(scopes, block),
+        (Denotation::Standard(StandardName::Prefix(StandardPrefix::Simulation)), _) => {
+            has_simulation(scopes, block)
+        }
         (Denotation::Standard(_), _) => is_for_prefixing(scopes, block),
     }
 }
@@ -318,6 +320,24 @@ fn this_or_barred(
     }
 }
 
+fn this_in(
+    scopes: &Scopes,
+    extent: Extent,
+    found: &mut Found,
+    naming: TokenNo,
+    token: TokenNo,
+    class: Denotation,
+    block: u32,
+) -> Outcome
+    ensures { Judges found.old found.new result (this_in scopes.now extent naming.0 token.0 class block) }
+{
+    if is_only_prefix(scopes, class) {
+        return breaks(found, token, Rule::OnlyForPrefixing);
+    }
+    let barred = this_barred(scopes, extent, token, block);
+    this_or_barred(found, barred, token, naming, class_type(class))
+}
+
 fn this_found(
     scopes: &Scopes,
     extent: Extent,
@@ -331,11 +351,8 @@ fn this_found(
 {
     match block {
         Some(block) => {
-            if is_only_prefix(scopes, class) {
-                return breaks(found, token, Rule::OnlyForPrefixing);
-            }
-            let barred = this_barred(scopes, extent, token, block);
-            this_or_barred(found, barred, token, naming, class_type(class))
+            located(found, naming, Some(block));
+            this_in(scopes, extent, found, naming, token, class, block)
         }
         None => breaks(found, token, Rule::ThisOutsideItsClass),
     }

@@ -16,8 +16,7 @@ pub fn type_of(alloc: Global, scopes: &Scopes, expr: &Expr) -> Result<SimType, S
 {
     let mut found = Found::new(alloc, 0)?;
     let value = operand(scopes, Extent::Statement, &mut found, expr);
-    let (least, uses, types) = found.into_parts();
-    match (least, value.ty) {
+    match (found.least(), value.ty) {
         (Some(fault), _) => Err(StaticRefusal::Broken {
             rule: fault.rule,
             token: fault.token,

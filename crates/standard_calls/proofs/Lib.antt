@@ -9,3 +9,4 @@ pub mod OutputSteps
 pub mod InputSteps
 pub mod Images
 pub mod Counts
+pub mod Unread

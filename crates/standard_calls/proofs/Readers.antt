@@ -5,7 +5,7 @@ use Rattle.sim_values.specs.declared.standard.Standard.{Standard}
 use Rattle.sim_values.specs.declared.standard.Standard.TheVariants as name
 use Rattle.sim_values.specs.declared.standard.StandardType.{StandardType}
 use Rattle.sim_values.specs.declared.value.TextVal.{TextVal}
-use Rattle.sim_values.specs.Plain.{Integer, Character, Text}
+use Rattle.sim_values.specs.Plain.{Plain, Integer, Character, Text}
 use Rattle.sim_values.specs.Standard.{of_character, of_integer, of_integers, of_text, of_text_and_character, of_text_and_integer, of_text_and_integers, operands_of, row_of, standard_effect, take_nothing}
 use Rattle.sim_values.specs.Store.{Effect, Store}
 use Rattle.sim_code.specs.Events.{having}
@@ -140,6 +140,7 @@ module _ (depth : ℕ) (slots : List Slot) (h : depth ≤ length slots) where
         zero_quiet (nothing_name f) (nothing_operands f) l line o go depth slots (no_value f none)
         ∙ ap (λ d. having (standard_effect (nothing_name f) [] o.store) o (going_on l line o go (values_of d slots))) none_before,
     λ some. absurd (off (sym none ∙ some)),
+    ap (λ d. values_of d slots) none_before,
   )
 
   pub nothing_read : (f : OfNothing) → depth < length slots → ReadAs (Ok (call.Nothing f)) (nothing_name f) depth slots
@@ -149,10 +150,25 @@ module _ (depth : ℕ) (slots : List Slot) (h : depth ≤ length slots) where
         zero_good (nothing_name f) (nothing_operands f) l line o go depth slots h room
         ∙ ap (λ d. having (standard_effect (nothing_name f) [] o.store) o (going_on l line o go (values_of d slots))) none_before,
     λ some. subst (λ d. d < length slots) none_before room,
+    ap (λ d. values_of d slots) none_before,
   )
 
   pub nothing_full : (f : OfNothing) → gives f ≡ true → length slots ≤ depth → Refuses (nothing_name f) depth slots
   nothing_full f some full l line o go = let t = some_value f some in zero_full (nothing_name f) (nothing_operands f) l line o go depth slots t.0 h full t.1
+
+  one_on_top : (p : Plain) → 1 ≤ depth → at (depth - 1) ≡ Of p → values_of depth slots ≡ Of p ∷ values_of (depth - 1) slots
+  one_on_top p some vp = top_of depth slots some h ∙ ap (λ v. v ∷ values_of (depth - 1) slots) vp
+
+  two_on_top : (q p : Plain) → 2 ≤ depth → at (depth - 2 + 1) ≡ Of q → at (depth - 2) ≡ Of p → values_of depth slots ≡ Of q ∷ Of p ∷ values_of (depth - 2) slots
+  two_on_top q p some wq vp =
+      two_at depth slots some h ∙ ap (λ w. w ∷ at (depth - 2) ∷ values_of (depth - 2) slots) wq ∙ ap (λ v. Of q ∷ v ∷ values_of (depth - 2) slots) vp
+
+  three_on_top : (r q p : Plain) → 3 ≤ depth → at (depth - 3 + 2) ≡ Of r → at (depth - 3 + 1) ≡ Of q → at (depth - 3) ≡ Of p → values_of depth slots ≡ Of r ∷ Of q ∷ Of p ∷ values_of (depth - 3) slots
+  three_on_top r q p some xr wq vp =
+      three_at depth slots some h
+      ∙ ap (λ x. x ∷ at (depth - 3 + 1) ∷ at (depth - 3) ∷ values_of (depth - 3) slots) xr
+      ∙ ap (λ w. Of r ∷ w ∷ at (depth - 3) ∷ values_of (depth - 3) slots) wq
+      ∙ ap (λ v. Of r ∷ Of q ∷ v ∷ values_of (depth - 3) slots) vp
 
   -- an integer
   pub integer_few : (f : OfInteger) → depth < 1 → Refuses (integer_name f) depth slots
@@ -171,6 +187,7 @@ module _ (depth : ℕ) (slots : List Slot) (h : depth ≤ length slots) where
         refl,
         λ l line o go. one_good (integer_name f) (of_integer r.0) r.1 l line o go depth slots h (at (depth - 1)) (values_of (depth - 1) slots) refl (top_of depth slots some h) (Integer i) (integer_is (at (depth - 1)) i good),
         omega (arith, some, h),
+        one_on_top (Integer i) some (integer_is (at (depth - 1)) i good),
       )
 
   -- a character
@@ -189,6 +206,7 @@ module _ (depth : ℕ) (slots : List Slot) (h : depth ≤ length slots) where
         refl,
         λ l line o go. one_good (character_name f) (of_character r.0) r.1 l line o go depth slots h (at (depth - 1)) (values_of (depth - 1) slots) refl (top_of depth slots some h) (Character c) (character_is (at (depth - 1)) c good),
         omega (arith, some, h),
+        one_on_top (Character c) some (character_is (at (depth - 1)) c good),
       )
 
   -- a text
@@ -203,8 +221,12 @@ module _ (depth : ℕ) (slots : List Slot) (h : depth ≤ length slots) where
 
   pub text_read : (f : OfText) (t : TextVal) → 1 ≤ depth → at (depth - 1) ≡ Of (Text t) → ReadAs (Ok (call.Text f t)) (text_name f) depth slots
   text_read f t some good =
-      let r = text_row f in
-      (refl, λ l line o go. one_good (text_name f) (of_text r.0) r.1 l line o go depth slots h (at (depth - 1)) (values_of (depth - 1) slots) refl (top_of depth slots some h) (Text t) good, omega (arith, some, h))
+      let r = text_row f in (
+        refl,
+        λ l line o go. one_good (text_name f) (of_text r.0) r.1 l line o go depth slots h (at (depth - 1)) (values_of (depth - 1) slots) refl (top_of depth slots some h) (Text t) good,
+        omega (arith, some, h),
+        one_on_top (Text t) some good,
+      )
 
   -- two integers
   pub integers_few : (f : OfIntegers) → depth < 2 → Refuses (integers_name f) depth slots
@@ -229,6 +251,7 @@ module _ (depth : ℕ) (slots : List Slot) (h : depth ≤ length slots) where
         λ l line o go. two_good (integers_name f) (of_integers r.0) r.1 l line o go depth slots h (at (depth - 2 + 1)) (at (depth - 2)) (values_of (depth - 2) slots) refl (two_at depth slots some h) (Integer j) (Integer i)
             (integer_is (at (depth - 2 + 1)) j good) (integer_is (at (depth - 2)) i good2),
         omega (arith, some, h),
+        two_on_top (Integer j) (Integer i) some (integer_is (at (depth - 2 + 1)) j good) (integer_is (at (depth - 2)) i good2),
       )
 
   -- a text and an integer
@@ -254,6 +277,7 @@ module _ (depth : ℕ) (slots : List Slot) (h : depth ≤ length slots) where
         λ l line o go. two_good (text_and_integer_name f) (of_text_and_integer r.0) r.1 l line o go depth slots h (at (depth - 2 + 1)) (at (depth - 2)) (values_of (depth - 2) slots) refl (two_at depth slots some h) (Integer j) (Text t)
             (integer_is (at (depth - 2 + 1)) j good) good2,
         omega (arith, some, h),
+        two_on_top (Integer j) (Text t) some (integer_is (at (depth - 2 + 1)) j good) good2,
       )
 
   -- `putchar`
@@ -279,6 +303,7 @@ module _ (depth : ℕ) (slots : List Slot) (h : depth ≤ length slots) where
         λ l line o go. two_good name.TextPutchar (of_text_and_character r.0) r.1 l line o go depth slots h (at (depth - 2 + 1)) (at (depth - 2)) (values_of (depth - 2) slots) refl (two_at depth slots some h) (Character c) (Text t)
             (character_is (at (depth - 2 + 1)) c good) good2,
         omega (arith, some, h),
+        two_on_top (Character c) (Text t) some (character_is (at (depth - 2 + 1)) c good) good2,
       )
 
   -- `sub`
@@ -311,4 +336,5 @@ module _ (depth : ℕ) (slots : List Slot) (h : depth ≤ length slots) where
         λ l line o go. three_good name.TextSub (of_text_and_integers r.0) r.1 l line o go depth slots h (at (depth - 3 + 2)) (at (depth - 3 + 1)) (at (depth - 3)) (values_of (depth - 3) slots) refl (three_at depth slots some h)
             (Integer j) (Integer i) (Text t) (integer_is (at (depth - 3 + 2)) j good) (integer_is (at (depth - 3 + 1)) i good2) good3,
         omega (arith, some, h),
+        three_on_top (Integer j) (Integer i) (Text t) some (integer_is (at (depth - 3 + 2)) j good) (integer_is (at (depth - 3 + 1)) i good2) good3,
       )

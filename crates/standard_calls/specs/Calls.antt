@@ -1,5 +1,5 @@
 -- The standard names that run, by the kinds of their operands, each with its operands; and what becomes of one on them.
-use Rattle.std.specs.Prelude.{◌≡◌, ℕ, ◌+◌, ◌-◌, ◌^◌, min, ◌<◌, ◌≤◌, Bool, true, false, List, [], ◌∷◌, ◌++◌, length, Option, Some, None, Result, Ok, Err}
+use Rattle.std.specs.Prelude.{◌≡◌, ℕ, ◌+◌, ◌-◌, ◌^◌, min, ◌<◌, ◌≤◌, Bool, true, false, List, [], ◌∷◌, ◌++◌, length, map, Option, Some, None, Result, Ok, Err}
 use Rattle.std.specs.Io.KnownBytes.{Appends}
 use Rattle.sim_base.specs.declared.limits.Limits.{Limits}
 use Rattle.sim_base.specs.declared.run_error.RunError.{RunError}
@@ -190,9 +190,13 @@ HasRoom _ at slots = at < length slots
 abbrev pub begins : (depth : ℕ) → Call → ℕ
 begins depth c = depth - length (operands c)
 
+-- the operands are the last values, and the others stand below them
+abbrev pub OnTop : Call → (depth : ℕ) → List Slot → Type 0
+OnTop c depth slots = values_of depth slots ≡ map Of (operands c) ++ values_of (begins depth c) slots
+
 -- what was read on a stack for a name
 abbrev pub ReadAs : Result Call Missing → Standard → (depth : ℕ) → List Slot → Type 0
-ReadAs (Ok c) n depth slots = (n ≡ name_of c) × Takes n depth slots (begins depth c) (operands c) × HasRoom c (begins depth c) slots
+ReadAs (Ok c) n depth slots = (n ≡ name_of c) × Takes n depth slots (begins depth c) (operands c) × HasRoom c (begins depth c) slots × OnTop c depth slots
 ReadAs (Err missing.NoRule) n depth slots = Refuses n depth slots
 ReadAs (Err missing.Memory) n depth slots = Unit {0}
 

@@ -1,5 +1,6 @@
 //! Names of the input.
 ghost use Rattle.std.specs.Prelude.{◌≡◌, ◌≤◌, ◌∷◌, [], ℕ, List, Option, Some};
+ghost use Rattle.sim_code.specs.Machine.{Of};
 ghost use Rattle.sim_values.specs.declared.standard.Standard.TheVariants as name;
 ghost use Rattle.sim_values.specs.declared.value.TextVal.{TextVal as AnyText};
 ghost use Rattle.sim_values.specs.Plain.{Integer};
@@ -7,6 +8,7 @@ ghost use Rattle.sim_values.specs.Texts.{KeepsTexts, at_position};
 ghost use Rattle.basic_io.specs.Image.{IsImage};
 ghost use Rattle.standard_calls.specs.Calls.{CameAs, CameSource, IsScalarCame, KeepsImages, NoValue, reading_name, refused_as, unfit_as, unread_as, words_after};
 ghost use Rattle.standard_calls.specs.Performed.{parts};
+ghost use Rattle.standard_calls.specs.Unread.{Unread};
 
 use crate::came::{Came, done, value};
 use crate::texts::{room, words_for};
@@ -42,6 +44,7 @@ pub fn refused(fault: IoFault) -> Came
 }
 
 /// Reads the input.
+#[tactic(auto, using(crate::proofs::Unread::reads_none))]
 pub fn of_input<I: Source>(
     function: Reading,
     texts: &mut Texts,
@@ -53,6 +56,7 @@ pub fn of_input<I: Source>(
         × CameAs result budget (reading_name function) [] (parts texts.old sysin.old s image sink words) (parts texts.new sysin.new s2 image sink words) }
     ensures scalar { IsScalarCame result }
     ensures value { function ≡ Reading.Inimage → NoValue result }
+    ensures unread { Unread (reading_name function) [] texts.old sysin.old input.old input.new }
     ensures faults { CameSource result (I.faults input.old) (I.faults input.new) }
     ensures valid { IsImage texts.new sysin.new.image }
     ensures same { sysin.new.image ≡ at_position sysin.old.image sysin.new.image.pos }
@@ -80,6 +84,7 @@ pub fn of_input<I: Source>(
 }
 
 /// `intext`.
+#[tactic(auto, using(crate::proofs::Unread::reads_none))]
 pub fn intext<I: Source>(
     n: i64,
     budget: u64,
@@ -91,6 +96,7 @@ pub fn intext<I: Source>(
     requires image { IsImage texts.old sysin.old.image }
     ensures came { (image : AnyText) (sink : Option (List ℕ)) (s : List ℕ) → I.left input.old ≡ Some s → (s2 : List ℕ) × (I.left input.new ≡ Some s2)
         × CameAs result budget name.Intext (Integer n ∷ []) (parts texts.old sysin.old s image sink words.old) (parts texts.new sysin.new s2 image sink words.new) }
+    ensures unread { Unread name.Intext (Of (Integer n) ∷ []) texts.old sysin.old input.old input.new }
     ensures scalar { IsScalarCame result }
     ensures faults { CameSource result (I.faults input.old) (I.faults input.new) }
     ensures valid { IsImage texts.new sysin.new.image }

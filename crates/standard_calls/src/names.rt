@@ -9,6 +9,8 @@ ghost use Rattle.basic_io.specs.Image.{IsImage};
 ghost use Rattle.frame_arena.specs.Arrays.{AllLeadArrays, RegionOf};
 ghost use Rattle.frame_arena.specs.declared.frames.Frame.{Frame};
 ghost use Rattle.frame_arena.specs.Frames.{AllLead};
+ghost use Rattle.frame_arena.specs.Stacks.{values_of};
+ghost use Rattle.standard_calls.specs.Unread.{Unread};
 ghost use Rattle.standard_calls.specs.Performed.{IfDepth, IfMoved, PerformedAs, PerformedFaults, PerformedStops, held, parts};
 
 use crate::calls::operand_places;
@@ -54,6 +56,7 @@ pub enum Performed {
 /// Performs a standard name that runs: it takes its operands from the stack, does what it does, and puts its value there, if it has
 /// one. `budget` is the storage budget, and `words` counts those in use. A value that is no text of `texts` is answered by `Memory`, and
 /// so is a budget above 50,000,000 words where a text is made.
+#[tactic(auto, using(crate::proofs::Unread::reads_none))]
 pub fn perform<I: Source, O: Sink>(
     name: Standard,
     stack: &mut [Slot],
@@ -72,6 +75,9 @@ pub fn perform<I: Source, O: Sink>(
     requires sysin { IsImage texts.old sysin.old.image }
     ensures row { (s : List ℕ) → I.left input.old ≡ Some s → (s2 : List ℕ) × (I.left input.new ≡ Some s2)
         × PerformedAs result budget name (held depth stack.old) stack.new (parts texts.old sysin.old s image.old (O.written out.old) words.old) (parts texts.new sysin.new s2 image.new (O.written out.new) words.new) }
+
+    // Nothing is read where what is held of the input is enough for the name on its operands.
+    ensures unread { Unread name (values_of depth stack.old) texts.old sysin.old input.old input.new }
     ensures faults { PerformedFaults result (O.faults out.old) (O.faults out.new) (I.faults input.old) (I.faults input.new) }
     ensures stops { PerformedStops O.written O.faults out.old out.new result }
     ensures still { IfMoved result (Appends (O.written out.old) (O.written out.new) []) }

@@ -1,5 +1,5 @@
 //! Standard names on their operands.
-ghost use Rattle.std.specs.Prelude.{◌≡◌, ◌∷◌, [], ℕ, List, Option, Some};
+ghost use Rattle.std.specs.Prelude.{◌≡◌, ◌∷◌, [], ℕ, List, Option, Some, map};
 ghost use Rattle.sim_values.specs.Plain.{Character, Integer, Text};
 ghost use Rattle.sim_values.specs.Texts.{IsText, KeepsTexts, at_position};
 ghost use Rattle.basic_io.specs.Image.{IsImage};
@@ -7,7 +7,9 @@ ghost use Rattle.basic_io.specs.Input.{HeldInput};
 ghost use Rattle.sim_values.specs.declared.value.TextVal.{TextVal as AnyText};
 ghost use Rattle.sim_values.specs.declared.standard.Standard.TheVariants as name;
 ghost use Rattle.standard_calls.specs.Calls.{CameAs, CameFaults, CameSink, CameSource, CameStops, GivesValue, HasText, IfCameMoved, IsScalarCame, KeepsImages, QuietCame, character_name, integer_name, integers_name, name_of, nothing_name, operands, text_name};
+ghost use Rattle.sim_code.specs.Machine.{Of};
 ghost use Rattle.standard_calls.specs.Performed.{parts};
+ghost use Rattle.standard_calls.specs.Unread.{Unread};
 
 use crate::calls::{Call, OfCharacter, OfInteger, OfIntegers, OfNothing, OfText};
 use crate::came::Came;
@@ -28,6 +30,7 @@ use sim_values::{
 use text_objects::Texts;
 
 // A name of no operands.
+#[tactic(auto, using(crate::proofs::Unread::reads_none))]
 fn of_nothing<I: Source, O: Sink>(
     function: OfNothing,
     texts: &mut Texts,
@@ -42,6 +45,7 @@ fn of_nothing<I: Source, O: Sink>(
         × CameAs result budget (nothing_name function) [] (parts texts.old sysin.old s image.old (O.written out.old) words) (parts texts.new sysin.new s2 image.new (O.written out.new) words) }
     ensures scalar { IsScalarCame result }
     ensures value { GivesValue (Call.Nothing function) result }
+    ensures unread { Unread (nothing_name function) [] texts.old sysin.old input.old input.new }
     ensures faults { CameFaults result (O.faults out.old) (O.faults out.new) (I.faults input.old) (I.faults input.new) }
     ensures stops { CameStops O.written O.faults out.old out.new result }
     ensures still { IfCameMoved result (O.written out.new ≡ O.written out.old) }
@@ -64,6 +68,7 @@ fn of_nothing<I: Source, O: Sink>(
 }
 
 // A name of an integer.
+#[tactic(auto, using(crate::proofs::Unread::reads_none))]
 fn of_integer<I: Source>(
     function: OfInteger,
     i: i64,
@@ -76,6 +81,7 @@ fn of_integer<I: Source>(
     requires sysin { IsImage texts.old sysin.old.image }
     ensures came { (image : AnyText) (sink : Option (List ℕ)) (s : List ℕ) → I.left input.old ≡ Some s → (s2 : List ℕ) × (I.left input.new ≡ Some s2)
         × CameAs result budget (integer_name function) (Integer i ∷ []) (parts texts.old sysin.old s image sink words.old) (parts texts.new sysin.new s2 image sink words.new) }
+    ensures unread { Unread (integer_name function) (Of (Integer i) ∷ []) texts.old sysin.old input.old input.new }
     ensures scalar { IsScalarCame result }
     ensures faults { CameSource result (I.faults input.old) (I.faults input.new) }
     ensures valid { IsImage texts.new sysin.new.image }
@@ -231,6 +237,7 @@ fn of_text<O: Sink>(
 }
 
 /// What becomes of a name on its operands.
+#[tactic(auto, using(crate::proofs::Unread::reads_none))]
 pub fn come<I: Source, O: Sink>(
     call: Call,
     budget: u64,
@@ -248,6 +255,7 @@ pub fn come<I: Source, O: Sink>(
         × CameAs result budget (name_of call) (operands call) (parts texts.old sysin.old s image.old (O.written out.old) words.old) (parts texts.new sysin.new s2 image.new (O.written out.new) words.new) }
     ensures scalar { IsScalarCame result }
     ensures value { GivesValue call result }
+    ensures unread { Unread (name_of call) (map Of (operands call)) texts.old sysin.old input.old input.new }
     ensures faults { CameFaults result (O.faults out.old) (O.faults out.new) (I.faults input.old) (I.faults input.new) }
     ensures stops { CameStops O.written O.faults out.old out.new result }
     ensures still { IfCameMoved result (O.written out.new ≡ O.written out.old) }

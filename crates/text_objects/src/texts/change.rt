@@ -1,7 +1,7 @@
 //! The calls that change the characters of a text in place.
-ghost use Rattle.std.specs.Prelude.{◌≡◌, ◌+◌, ◌-◌, ◌^◌, ◌<◌, ◌≤◌, ◌≢◌, length, map, OnOk, OnErr, IfOk};
+ghost use Rattle.std.specs.Prelude.{◌≡◌, ◌+◌, ◌-◌, ◌^◌, ◌<◌, ◌≤◌, ◌≢◌, false, length, map, OnOk, OnErr, IfOk};
 ghost use Rattle.std.specs.Result.{result_err};
-ghost use Rattle.sim_values.specs.Texts.{IsText, LiesIn, KeepsTexts, SameBut, assign, at_position, assigned, characters, lowcase, outcome, putchar, putint, upcase, with_characters};
+ghost use Rattle.sim_values.specs.Texts.{IsText, LiesIn, KeepsTexts, SameBut, assign, at_position, assigned, characters, frame_at, lowcase, outcome, padded, putchar, putint, upcase, with_characters};
 ghost use Rattle.text_objects.specs.Frames.{KeepsFrames};
 
 use super::Texts;
@@ -55,6 +55,25 @@ impl Texts {
             let target = &mut self.frames[left.text_frame as usize];
             target.blank(at + count, left.length as usize - count);
         }
+    }
+
+    /// Writes these characters into a text that is no constant, with blanks behind them up to its end.
+    #[tactic(auto, using(crate::proofs::FrameLemmas::same_but_set))]
+    pub fn fill(&mut self, t: TextVal, characters: &[u8])
+        requires text { LiesIn self.old t }
+        requires start { 1 ≤ t.start }
+        requires variable { (frame_at self.old t.text_frame).constant ≡ false }
+        requires fits { length characters.now ≤ t.length }
+        ensures filled { self.new ≡ with_characters self.old t (padded t.length characters.now) }
+        ensures keeps { KeepsTexts self.old self.new }
+        ensures shapes { KeepsFrames self.old self.new }
+        ensures others { SameBut t.text_frame self.old self.new }
+    {
+        let at = t.start as usize - 1;
+        let count = characters.len();
+        let frame = &mut self.frames[t.text_frame as usize];
+        frame.write(at, characters);
+        frame.blank(at + count, t.length as usize - count);
     }
 
     /// Writes the characters of `right` into the front of `left`, which lies in another frame.

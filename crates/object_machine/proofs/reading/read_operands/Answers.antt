@@ -1,6 +1,6 @@
 use Rattle.std.proofs.Common.{◌≡◌, ◌<◌, ◌∙◌, length, length-set, refl, subst, sym, arith}
 use Rattle.object_machine.proofs.ArrayRows.{lead_arrays_put, lead_put}
-use Rattle.object_machine.proofs.ReadOperands.{all_read, one_unread, read_more, read_none}
+use Rattle.object_machine.proofs.ReadOperands.{all_read, one_unread, read_more, read_none, read_same}
 use Rattle.object_machine.proofs.reading.read_operands.Goals as goal
 
 pub returns-in_default-clause-leads : goal.returns-in_default-clause-leads
@@ -30,6 +30,16 @@ loop-at-preserved c =
       λ o m source h ha ports lead leads. read_more o m c.args.first at c.args.stack.now cur slot c.loop-at.invariant.1 within (c.loop-at.invariant.4 o m source h ha ports lead leads)
           (c.in-Some.ensures.value o m source h ha ports (c.loop-at.invariant.2 m lead at) (c.loop-at.invariant.3 o.arrays leads at)),
     )
+
+pub loop-at-preserved-then-is_plain : goal.loop-at-preserved-then-is_plain
+loop-at-preserved-then-is_plain c = (
+  c.loop-at.invariant.0,
+  omega (arith, c.loop-at.invariant.1),
+  c.loop-at.invariant.2,
+  c.loop-at.invariant.3,
+  λ o m source h ha ports lead leads.
+      read_same o m c.args.first c.loop-at.at c.args.stack.now c.loop-at.stack c.loop-at.invariant.1 (c.loop-at.invariant.4 o m source h ha ports lead leads) (sym c.is_plain.ensures ∙ c.if-is_plain.true),
+)
 
 pub loop-at-init : goal.loop-at-init
 loop-at-init c = (refl, omega arith, λ m h. h, λ list h. h, λ o m source h ha ports lead leads. read_none o m c.args.first c.args.stack.now)

@@ -29,38 +29,38 @@ use Rattle.sim_expr_parser.proofs.parser.+parser.Goals.{expression-else-ne-via-t
 
 pub expression-returns-then-not-begins_simple : goal.expression-returns-then-not-begins_simple
 expression-returns-then-not-begins_simple u c =
-    no_expression c.args.tokens.now c.args.depth c.args.at (ap (λ z. is z t.If) (sym c.terminal_at_token-terminal.ensures) ∙ not_is _ _ true c.if-ne.ensures)
-    (ap (one_of g.begins_simple) (sym c.terminal_at_token-terminal.ensures) ∙ sym c.if-not-begins_simple.ensures)
+    no_expression c.args.source.now c.args.depth c.args.at (ap (λ z. is z t.If) (sym c.terminal_at-terminal.ensures) ∙ not_is _ _ true c.if-ne.ensures)
+    (ap (one_of g.begins_simple) (sym c.terminal_at-terminal.ensures) ∙ sym c.if-not-begins_simple.ensures)
 
 pub expression-returns-then-depth-eq-LIMIT : goal.expression-returns-then-depth-eq-LIMIT
 expression-returns-then-depth-eq-LIMIT u c =
-    let ws = c.args.tokens.now in
+    let ws = c.args.source.now in
     let i = c.args.at in
     let a = terminal_at ws i in
     let begins : (is a t.If ≡ true) ⊎ (one_of g.begins_simple a ≡ true) = elim c.else-ne.branch [
-      | expression-else-ne-via-then-ne+else-not-begins_simple w ↦ inr (ap (one_of g.begins_simple) (sym c.terminal_at_token-terminal.ensures) ∙ sym w.if-not-begins_simple.ensures)
-      | expression-else-ne-via-else-ne w ↦ inl (ap (λ z. is z t.If) (sym c.terminal_at_token-terminal.ensures) ∙ not_is _ _ false w.if-ne.ensures)
+      | expression-else-ne-via-then-ne+else-not-begins_simple w ↦ inr (ap (one_of g.begins_simple) (sym c.terminal_at-terminal.ensures) ∙ sym w.if-not-begins_simple.ensures)
+      | expression-else-ne-via-else-ne w ↦ inl (ap (λ z. is z t.If) (sym c.terminal_at-terminal.ensures) ∙ not_is _ _ false w.if-ne.ensures)
     ] in
     deep-expression ws c.args.depth i begins (omega arith)
 
 pub expression-returns-then-eq : goal.expression-returns-then-eq
 expression-returns-then-eq u c =
-    let ws = c.args.tokens.now in
+    let ws = c.args.source.now in
     let d = c.args.depth in
     let i = c.args.at in
-    c.conditional.ensures (ap (λ z. is z t.If) (sym c.terminal_at_token-terminal.ensures) ∙ made_is _ _ true c.if-eq.ensures)
+    c.conditional.ensures (ap (λ z. is z t.If) (sym c.terminal_at-terminal.ensures) ∙ made_is _ _ true c.if-eq.ensures)
 
 pub expression-returns : goal.expression-returns
 expression-returns u c =
-    let ws = c.args.tokens.now in
+    let ws = c.args.source.now in
     let d = c.args.depth in
     let i = c.args.at in
     let a = terminal_at ws i in
     let begins : (is a t.If ≡ true) ⊎ (one_of g.begins_simple a ≡ true) = elim c.else-ne.branch [
-      | expression-else-ne-via-then-ne+else-not-begins_simple w ↦ inr (ap (one_of g.begins_simple) (sym c.terminal_at_token-terminal.ensures) ∙ sym w.if-not-begins_simple.ensures)
-      | expression-else-ne-via-else-ne w ↦ inl (ap (λ z. is z t.If) (sym c.terminal_at_token-terminal.ensures) ∙ not_is _ _ false w.if-ne.ensures)
+      | expression-else-ne-via-then-ne+else-not-begins_simple w ↦ inr (ap (one_of g.begins_simple) (sym c.terminal_at-terminal.ensures) ∙ sym w.if-not-begins_simple.ensures)
+      | expression-else-ne-via-else-ne w ↦ inl (ap (λ z. is z t.If) (sym c.terminal_at-terminal.ensures) ∙ not_is _ _ false w.if-ne.ensures)
     ] in
-    let other = ap (λ z. is z t.If) (sym c.terminal_at_token-terminal.ensures) ∙ made_is _ _ false c.if-eq.ensures in
+    let other = ap (λ z. is z t.If) (sym c.terminal_at-terminal.ensures) ∙ made_is _ _ false c.if-eq.ensures in
     let w0 = open-simple ws d i c.requires.within other (simple-begins ws i begins other) (under-limit d c.requires.shallow c.if-depth-eq-LIMIT.false) in
     passed (GivesLevel ws (d + 1) 13 i) (GivesLevel ws d 14 i)
     (λ x h. level-up 13 x.0 h.0 (to w0 (once h.1)) refl)
@@ -69,7 +69,7 @@ expression-returns u c =
 
 pub conditional-returns-in_err-next : goal.conditional-returns-in_err-next
 conditional-returns-in_err-next u c =
-    let ws = c.args.tokens.now in
+    let ws = c.args.source.now in
     let d = c.args.depth in
     let i = c.args.at in
     let n = c.token_no-token.result in
@@ -82,7 +82,7 @@ conditional-returns-in_err-next u c =
 
 pub conditional-returns-in_err-condition : goal.conditional-returns-in_err-condition
 conditional-returns-in_err-condition u c =
-    let ws = c.args.tokens.now in
+    let ws = c.args.source.now in
     let d = c.args.depth in
     let i = c.args.at in
     let n = c.token_no-token.result in
@@ -96,7 +96,7 @@ conditional-returns-in_err-condition u c =
 
 pub conditional-returns-in_err-next-2 : goal.conditional-returns-in_err-next-2
 conditional-returns-in_err-next-2 u c =
-    let ws = c.args.tokens.now in
+    let ws = c.args.source.now in
     let d = c.args.depth in
     let i = c.args.at in
     let n = c.token_no-token.result in
@@ -111,7 +111,7 @@ conditional-returns-in_err-next-2 u c =
 
 pub conditional-returns-in_err-first : goal.conditional-returns-in_err-first
 conditional-returns-in_err-first u c =
-    let ws = c.args.tokens.now in
+    let ws = c.args.source.now in
     let d = c.args.depth in
     let i = c.args.at in
     let n = c.token_no-token.result in
@@ -127,7 +127,7 @@ conditional-returns-in_err-first u c =
 
 pub conditional-returns-in_err-next-3 : goal.conditional-returns-in_err-next-3
 conditional-returns-in_err-next-3 u c =
-    let ws = c.args.tokens.now in
+    let ws = c.args.source.now in
     let d = c.args.depth in
     let i = c.args.at in
     let n = c.token_no-token.result in
@@ -144,7 +144,7 @@ conditional-returns-in_err-next-3 u c =
 
 pub conditional-returns-in_err-second : goal.conditional-returns-in_err-second
 conditional-returns-in_err-second u c =
-    let ws = c.args.tokens.now in
+    let ws = c.args.source.now in
     let d = c.args.depth in
     let i = c.args.at in
     let n = c.token_no-token.result in
@@ -162,7 +162,7 @@ conditional-returns-in_err-second u c =
 
 pub conditional-returns : goal.conditional-returns
 conditional-returns u c =
-    let ws = c.args.tokens.now in
+    let ws = c.args.source.now in
     let d = c.args.depth in
     let i = c.args.at in
     let n = c.token_no-token.result in
@@ -178,7 +178,7 @@ conditional-returns u c =
 
 pub boxed-returns-in_err-inner : goal.boxed-returns-in_err-inner
 boxed-returns-in_err-inner u c =
-    let ws = c.args.tokens.now in
+    let ws = c.args.source.now in
     let d = c.args.depth in
     let i = c.args.at in
     let e = c.in_err-inner.field-0.0 in
@@ -187,7 +187,7 @@ boxed-returns-in_err-inner u c =
 
 pub boxed-returns : goal.boxed-returns
 boxed-returns u c =
-    let ws = c.args.tokens.now in
+    let ws = c.args.source.now in
     let d = c.args.depth in
     let i = c.args.at in
     let p = c.in_ok-inner.ensures in
@@ -196,7 +196,7 @@ boxed-returns u c =
 
 pub boxed_up_to_level-returns-in_err-inner : goal.boxed_up_to_level-returns-in_err-inner
 boxed_up_to_level-returns-in_err-inner u c =
-    let ws = c.args.tokens.now in
+    let ws = c.args.source.now in
     let d = c.args.depth in
     let i = c.args.at in
     let e = c.in_err-inner.field-0.0 in
@@ -205,7 +205,7 @@ boxed_up_to_level-returns-in_err-inner u c =
 
 pub boxed_up_to_level-returns : goal.boxed_up_to_level-returns
 boxed_up_to_level-returns u c =
-    let ws = c.args.tokens.now in
+    let ws = c.args.source.now in
     let d = c.args.depth in
     let i = c.args.at in
     let p = c.in_ok-inner.ensures in
@@ -214,7 +214,7 @@ boxed_up_to_level-returns u c =
 
 pub up_to_level-returns-in_err-negated : goal.up_to_level-returns-in_err-negated
 up_to_level-returns-in_err-negated u c =
-    let ws = c.args.tokens.now in
+    let ws = c.args.source.now in
     let d = c.args.depth in
     let i = c.args.at in
     let top = c.args.top in
@@ -226,7 +226,7 @@ up_to_level-returns-in_err-negated u c =
 
 pub up_to_level-returns-then-begins_with_not : goal.up_to_level-returns-then-begins_with_not
 up_to_level-returns-then-begins_with_not u c =
-    let ws = c.args.tokens.now in
+    let ws = c.args.source.now in
     let d = c.args.depth in
     let i = c.args.at in
     let top = c.args.top in
@@ -236,7 +236,7 @@ up_to_level-returns-then-begins_with_not u c =
 
 pub up_to_level-returns-in_err-sum : goal.up_to_level-returns-in_err-sum
 up_to_level-returns-in_err-sum u c =
-    let ws = c.args.tokens.now in
+    let ws = c.args.source.now in
     let d = c.args.depth in
     let i = c.args.at in
     let top = c.args.top in
@@ -249,7 +249,7 @@ up_to_level-returns-in_err-sum u c =
 
 pub up_to_level-returns-then-begins_with_sign : goal.up_to_level-returns-then-begins_with_sign
 up_to_level-returns-then-begins_with_sign u c =
-    let ws = c.args.tokens.now in
+    let ws = c.args.source.now in
     let d = c.args.depth in
     let i = c.args.at in
     let top = c.args.top in
@@ -260,7 +260,7 @@ up_to_level-returns-then-begins_with_sign u c =
 
 pub up_to_level-returns-in_err-operand : goal.up_to_level-returns-in_err-operand
 up_to_level-returns-in_err-operand u c =
-    let ws = c.args.tokens.now in
+    let ws = c.args.source.now in
     let d = c.args.depth in
     let i = c.args.at in
     let top = c.args.top in
@@ -272,7 +272,7 @@ up_to_level-returns-in_err-operand u c =
 
 pub up_to_level-returns : goal.up_to_level-returns
 up_to_level-returns u c =
-    let ws = c.args.tokens.now in
+    let ws = c.args.source.now in
     let d = c.args.depth in
     let i = c.args.at in
     let top = c.args.top in
@@ -286,11 +286,11 @@ raised-loop-operators-init u c =
 
 pub raised-extended-requires : goal.raised-extended-requires
 raised-extended-requires u c =
-    (omega (arith, c.decreases, c.in-Some.ensures.within), (c.requires.source, (c.loop-operators.invariant.within, c.requires.shallow)))
+    (omega (arith, c.decreases, c.in-Some.ensures.within), (c.loop-operators.invariant.within, c.requires.shallow))
 
 pub raised-returns-in_err-whole : goal.raised-returns-in_err-whole
 raised-returns-in_err-whole u c =
-    let ws = c.args.tokens.now in
+    let ws = c.args.source.now in
     let d = c.args.depth in
     let top = c.args.top in
     let l = c.loop-operators in
@@ -306,7 +306,7 @@ raised-returns-in_err-whole u c =
 
 pub raised-loop-operators-preserved : goal.raised-loop-operators-preserved
 raised-loop-operators-preserved u c =
-    let ws = c.args.tokens.now in
+    let ws = c.args.source.now in
     let d = c.args.depth in
     let top = c.args.top in
     let l = c.loop-operators in
@@ -332,7 +332,7 @@ raised-loop-operators-smaller u c =
 
 pub raised-returns : goal.raised-returns
 raised-returns u c =
-    let ws = c.args.tokens.now in
+    let ws = c.args.source.now in
     let d = c.args.depth in
     let top = c.args.top in
     let l = c.loop-operators in
@@ -342,11 +342,11 @@ raised-returns u c =
 
 pub extended-returns-in-Relations : goal.extended-returns-in-Relations
 extended-returns-in-Relations u c =
-    λ h. extended-as c.args.tokens.now c.args.depth c.args.at c.args.first.value c.in-Relations.is c.relation.result (c.relation.ensures (h ∙ ap Some c.in-Relations.is))
+    λ h. extended-as c.args.source.now c.args.depth c.args.at c.args.first.value c.in-Relations.is c.relation.result (c.relation.ensures (h ∙ ap Some c.in-Relations.is))
 
 pub extended-returns-in_err-terms-in-Signs : goal.extended-returns-in_err-terms-in-Signs
 extended-returns-in_err-terms-in-Signs u c =
-    let ws = c.args.tokens.now in
+    let ws = c.args.source.now in
     let d = c.args.depth in
     let i = c.args.at in
     let y = c.args.first in
@@ -356,7 +356,7 @@ extended-returns-in_err-terms-in-Signs u c =
 
 pub extended-returns-in_err-factors-in-Multiplications : goal.extended-returns-in_err-factors-in-Multiplications
 extended-returns-in_err-factors-in-Multiplications u c =
-    let ws = c.args.tokens.now in
+    let ws = c.args.source.now in
     let d = c.args.depth in
     let i = c.args.at in
     let y = c.args.first in
@@ -366,7 +366,7 @@ extended-returns-in_err-factors-in-Multiplications u c =
 
 pub extended-returns-in_err-operands-in-Single : goal.extended-returns-in_err-operands-in-Single
 extended-returns-in_err-operands-in-Single u c =
-    let ws = c.args.tokens.now in
+    let ws = c.args.source.now in
     let d = c.args.depth in
     let i = c.args.at in
     let y = c.args.first in
@@ -376,7 +376,7 @@ extended-returns-in_err-operands-in-Single u c =
 
 pub extended-returns-in_ok-terms-in-Signs : goal.extended-returns-in_ok-terms-in-Signs
 extended-returns-in_ok-terms-in-Signs u c =
-    let ws = c.args.tokens.now in
+    let ws = c.args.source.now in
     let d = c.args.depth in
     let i = c.args.at in
     let y = c.args.first in
@@ -389,7 +389,7 @@ extended-returns-in_ok-terms-in-Signs u c =
 
 pub extended-returns-in_ok-factors-in-Multiplications : goal.extended-returns-in_ok-factors-in-Multiplications
 extended-returns-in_ok-factors-in-Multiplications u c =
-    let ws = c.args.tokens.now in
+    let ws = c.args.source.now in
     let d = c.args.depth in
     let i = c.args.at in
     let y = c.args.first in
@@ -402,7 +402,7 @@ extended-returns-in_ok-factors-in-Multiplications u c =
 
 pub extended-returns-in_ok-operands-in-Single : goal.extended-returns-in_ok-operands-in-Single
 extended-returns-in_ok-operands-in-Single u c =
-    let ws = c.args.tokens.now in
+    let ws = c.args.source.now in
     let d = c.args.depth in
     let i = c.args.at in
     let y = c.args.first in
@@ -423,7 +423,7 @@ extended-returns-in_ok-operands-in-Single u c =
 
 pub operands-loop-next-init : goal.operands-loop-next-init
 operands-loop-next-init u c =
-    let ws = c.args.tokens.now in
+    let ws = c.args.source.now in
     let d = c.args.depth in
     let lv = c.args.level in
     record {
@@ -434,7 +434,7 @@ operands-loop-next-init u c =
 
 pub operands-returns : goal.operands-returns
 operands-returns u c =
-    let ws = c.args.tokens.now in
+    let ws = c.args.source.now in
     let d = c.args.depth in
     let lv = c.args.level in
     let l = c.loop-next in
@@ -445,7 +445,7 @@ operands-eat-requires-clause-no_end u c = ap (is t.EndOfSource) c.operator.ensur
 
 pub operands-returns-in_err-operand : goal.operands-returns-in_err-operand
 operands-returns-in_err-operand u c =
-    let ws = c.args.tokens.now in
+    let ws = c.args.source.now in
     let d = c.args.depth in
     let lv = c.args.level in
     let l = c.loop-next in
@@ -461,7 +461,7 @@ operands-returns-in_err-operand u c =
 
 pub operands-loop-next-preserved : goal.operands-loop-next-preserved
 operands-loop-next-preserved u c =
-    let ws = c.args.tokens.now in
+    let ws = c.args.source.now in
     let d = c.args.depth in
     let lv = c.args.level in
     let l = c.loop-next in
@@ -480,7 +480,7 @@ operands-loop-next-preserved u c =
 
 pub negation-returns-in_err-marks : goal.negation-returns-in_err-marks
 negation-returns-in_err-marks u c =
-    let ws = c.args.tokens.now in
+    let ws = c.args.source.now in
     let d = c.args.depth in
     let i = c.args.at in
     let sy = Of Many g.NotSign ∷ Of Once g.Relation ∷ [] in
@@ -492,7 +492,7 @@ negation-returns-in_err-marks u c =
 
 pub negation-returns-in_err-operand : goal.negation-returns-in_err-operand
 negation-returns-in_err-operand u c =
-    let ws = c.args.tokens.now in
+    let ws = c.args.source.now in
     let d = c.args.depth in
     let i = c.args.at in
     let sy = Of Many g.NotSign ∷ Of Once g.Relation ∷ [] in
@@ -505,7 +505,7 @@ negation-returns-in_err-operand u c =
 
 pub negation-returns : goal.negation-returns
 negation-returns u c =
-    let ws = c.args.tokens.now in
+    let ws = c.args.source.now in
     let d = c.args.depth in
     let i = c.args.at in
     let sy = Of Many g.NotSign ∷ Of Once g.Relation ∷ [] in
@@ -520,11 +520,11 @@ negation-returns u c =
 pub negation-boxed_up_to_level-requires : goal.negation-boxed_up_to_level-requires
 negation-boxed_up_to_level-requires u c =
     let q = c.in_ok-marks.ensures 0 in
-    (omega (arith, c.decreases), (c.requires.source, (q.within, (c.requires.shallow, (lit≤ tt, lit≤ tt)))))
+    (omega (arith, c.decreases), (q.within, (c.requires.shallow, (lit≤ tt, lit≤ tt))))
 
 pub relation-returns-in_err-class : goal.relation-returns-in_err-class
 relation-returns-in_err-class u c =
-    let ws = c.args.tokens.now in
+    let ws = c.args.source.now in
     let d = c.args.depth in
     let i = c.args.at in
     let n = c.token_no-token.result in
@@ -538,7 +538,7 @@ relation-returns-in_err-class u c =
 
 pub relation-returns-in-Some : goal.relation-returns-in-Some
 relation-returns-in-Some u c =
-    let ws = c.args.tokens.now in
+    let ws = c.args.source.now in
     let d = c.args.depth in
     let i = c.args.at in
     let n = c.token_no-token.result in
@@ -558,14 +558,14 @@ relation-returns-in-Some u c =
 
 pub relation-returns-in_default-relation_at : goal.relation-returns-in_default-relation_at
 relation-returns-in_default-relation_at u c =
-    let ws = c.args.tokens.now in
+    let ws = c.args.source.now in
     let d = c.args.depth in
     let i = c.args.at in
     λ h. absurd (relation-stands (terminal_at ws i) h c.in_default.ensures c.in_default-relation_at.ensures)
 
 pub relation-returns-in_err-right : goal.relation-returns-in_err-right
 relation-returns-in_err-right u c =
-    let ws = c.args.tokens.now in
+    let ws = c.args.source.now in
     let d = c.args.depth in
     let i = c.args.at in
     let n = c.token_no-token.result in
@@ -579,7 +579,7 @@ relation-returns-in_err-right u c =
 
 pub relation-returns : goal.relation-returns
 relation-returns u c =
-    let ws = c.args.tokens.now in
+    let ws = c.args.source.now in
     let d = c.args.depth in
     let i = c.args.at in
     let n = c.token_no-token.result in
@@ -600,11 +600,11 @@ relation-returns u c =
 pub relation-boxed_up_to_level-requires : goal.relation-boxed_up_to_level-requires
 relation-boxed_up_to_level-requires u c =
     let t = c.in-Some-relation_at.ensures in
-    (omega (arith, c.decreases), (c.requires.source, (t.within, (c.requires.shallow, (lit≤ tt, lit≤ tt)))))
+    (omega (arith, c.decreases), (t.within, (c.requires.shallow, (lit≤ tt, lit≤ tt))))
 
 pub signed_sum-returns-in_err-first : goal.signed_sum-returns-in_err-first
 signed_sum-returns-in_err-first u c =
-    let ws = c.args.tokens.now in
+    let ws = c.args.source.now in
     let d = c.args.depth in
     let i = c.args.at in
     let sy = Of Maybe g.LeadingSign ∷ Of Once g.Term ∷ Of Many g.NextTerm ∷ [] in
@@ -619,7 +619,7 @@ signed_sum-returns-in_err-first u c =
 
 pub signed_sum-returns-in_err-rest : goal.signed_sum-returns-in_err-rest
 signed_sum-returns-in_err-rest u c =
-    let ws = c.args.tokens.now in
+    let ws = c.args.source.now in
     let d = c.args.depth in
     let i = c.args.at in
     let sy = Of Maybe g.LeadingSign ∷ Of Once g.Term ∷ Of Many g.NextTerm ∷ [] in
@@ -635,7 +635,7 @@ signed_sum-returns-in_err-rest u c =
 
 pub signed_sum-returns : goal.signed_sum-returns
 signed_sum-returns u c =
-    let ws = c.args.tokens.now in
+    let ws = c.args.source.now in
     let d = c.args.depth in
     let i = c.args.at in
     let sy = Of Maybe g.LeadingSign ∷ Of Once g.Term ∷ Of Many g.NextTerm ∷ [] in
@@ -652,7 +652,7 @@ signed_sum-returns u c =
 
 pub terms-loop-sign-init : goal.terms-loop-sign-init
 terms-loop-sign-init u c =
-    let ws = c.args.tokens.now in
+    let ws = c.args.source.now in
     let d = c.args.depth in
     record {
       goes = row-start term_shown c.new-rest.result.items c.new-rest.ensures.items;
@@ -662,7 +662,7 @@ terms-loop-sign-init u c =
 
 pub terms-returns-in_err-term : goal.terms-returns-in_err-term
 terms-returns-in_err-term u c =
-    let ws = c.args.tokens.now in
+    let ws = c.args.source.now in
     let d = c.args.depth in
     let l = c.loop-sign in
     let at = l.at in
@@ -676,7 +676,7 @@ terms-returns-in_err-term u c =
 
 pub terms-loop-sign-preserved : goal.terms-loop-sign-preserved
 terms-loop-sign-preserved u c =
-    let ws = c.args.tokens.now in
+    let ws = c.args.source.now in
     let d = c.args.depth in
     let l = c.loop-sign in
     let at = l.at in
@@ -693,14 +693,14 @@ terms-loop-sign-preserved u c =
 
 pub terms-returns : goal.terms-returns
 terms-returns u c =
-    let ws = c.args.tokens.now in
+    let ws = c.args.source.now in
     let d = c.args.depth in
     let l = c.loop-sign in
     row-end term_shown l.rest.items l.invariant.goes (one_row g.NextTerm signs (Kept signs ∷ Of Once g.Term ∷ []) (terminal_at ws l.at) false refl c.in_default.ensures) l.invariant.ahead l.invariant.within
 
 pub factors-loop-operator-init : goal.factors-loop-operator-init
 factors-loop-operator-init u c =
-    let ws = c.args.tokens.now in
+    let ws = c.args.source.now in
     let d = c.args.depth in
     record {
       goes = row-start factor_shown c.new-rest.result.items c.new-rest.ensures.items;
@@ -710,7 +710,7 @@ factors-loop-operator-init u c =
 
 pub factors-returns-in_err-factor : goal.factors-returns-in_err-factor
 factors-returns-in_err-factor u c =
-    let ws = c.args.tokens.now in
+    let ws = c.args.source.now in
     let d = c.args.depth in
     let l = c.loop-operator in
     let at = l.at in
@@ -724,7 +724,7 @@ factors-returns-in_err-factor u c =
 
 pub factors-loop-operator-preserved : goal.factors-loop-operator-preserved
 factors-loop-operator-preserved u c =
-    let ws = c.args.tokens.now in
+    let ws = c.args.source.now in
     let d = c.args.depth in
     let l = c.loop-operator in
     let at = l.at in
@@ -741,14 +741,14 @@ factors-loop-operator-preserved u c =
 
 pub factors-returns : goal.factors-returns
 factors-returns u c =
-    let ws = c.args.tokens.now in
+    let ws = c.args.source.now in
     let d = c.args.depth in
     let l = c.loop-operator in
     row-end factor_shown l.rest.items l.invariant.goes (one_row g.NextFactor multiplications (Kept multiplications ∷ Of Once g.Factor ∷ []) (terminal_at ws l.at) false refl c.in_default.ensures) l.invariant.ahead l.invariant.within
 
 pub postfix-returns-in_err-first : goal.postfix-returns-in_err-first
 postfix-returns-in_err-first u c =
-    let ws = c.args.tokens.now in
+    let ws = c.args.source.now in
     let d = c.args.depth in
     let i = c.args.at in
     let sy = Of Once g.Primary ∷ Of Many g.Selection ∷ [] in
@@ -760,7 +760,7 @@ postfix-returns-in_err-first u c =
 
 pub postfix-returns-in_err-rest : goal.postfix-returns-in_err-rest
 postfix-returns-in_err-rest u c =
-    let ws = c.args.tokens.now in
+    let ws = c.args.source.now in
     let d = c.args.depth in
     let i = c.args.at in
     let sy = Of Once g.Primary ∷ Of Many g.Selection ∷ [] in
@@ -773,7 +773,7 @@ postfix-returns-in_err-rest u c =
 
 pub postfix-returns-then-is_empty : goal.postfix-returns-then-is_empty
 postfix-returns-then-is_empty u c =
-    let ws = c.args.tokens.now in
+    let ws = c.args.source.now in
     let d = c.args.depth in
     let i = c.args.at in
     let sy = Of Once g.Primary ∷ Of Many g.Selection ∷ [] in
@@ -785,7 +785,7 @@ postfix-returns-then-is_empty u c =
 
 pub postfix-returns : goal.postfix-returns
 postfix-returns u c =
-    let ws = c.args.tokens.now in
+    let ws = c.args.source.now in
     let d = c.args.depth in
     let i = c.args.at in
     let sy = Of Once g.Primary ∷ Of Many g.Selection ∷ [] in
@@ -800,7 +800,7 @@ postfix-returns u c =
 
 pub selectors-loop-rest-init : goal.selectors-loop-rest-init
 selectors-loop-rest-init u c =
-    let ws = c.args.tokens.now in
+    let ws = c.args.source.now in
     let d = c.args.depth in
     let i = c.args.start in
     record {
@@ -811,7 +811,7 @@ selectors-loop-rest-init u c =
 
 pub selectors-returns-in_err-taken : goal.selectors-returns-in_err-taken
 selectors-returns-in_err-taken u c =
-    let ws = c.args.tokens.now in
+    let ws = c.args.source.now in
     let d = c.args.depth in
     let i = c.args.start in
     let e = c.in_err-taken.field-0.0 in
@@ -821,7 +821,7 @@ selectors-returns-in_err-taken u c =
 
 pub selectors-loop-rest-preserved : goal.selectors-loop-rest-preserved
 selectors-loop-rest-preserved u c =
-    let ws = c.args.tokens.now in
+    let ws = c.args.source.now in
     let d = c.args.depth in
     let i = c.args.start in
     let l = c.loop-rest in
@@ -834,7 +834,7 @@ selectors-loop-rest-preserved u c =
 
 pub selectors-returns : goal.selectors-returns
 selectors-returns u c =
-    let ws = c.args.tokens.now in
+    let ws = c.args.source.now in
     let d = c.args.depth in
     let i = c.args.start in
     let l = c.loop-rest in
@@ -842,7 +842,7 @@ selectors-returns u c =
 
 pub selector-returns-in_err-name : goal.selector-returns-in_err-name
 selector-returns-in_err-name u c =
-    let ws = c.args.tokens.now in
+    let ws = c.args.source.now in
     let d = c.args.depth in
     let i = c.args.at in
     let w = c.in-Some.ensures in
@@ -856,7 +856,7 @@ selector-returns-in_err-name u c =
 
 pub selector-returns-in_err-arguments : goal.selector-returns-in_err-arguments
 selector-returns-in_err-arguments u c =
-    let ws = c.args.tokens.now in
+    let ws = c.args.source.now in
     let d = c.args.depth in
     let i = c.args.at in
     let w = c.in-Some.ensures in
@@ -871,7 +871,7 @@ selector-returns-in_err-arguments u c =
 
 pub selector-returns-in-Some : goal.selector-returns-in-Some
 selector-returns-in-Some u c =
-    let ws = c.args.tokens.now in
+    let ws = c.args.source.now in
     let d = c.args.depth in
     let i = c.args.at in
     let w = c.in-Some.ensures in
@@ -884,14 +884,14 @@ selector-returns-in-Some u c =
 
 pub selector-returns-in_default-eat : goal.selector-returns-in_default-eat
 selector-returns-in_default-eat u c =
-    let ws = c.args.tokens.now in
+    let ws = c.args.source.now in
     let d = c.args.depth in
     let i = c.args.at in
     no_selected (terminal_at ws i) c.in_default.ensures c.in_default-eat.ensures
 
 pub selector-returns-in_err-class : goal.selector-returns-in_err-class
 selector-returns-in_err-class u c =
-    let ws = c.args.tokens.now in
+    let ws = c.args.source.now in
     let d = c.args.depth in
     let i = c.args.at in
     let w = c.in-Some-eat.ensures in
@@ -905,7 +905,7 @@ selector-returns-in_err-class u c =
 
 pub selector-returns : goal.selector-returns
 selector-returns u c =
-    let ws = c.args.tokens.now in
+    let ws = c.args.source.now in
     let d = c.args.depth in
     let i = c.args.at in
     let w = c.in-Some-eat.ensures in
@@ -917,7 +917,7 @@ selector-returns u c =
 
 pub arguments-returns-in_default : goal.arguments-returns-in_default
 arguments-returns-in_default u c =
-    let ws = c.args.tokens.now in
+    let ws = c.args.source.now in
     let d = c.args.depth in
     let i = c.args.at in
     to-as (λ f. f) (arguments (map shown c.new.result.items)) (λ f. ap (λ l. arguments (map shown l) f) (sym c.new.ensures.items))
@@ -925,7 +925,7 @@ arguments-returns-in_default u c =
 
 pub arguments-returns-in_err-list : goal.arguments-returns-in_err-list
 arguments-returns-in_err-list u c =
-    let ws = c.args.tokens.now in
+    let ws = c.args.source.now in
     let d = c.args.depth in
     let i = c.args.at in
     let w = c.in-Some.ensures in
@@ -938,7 +938,7 @@ arguments-returns-in_err-list u c =
 
 pub arguments-returns-in_err-end : goal.arguments-returns-in_err-end
 arguments-returns-in_err-end u c =
-    let ws = c.args.tokens.now in
+    let ws = c.args.source.now in
     let d = c.args.depth in
     let i = c.args.at in
     let w = c.in-Some.ensures in
@@ -952,7 +952,7 @@ arguments-returns-in_err-end u c =
 
 pub arguments-returns : goal.arguments-returns
 arguments-returns u c =
-    let ws = c.args.tokens.now in
+    let ws = c.args.source.now in
     let d = c.args.depth in
     let i = c.args.at in
     let w = c.in-Some.ensures in
@@ -966,7 +966,7 @@ arguments-returns u c =
 
 pub argument_list-returns-in_err-first : goal.argument_list-returns-in_err-first
 argument_list-returns-in_err-first u c =
-    let ws = c.args.tokens.now in
+    let ws = c.args.source.now in
     let d = c.args.depth in
     let i = c.args.start in
     let e = c.in_err-first.field-0.0 in
@@ -976,7 +976,7 @@ argument_list-returns-in_err-first u c =
 
 pub argument_list-loop-next-init : goal.argument_list-loop-next-init
 argument_list-loop-next-init u c =
-    let ws = c.args.tokens.now in
+    let ws = c.args.source.now in
     let d = c.args.depth in
     let i = c.args.start in
     let x = c.in_ok-first.first in
@@ -992,7 +992,7 @@ argument_list-loop-next-init u c =
 
 pub argument_list-returns-in_err-argument : goal.argument_list-returns-in_err-argument
 argument_list-returns-in_err-argument u c =
-    let ws = c.args.tokens.now in
+    let ws = c.args.source.now in
     let d = c.args.depth in
     let i = c.args.start in
     let l = c.loop-next in
@@ -1007,7 +1007,7 @@ argument_list-returns-in_err-argument u c =
 
 pub argument_list-loop-next-preserved : goal.argument_list-loop-next-preserved
 argument_list-loop-next-preserved u c =
-    let ws = c.args.tokens.now in
+    let ws = c.args.source.now in
     let d = c.args.depth in
     let i = c.args.start in
     let l = c.loop-next in
@@ -1029,7 +1029,7 @@ argument_list-loop-next-preserved u c =
 
 pub argument_list-returns : goal.argument_list-returns
 argument_list-returns u c =
-    let ws = c.args.tokens.now in
+    let ws = c.args.source.now in
     let d = c.args.depth in
     let i = c.args.start in
     let l = c.loop-next in
@@ -1046,16 +1046,16 @@ argument_list-returns u c =
 pub selector-arguments-requires : goal.selector-arguments-requires
 selector-arguments-requires u c =
     let q = c.in_ok-name.ensures 0 in
-    (omega (arith, c.decreases), (c.requires.source, (q.within, c.requires.shallow)))
+    (omega (arith, c.decreases), (q.within, c.requires.shallow))
 
 pub selectors-loop-rest-smaller : goal.selectors-loop-rest-smaller
 selectors-loop-rest-smaller u c =
-    let p = subst (λ r. GivesNext c.args.tokens.now c.args.depth g.Selection c.loop-rest.at selector_shown (Ok r)) c.in-Some.is c.in_ok-taken.ensures in
+    let p = subst (λ r. GivesNext c.args.source.now c.args.depth g.Selection c.loop-rest.at selector_shown (Ok r)) c.in-Some.is c.in_ok-taken.ensures in
     omega (arith, p.0, p.1.within)
 
 pub named-returns-in_err-name : goal.named-returns-in_err-name
 named-returns-in_err-name u c =
-    let ws = c.args.tokens.now in
+    let ws = c.args.source.now in
     let d = c.args.depth in
     let i = c.args.at in
     λ h.
@@ -1067,7 +1067,7 @@ named-returns-in_err-name u c =
 
 pub named-returns-in_err-arguments : goal.named-returns-in_err-arguments
 named-returns-in_err-arguments u c =
-    let ws = c.args.tokens.now in
+    let ws = c.args.source.now in
     let d = c.args.depth in
     let i = c.args.at in
     λ h.
@@ -1080,7 +1080,7 @@ named-returns-in_err-arguments u c =
 
 pub named-returns : goal.named-returns
 named-returns u c =
-    let ws = c.args.tokens.now in
+    let ws = c.args.source.now in
     let d = c.args.depth in
     let i = c.args.at in
     λ h.
@@ -1090,7 +1090,7 @@ named-returns u c =
 
 pub parentheses-returns-in_err-next : goal.parentheses-returns-in_err-next
 parentheses-returns-in_err-next u c =
-    let ws = c.args.tokens.now in
+    let ws = c.args.source.now in
     let d = c.args.depth in
     let i = c.args.at in
     λ h.
@@ -1103,7 +1103,7 @@ parentheses-returns-in_err-next u c =
 
 pub parentheses-returns-in_err-inner : goal.parentheses-returns-in_err-inner
 parentheses-returns-in_err-inner u c =
-    let ws = c.args.tokens.now in
+    let ws = c.args.source.now in
     let d = c.args.depth in
     let i = c.args.at in
     λ h.
@@ -1117,7 +1117,7 @@ parentheses-returns-in_err-inner u c =
 
 pub parentheses-returns-in_err-end : goal.parentheses-returns-in_err-end
 parentheses-returns-in_err-end u c =
-    let ws = c.args.tokens.now in
+    let ws = c.args.source.now in
     let d = c.args.depth in
     let i = c.args.at in
     λ h.
@@ -1132,7 +1132,7 @@ parentheses-returns-in_err-end u c =
 
 pub parentheses-returns : goal.parentheses-returns
 parentheses-returns u c =
-    let ws = c.args.tokens.now in
+    let ws = c.args.source.now in
     let d = c.args.depth in
     let i = c.args.at in
     λ h.
@@ -1144,7 +1144,7 @@ parentheses-returns u c =
 
 pub generator-returns-in_err-next : goal.generator-returns-in_err-next
 generator-returns-in_err-next u c =
-    let ws = c.args.tokens.now in
+    let ws = c.args.source.now in
     let d = c.args.depth in
     let i = c.args.at in
     λ h.
@@ -1157,7 +1157,7 @@ generator-returns-in_err-next u c =
 
 pub generator-returns-in_err-class : goal.generator-returns-in_err-class
 generator-returns-in_err-class u c =
-    let ws = c.args.tokens.now in
+    let ws = c.args.source.now in
     let d = c.args.depth in
     let i = c.args.at in
     λ h.
@@ -1171,7 +1171,7 @@ generator-returns-in_err-class u c =
 
 pub generator-returns-in_err-arguments : goal.generator-returns-in_err-arguments
 generator-returns-in_err-arguments u c =
-    let ws = c.args.tokens.now in
+    let ws = c.args.source.now in
     let d = c.args.depth in
     let i = c.args.at in
     λ h.
@@ -1186,7 +1186,7 @@ generator-returns-in_err-arguments u c =
 
 pub generator-returns : goal.generator-returns
 generator-returns u c =
-    let ws = c.args.tokens.now in
+    let ws = c.args.source.now in
     let d = c.args.depth in
     let i = c.args.at in
     λ h.
@@ -1214,17 +1214,17 @@ primary-returns-in-This u c =
 
 pub primary-returns-in_default : goal.primary-returns-in_default
 primary-returns-in_default u c =
-    let ws = c.args.tokens.now in
+    let ws = c.args.source.now in
     let d = c.args.depth in
     let i = c.args.at in
-    constant-level ws d i c.requires.within c.terminal_at_token.result c.terminal_at_token.ensures c.in_default.not-Identifier c.in_default.not-This c.in_default.not-New c.in_default.not-Open c.constant_at.result c.constant_at.ensures
+    constant-level ws d i c.requires.within c.terminal_at.result c.terminal_at.ensures c.in_default.not-Identifier c.in_default.not-This c.in_default.not-New c.in_default.not-Open c.constant_at.result c.constant_at.ensures
 
 pub named-arguments-requires : goal.named-arguments-requires
 named-arguments-requires u c =
     let q = c.in_ok-name.ensures 0 in
-    (omega (arith, c.decreases), (c.requires.source, (q.within, c.requires.shallow)))
+    (omega (arith, c.decreases), (q.within, c.requires.shallow))
 
 pub generator-arguments-requires : goal.generator-arguments-requires
 generator-arguments-requires u c =
     let q = c.in_ok-class.ensures 0 in
-    (omega (arith, c.decreases), (c.requires.source, (q.within, c.requires.shallow)))
+    (omega (arith, c.decreases), (q.within, c.requires.shallow))

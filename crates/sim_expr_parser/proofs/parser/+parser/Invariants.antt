@@ -78,8 +78,8 @@ decreases-signed_sum l = calls_left calls l.depth 19
 
 abbrev pub invariant-raised-loop-operators : goal.invariant-raised-loop-operators
 invariant-raised-loop-operators l = record {
-  goes : (i : ℕ) → IsRead l.tokens l.depth i l.level l.top l.fn.operand l.start → IsRead l.tokens l.depth i l.reached l.top l.first l.at;
-  within : l.at < length l.tokens;
+  goes : (i : ℕ) → IsRead l.source l.depth i l.level l.top l.fn.operand l.start → IsRead l.source l.depth i l.reached l.top l.first l.at;
+  within : l.at < length l.source;
   some : 1 ≤ l.reached;
   low : l.reached ≤ l.top;
 }
@@ -89,51 +89,51 @@ decreases-raised-loop-operators l = 14 - l.reached
 
 abbrev pub invariant-operands-loop-next : goal.invariant-operands-loop-next
 invariant-operands-loop-next l = record {
-  goes : Row l.tokens l.depth (many l.level) l.start (map (λ o. item (under l.level) (word_kind l.level) (operand_shown o)) l.rest.items) l.at;
+  goes : Row l.source l.depth (many l.level) l.start (map (λ o. item (under l.level) (word_kind l.level) (operand_shown o)) l.rest.items) l.at;
   ahead : l.start ≤ l.at;
-  within : l.at < length l.tokens;
+  within : l.at < length l.source;
 }
 
 abbrev pub decreases-operands-loop-next : goal.decreases-operands-loop-next
-decreases-operands-loop-next l = length l.tokens - l.at
+decreases-operands-loop-next l = length l.source - l.at
 
 abbrev pub invariant-terms-loop-sign : goal.invariant-terms-loop-sign
 invariant-terms-loop-sign l = record {
-  goes : Row l.tokens l.depth g.NextTerm l.start (map term_shown l.rest.items) l.at;
+  goes : Row l.source l.depth g.NextTerm l.start (map term_shown l.rest.items) l.at;
   ahead : l.start ≤ l.at;
-  within : l.at < length l.tokens;
+  within : l.at < length l.source;
 }
 
 abbrev pub decreases-terms-loop-sign : goal.decreases-terms-loop-sign
-decreases-terms-loop-sign l = length l.tokens - l.at
+decreases-terms-loop-sign l = length l.source - l.at
 
 abbrev pub invariant-factors-loop-operator : goal.invariant-factors-loop-operator
 invariant-factors-loop-operator l = record {
-  goes : Row l.tokens l.depth g.NextFactor l.start (map factor_shown l.rest.items) l.at;
+  goes : Row l.source l.depth g.NextFactor l.start (map factor_shown l.rest.items) l.at;
   ahead : l.start ≤ l.at;
-  within : l.at < length l.tokens;
+  within : l.at < length l.source;
 }
 
 abbrev pub decreases-factors-loop-operator : goal.decreases-factors-loop-operator
-decreases-factors-loop-operator l = length l.tokens - l.at
+decreases-factors-loop-operator l = length l.source - l.at
 
 abbrev pub invariant-selectors-loop-rest : goal.invariant-selectors-loop-rest
 invariant-selectors-loop-rest l = record {
-  goes : Row l.tokens l.depth g.Selection l.start (map selector_shown l.rest.items) l.at;
+  goes : Row l.source l.depth g.Selection l.start (map selector_shown l.rest.items) l.at;
   ahead : l.start ≤ l.at;
-  within : l.at < length l.tokens;
+  within : l.at < length l.source;
 }
 
 abbrev pub decreases-selectors-loop-rest : goal.decreases-selectors-loop-rest
-decreases-selectors-loop-rest l = length l.tokens - l.at
+decreases-selectors-loop-rest l = length l.source - l.at
 
 abbrev pub invariant-argument_list-loop-next : goal.invariant-argument_list-loop-next
 invariant-argument_list-loop-next l = record {
-  goes : (s : List Symbol) → Leads l.tokens l.depth (Of Once g.Expression ∷ Of Many g.NextArgument ∷ s) l.start (listed (map shown l.list.items)) l.depth (Of Many g.NextArgument ∷ s) l.at;
+  goes : (s : List Symbol) → Leads l.source l.depth (Of Once g.Expression ∷ Of Many g.NextArgument ∷ s) l.start (listed (map shown l.list.items)) l.depth (Of Many g.NextArgument ∷ s) l.at;
   some : 0 < length l.list.items;
   ahead : l.start ≤ l.at;
-  within : l.at < length l.tokens;
+  within : l.at < length l.source;
 }
 
 abbrev pub decreases-argument_list-loop-next : goal.decreases-argument_list-loop-next
-decreases-argument_list-loop-next l = length l.tokens - l.at
+decreases-argument_list-loop-next l = length l.source - l.at

@@ -13,7 +13,7 @@ use Rattle.sim_expr_parser.proofs.parser.local_object.Goals as goal
 
 pub returns-in_err-next : goal.returns-in_err-next
 returns-in_err-next c =
-    let ws = c.args.tokens.now in
+    let ws = c.args.source.now in
     let i = c.args.at in
     λ d h.
     let m0 = opened ws d i g.Primary this_symbols refl (by_test g.Primary (terminal_at ws i) t.This this_symbols h primary_this) c.requires.within in
@@ -24,7 +24,7 @@ returns-in_err-next c =
 
 pub returns-in_err-class : goal.returns-in_err-class
 returns-in_err-class c =
-    let ws = c.args.tokens.now in
+    let ws = c.args.source.now in
     let i = c.args.at in
     let n = c.token_no-token.result in
     λ d h.
@@ -37,7 +37,7 @@ returns-in_err-class c =
 
 pub returns : goal.returns
 returns c =
-    let ws = c.args.tokens.now in
+    let ws = c.args.source.now in
     let i = c.args.at in
     let n = c.token_no-token.result in
     λ d h.

@@ -12,7 +12,7 @@ use Rattle.sim_expr_parser.proofs.parser.not_marks.Goals as goal
 
 pub loop-next-preserved : goal.loop-next-preserved
 loop-next-preserved c =
-    let ws = c.args.tokens.now in
+    let ws = c.args.source.now in
     let at = c.loop-next.at in
     let w = c.in-Some.ensures in
     let n = c.token_no.result in
@@ -26,5 +26,5 @@ loop-next-preserved c =
 
 pub returns : goal.returns
 returns c = λ d.
-    row-end not_mark c.loop-next.marks.items (c.loop-next.invariant.goes d) (one_row g.NotSign (just t.Not) (Kept (just t.Not) ∷ []) (terminal_at c.args.tokens.now c.loop-next.at) false refl (just_is _ _ _ c.in_default.ensures))
+    row-end not_mark c.loop-next.marks.items (c.loop-next.invariant.goes d) (one_row g.NotSign (just t.Not) (Kept (just t.Not) ∷ []) (terminal_at c.args.source.now c.loop-next.at) false refl (just_is _ _ _ c.in_default.ensures))
     c.loop-next.invariant.ahead c.loop-next.invariant.within

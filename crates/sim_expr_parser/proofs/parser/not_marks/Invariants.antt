@@ -6,10 +6,10 @@ use Rattle.sim_expr_parser.proofs.parser.not_marks.Given as goal
 
 abbrev pub invariant-loop-next : goal.invariant-loop-next
 invariant-loop-next l = record {
-  goes : (d : ℕ) → Row l.tokens d g.NotSign l.start (map not_mark l.marks.items) l.at;
+  goes : (d : ℕ) → Row l.source d g.NotSign l.start (map not_mark l.marks.items) l.at;
   ahead : l.start ≤ l.at;
-  within : l.at < length l.tokens;
+  within : l.at < length l.source;
 }
 
 abbrev pub decreases-loop-next : goal.decreases-loop-next
-decreases-loop-next l = length l.tokens - l.at
+decreases-loop-next l = length l.source - l.at

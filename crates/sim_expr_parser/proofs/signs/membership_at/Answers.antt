@@ -7,8 +7,8 @@ use Rattle.sim_expr_parser.proofs.signs.membership_at.Goals as goal
 
 pub returns-in-Some : goal.returns-in-Some
 unfolding is
-returns-in-Some c = took c.args.tokens.now c.args.at c.in-Some.next tests k.Is refl refl c.in-Some.ensures
+returns-in-Some c = took c.args.source.now c.args.at c.in-Some.next tests k.Is refl refl c.in-Some.ensures
 
 pub returns : goal.returns
 unfolding is
-returns c = took c.args.tokens.now c.args.at c.in_ok-next.next tests k.In refl refl c.in_ok-next.ensures
+returns c = took c.args.source.now c.args.at c.in_ok-next.next tests k.In refl refl c.in_ok-next.ensures

@@ -24,5 +24,5 @@ took-relation ws i j relation.OtherReference w = took ws i j relations (relation
 pub returns : goal.returns
 returns c =
     let w = c.in_ok-eat.ensures in
-    took-relation c.args.tokens.now c.args.at c.in_ok-eat.field-0 c.in_ok-relation.relation
-    (subst (λ a. is (terminal_at c.args.tokens.now c.args.at) a ≡ true) c.in_ok-relation.ensures w.0, w.1, w.2)
+    took-relation c.args.source.now c.args.at c.in_ok-eat.field-0 c.in_ok-relation.relation
+    (subst (λ a. is (terminal_at c.args.source.now c.args.at) a ≡ true) c.in_ok-relation.ensures w.0, w.1, w.2)

@@ -12,7 +12,7 @@ use Rattle.sim_parser.proofs.declaration.bounds.Goals as goal
 
 pub returns-in_err-lower : goal.returns-in_err-lower
 returns-in_err-lower c =
-    let ws = c.args.tokens.now in
+    let ws = c.args.source.now in
     let d = c.args.depth in
     let i = c.args.at in
     let w0 = opened ws d i g.Bounds bounds_symbols refl (only g.Bounds bounds_symbols (terminal_at ws i) refl) c.requires.within in
@@ -23,7 +23,7 @@ returns-in_err-lower c =
 
 pub returns-in_err-next : goal.returns-in_err-next
 returns-in_err-next c =
-    let ws = c.args.tokens.now in
+    let ws = c.args.source.now in
     let d = c.args.depth in
     let i = c.args.at in
     let w0 = opened ws d i g.Bounds bounds_symbols refl (only g.Bounds bounds_symbols (terminal_at ws i) refl) c.requires.within in
@@ -35,7 +35,7 @@ returns-in_err-next c =
 
 pub returns-in_err-upper : goal.returns-in_err-upper
 returns-in_err-upper c =
-    let ws = c.args.tokens.now in
+    let ws = c.args.source.now in
     let d = c.args.depth in
     let i = c.args.at in
     let w0 = opened ws d i g.Bounds bounds_symbols refl (only g.Bounds bounds_symbols (terminal_at ws i) refl) c.requires.within in
@@ -48,7 +48,7 @@ returns-in_err-upper c =
 
 pub returns : goal.returns
 returns c =
-    let ws = c.args.tokens.now in
+    let ws = c.args.source.now in
     let d = c.args.depth in
     let i = c.args.at in
     let w0 = opened ws d i g.Bounds bounds_symbols refl (only g.Bounds bounds_symbols (terminal_at ws i) refl) c.requires.within in

@@ -18,8 +18,8 @@ pub returns-in_err-first : goal.returns-in_err-first
 returns-in_err-first c =
     let e = c.in_err-first.field-0.0 in
     let r = c.from_residual in
-    exit (λ r. GivesDimensions c.args.tokens.now c.args.depth c.args.start r) r.result e r.ensures.1
-    (λ s. once-stops c.args.tokens.now c.args.depth c.args.start g.Bounds e c.in_err-first.ensures (Of Many g.NextBounds ∷ s))
+    exit (λ r. GivesDimensions c.args.source.now c.args.depth c.args.start r) r.result e r.ensures.1
+    (λ s. once-stops c.args.source.now c.args.depth c.args.start g.Bounds e c.in_err-first.ensures (Of Many g.NextBounds ∷ s))
 
 pub loop-next-init : goal.loop-next-init
 loop-next-init c =
@@ -29,7 +29,7 @@ pub returns-in_err-bounds : goal.returns-in_err-bounds
 returns-in_err-bounds c =
     let e = c.in_err-bounds.field-0.0 in
     let r = c.from_residual-in_err-bounds in
-    exit (λ r. GivesDimensions c.args.tokens.now c.args.depth c.args.start r) r.result e r.ensures.1
+    exit (λ r. GivesDimensions c.args.source.now c.args.depth c.args.start r) r.result e r.ensures.1
     (list-stops bounds_shown c.loop-next.list.items (refl, refl) c.loop-next.invariant c.in-Some.ensures e c.in_err-bounds.ensures)
 
 pub loop-next-preserved : goal.loop-next-preserved
@@ -40,7 +40,7 @@ pub returns : goal.returns
 returns c =
     let xs = c.loop-next.list.items in
     let l = c.loop-next.invariant in
-    let ws = c.args.tokens.now in
+    let ws = c.args.source.now in
     record {
       reads = λ s f m q. subst (λ z. Reads limit ws c.args.depth (Of Once g.Bounds ∷ Of Many g.NextBounds ∷ s) c.args.start z m) (same xs f) (list-reads bounds_shown xs (refl, refl) l c.in_default.ensures s f m q);
       fails = list-fails bounds_shown xs (refl, refl) l c.in_default.ensures;

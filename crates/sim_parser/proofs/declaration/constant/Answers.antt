@@ -16,39 +16,42 @@ use Rattle.sim_parser.proofs.declaration.constant.Goals.{in-Character, in-Text+i
 
 pub returns-in-Integer : goal.returns-in-Integer
 returns-in-Integer c = λ d.
-    let ws = c.args.tokens.now in
+    let ws = c.args.source.now in
     let i = c.args.at in
     let s = c.leading_sign-sign.result.0 in
     let j = c.leading_sign-sign.result.1 in
     let n = c.token_no-token.result in
     let x = c.index-tokens-next in
+    let same = c.tokens-tokens.ensures.tokens in
     let within : j < length ws = search rules in
     let fits : SFits w64 c.in-Integer.value = search rules in
-    let kind : kind_at ws j ≡ k.Integer c.in-Integer.value = sym (kind_read ws j x.result within x.is) ∙ ap (λ y. y.kind) x.is ∙ c.in-Integer.is in
+    let kind : kind_at ws j ≡ k.Integer c.in-Integer.value = sym (kind_read ws j x.result within (x.is ∙ ap (λ z. slice_index_or z j x.result) same)) ∙ ap (λ y. y.kind) x.is ∙ c.in-Integer.is in
     subst (λ z. ReadsPart ws d g.Constant i (constant_shown (constant.Integer s n z)) (j + 1)) (sym (to_z-of_z w64 c.in-Integer.value fits))
-    (reads_integer ws d i j s n c.in-Integer.value c.requires.source.ended c.requires.within within c.leading_sign-sign.ensures c.token_no-token.ensures kind)
+    (reads_integer ws d i j s n c.in-Integer.value c.tokens-tokens.ensures.whole.ended c.requires.within within c.leading_sign-sign.ensures c.token_no-token.ensures kind)
 
 pub returns-then-is_some : goal.returns-then-is_some
 returns-then-is_some c = λ d.
-    let ws = c.args.tokens.now in
+    let ws = c.args.source.now in
     let j = c.leading_sign-sign.result.1 in
     let x = c.index-tokens-next in
+    let same = c.tokens-tokens.ensures.tokens in
     let within : j < length ws = search rules in
-    let kind = (slice_index_or ws j x.result).kind in
-    let read = ap (λ y. y.kind) (sym x.is) ∙ kind_read ws j x.result within x.is in
+    let kind = (slice_index_or c.tokens-tokens.result.now j x.result).kind in
+    let read = ap (λ y. y.kind) (sym x.is) ∙ kind_read ws j x.result within (x.is ∙ ap (λ z. slice_index_or z j x.result) same) in
     fails_signed ws d c.args.at j c.leading_sign-sign.result.0 c.requires.within c.leading_sign-sign.ensures (sym c.if-is_some.ensures)
     (among_at ws j kind (just t.Integer) false read (not_integer kind c.in_default.not-Integer))
 
 pub returns-in_default-kind : goal.returns-in_default-kind
 returns-in_default-kind c = λ d.
-    let ws = c.args.tokens.now in
+    let ws = c.args.source.now in
     let j = c.leading_sign-sign.result.1 in
     let x = c.index-tokens-next in
     let y = c.index-tokens-next-2 in
+    let same = c.tokens-tokens.ensures.tokens in
     let within : j < length ws = search rules in
-    let kind = (slice_index_or ws j y.result).kind in
-    let read-x = ap (λ z. z.kind) (sym x.is) ∙ kind_read ws j x.result within x.is in
-    let read = ap (λ z. z.kind) (sym y.is) ∙ kind_read ws j y.result within y.is in
+    let kind = (slice_index_or c.tokens-tokens.result.now j y.result).kind in
+    let read-x = ap (λ z. z.kind) (sym x.is) ∙ kind_read ws j x.result within (x.is ∙ ap (λ z. slice_index_or z j x.result) same) in
+    let read = ap (λ z. z.kind) (sym y.is) ∙ kind_read ws j y.result within (y.is ∙ ap (λ z. slice_index_or z j y.result) same) in
     let n = c.in_default-kind in
     fails_plain ws d c.args.at j c.leading_sign-sign.result.0 c.leading_sign-sign.ensures (sym c.if-is_some.ensures)
     (among_at ws j kind constants false read (no_constant kind (λ v e. c.in_default.not-Integer v (read-x ∙ sym read ∙ e)) n.not-Character n.not-Text n.not-True n.not-False))
@@ -56,16 +59,17 @@ returns-in_default-kind c = λ d.
 pub returns : goal.returns
 unfolding is
 returns c = λ d.
-    let ws = c.args.tokens.now in
+    let ws = c.args.source.now in
     let j = c.leading_sign-sign.result.1 in
     let n = c.token_no-token.result in
     let x = c.index-tokens-next-2 in
+    let same = c.tokens-tokens.ensures.tokens in
     let within : j < length ws = search rules in
-    let kind = (slice_index_or ws j x.result).kind in
-    let read = ap (λ y. y.kind) (sym x.is) ∙ kind_read ws j x.result within x.is in
+    let kind = (slice_index_or c.tokens-tokens.result.now j x.result).kind in
+    let read = ap (λ y. y.kind) (sym x.is) ∙ kind_read ws j x.result within (x.is ∙ ap (λ z. slice_index_or z j x.result) same) in
     let e = c.match-tokens-next-2.constant in
     let none = sym c.if-is_some.ensures in
-    let ended = c.requires.source.ended in
+    let ended = c.tokens-tokens.ensures.whole.ended in
     let sign = c.leading_sign-sign.ensures in
     let made = reads_made ws d c.args.at j c.leading_sign-sign.result.0 n kind in
     elim c.match-tokens-next-2.branch [

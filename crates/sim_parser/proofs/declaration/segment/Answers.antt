@@ -19,7 +19,7 @@ then-done (x ∷ xs) = refl
 
 pub returns-in_err-names : goal.returns-in_err-names
 returns-in_err-names c =
-    let ws = c.args.tokens.now in
+    let ws = c.args.source.now in
     let d = c.args.depth in
     let i = c.args.at in
     let w0 = opened ws d i g.ArraySegment segment_symbols refl (only g.ArraySegment segment_symbols (terminal_at ws i) refl) c.requires.within in
@@ -34,7 +34,7 @@ expect-requires-clause-within c =
 
 pub returns-in_err-next : goal.returns-in_err-next
 returns-in_err-next c =
-    let ws = c.args.tokens.now in
+    let ws = c.args.source.now in
     let d = c.args.depth in
     let i = c.args.at in
     let w0 = opened ws d i g.ArraySegment segment_symbols refl (only g.ArraySegment segment_symbols (terminal_at ws i) refl) c.requires.within in
@@ -46,7 +46,7 @@ returns-in_err-next c =
 
 pub returns-in_err-bounds : goal.returns-in_err-bounds
 returns-in_err-bounds c =
-    let ws = c.args.tokens.now in
+    let ws = c.args.source.now in
     let d = c.args.depth in
     let i = c.args.at in
     let w0 = opened ws d i g.ArraySegment segment_symbols refl (only g.ArraySegment segment_symbols (terminal_at ws i) refl) c.requires.within in
@@ -59,7 +59,7 @@ returns-in_err-bounds c =
 
 pub returns-in_err-end : goal.returns-in_err-end
 returns-in_err-end c =
-    let ws = c.args.tokens.now in
+    let ws = c.args.source.now in
     let d = c.args.depth in
     let i = c.args.at in
     let w0 = opened ws d i g.ArraySegment segment_symbols refl (only g.ArraySegment segment_symbols (terminal_at ws i) refl) c.requires.within in
@@ -73,7 +73,7 @@ returns-in_err-end c =
 
 pub returns : goal.returns
 returns c =
-    let ws = c.args.tokens.now in
+    let ws = c.args.source.now in
     let d = c.args.depth in
     let i = c.args.at in
     let w0 = opened ws d i g.ArraySegment segment_symbols refl (only g.ArraySegment segment_symbols (terminal_at ws i) refl) c.requires.within in

@@ -17,8 +17,8 @@ pub returns-in_err-first : goal.returns-in_err-first
 returns-in_err-first c =
     let e = c.in_err-first.field-0.0 in
     let r = c.from_residual in
-    exit (λ r. GivesAll c.args.tokens.now c.args.depth (Of Once g.ArraySegment ∷ Of Many g.NextArraySegment ∷ []) c.args.start (λ v. segments_shown v.items) r) r.result e r.ensures.1
-    (once-stops c.args.tokens.now c.args.depth c.args.start g.ArraySegment e c.in_err-first.ensures (Of Many g.NextArraySegment ∷ []))
+    exit (λ r. GivesAll c.args.source.now c.args.depth (Of Once g.ArraySegment ∷ Of Many g.NextArraySegment ∷ []) c.args.start (λ v. segments_shown v.items) r) r.result e r.ensures.1
+    (once-stops c.args.source.now c.args.depth c.args.start g.ArraySegment e c.in_err-first.ensures (Of Many g.NextArraySegment ∷ []))
 
 pub loop-next-init : goal.loop-next-init
 loop-next-init c =
@@ -28,7 +28,7 @@ pub returns-in_err-segment : goal.returns-in_err-segment
 returns-in_err-segment c =
     let e = c.in_err-segment.field-0.0 in
     let r = c.from_residual-in_err-segment in
-    exit (λ r. GivesAll c.args.tokens.now c.args.depth (Of Once g.ArraySegment ∷ Of Many g.NextArraySegment ∷ []) c.args.start (λ v. segments_shown v.items) r) r.result e r.ensures.1
+    exit (λ r. GivesAll c.args.source.now c.args.depth (Of Once g.ArraySegment ∷ Of Many g.NextArraySegment ∷ []) c.args.start (λ v. segments_shown v.items) r) r.result e r.ensures.1
     (list-stops segment_shown c.loop-next.list.items (refl, refl) c.loop-next.invariant c.in-Some.ensures e c.in_err-segment.ensures [])
 
 pub loop-next-preserved : goal.loop-next-preserved

@@ -16,22 +16,22 @@ pub returns-in_err-name : goal.returns-in_err-name
 returns-in_err-name c = λ d.
     let e = c.in_err-name.field-0.0 in
     let r = c.from_residual in
-    exit (λ r. GivesPart c.args.tokens.now d g.Variable c.args.at variable_shown r) r.result e r.ensures.1
-    (first-stops c.args.tokens.now d c.args.at g.Variable (just t.Identifier) (Of Maybe g.Value ∷ []) refl refl c.requires.within e (c.in_err-name.ensures d))
+    exit (λ r. GivesPart c.args.source.now d g.Variable c.args.at variable_shown r) r.result e r.ensures.1
+    (first-stops c.args.source.now d c.args.at g.Variable (just t.Identifier) (Of Maybe g.Value ∷ []) refl refl c.requires.within e (c.in_err-name.ensures d))
 
 pub eat-requires-clause-within : goal.eat-requires-clause-within
 eat-requires-clause-within c = (c.in_ok-name.ensures 0).within
 
 pub returns-in_default : goal.returns-in_default
 returns-in_default c = λ d.
-    let ws = c.args.tokens.now in
+    let ws = c.args.source.now in
     let name = c.in_ok-name.ensures d in
     let w1 = opened-past ws d c.args.at c.in_ok-name.next g.Variable (just t.Identifier) (Of Maybe g.Value ∷ []) (identifier c.in_ok-name.name) refl refl c.requires.within name in
     gone (to w1 (skipped (one_row g.Value (just t.Equal) value_symbols (terminal_at ws c.in_ok-name.next) false refl (just_is _ _ _ c.in_default.ensures)) name.within)) _ refl
 
 pub returns-in_err-constant : goal.returns-in_err-constant
 returns-in_err-constant c = λ d.
-    let ws = c.args.tokens.now in
+    let ws = c.args.source.now in
     let at = c.in_ok-name.next in
     let w = c.in-Some.ensures in
     let name = c.in_ok-name.ensures d in
@@ -45,7 +45,7 @@ returns-in_err-constant c = λ d.
 
 pub returns : goal.returns
 returns c = λ d.
-    let ws = c.args.tokens.now in
+    let ws = c.args.source.now in
     let at = c.in_ok-name.next in
     let w = c.in-Some.ensures in
     let name = c.in_ok-name.ensures d in

@@ -17,8 +17,8 @@ pub returns-in_err-first : goal.returns-in_err-first
 returns-in_err-first c = λ d.
     let e = c.in_err-first.field-0.0 in
     let r = c.from_residual in
-    exit (λ r. GivesAll c.args.tokens.now d (Of Once g.Variable ∷ Of Many g.NextVariable ∷ []) c.args.start (λ v. variables_shown v.items) r) r.result e r.ensures.1
-    (once-stops c.args.tokens.now d c.args.start g.Variable e (c.in_err-first.ensures d) (Of Many g.NextVariable ∷ []))
+    exit (λ r. GivesAll c.args.source.now d (Of Once g.Variable ∷ Of Many g.NextVariable ∷ []) c.args.start (λ v. variables_shown v.items) r) r.result e r.ensures.1
+    (once-stops c.args.source.now d c.args.start g.Variable e (c.in_err-first.ensures d) (Of Many g.NextVariable ∷ []))
 
 pub loop-next-init : goal.loop-next-init
 loop-next-init c =
@@ -31,7 +31,7 @@ pub returns-in_err-variable : goal.returns-in_err-variable
 returns-in_err-variable c = λ d.
     let e = c.in_err-variable.field-0.0 in
     let r = c.from_residual-in_err-variable in
-    exit (λ r. GivesAll c.args.tokens.now d (Of Once g.Variable ∷ Of Many g.NextVariable ∷ []) c.args.start (λ v. variables_shown v.items) r) r.result e r.ensures.1
+    exit (λ r. GivesAll c.args.source.now d (Of Once g.Variable ∷ Of Many g.NextVariable ∷ []) c.args.start (λ v. variables_shown v.items) r) r.result e r.ensures.1
     (list-stops variable_shown c.loop-next.list.items (refl, refl) (c.loop-next.invariant.goes d) c.in-Some.ensures e (c.in_err-variable.ensures d) [])
 
 pub loop-next-preserved : goal.loop-next-preserved

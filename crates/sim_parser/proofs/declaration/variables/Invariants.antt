@@ -6,9 +6,9 @@ use Rattle.sim_parser.proofs.declaration.variables.Given as goal
 
 abbrev pub invariant-loop-next : goal.invariant-loop-next
 invariant-loop-next l = record {
-  goes : (d : ℕ) → Listed variable_shown l.tokens d g.Variable g.NextVariable l.start l.list.items l.at;
-  within : l.at < length l.tokens;
+  goes : (d : ℕ) → Listed variable_shown l.source d g.Variable g.NextVariable l.start l.list.items l.at;
+  within : l.at < length l.source;
 }
 
 abbrev pub decreases-loop-next : goal.decreases-loop-next
-decreases-loop-next l = length l.tokens - l.at
+decreases-loop-next l = length l.source - l.at

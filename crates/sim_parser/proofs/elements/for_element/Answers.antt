@@ -14,7 +14,7 @@ use Rattle.sim_parser.proofs.elements.for_element.Goals as goal
 
 pub returns-in_err-value : goal.returns-in_err-value
 returns-in_err-value c =
-    let ws = c.args.tokens.now in
+    let ws = c.args.source.now in
     let d = c.args.depth in
     let i = c.args.at in
     let w0 = opened ws d i g.ForElement element_symbols refl (only g.ForElement element_symbols (terminal_at ws i) refl) c.requires.within in
@@ -25,7 +25,7 @@ returns-in_err-value c =
 
 pub returns-in_err-step : goal.returns-in_err-step
 returns-in_err-step c =
-    let ws = c.args.tokens.now in
+    let ws = c.args.source.now in
     let d = c.args.depth in
     let i = c.args.at in
     let w0 = opened ws d i g.ForElement element_symbols refl (only g.ForElement element_symbols (terminal_at ws i) refl) c.requires.within in
@@ -43,7 +43,7 @@ returns-in_err-step c =
 
 pub returns-in_err-next : goal.returns-in_err-next
 returns-in_err-next c =
-    let ws = c.args.tokens.now in
+    let ws = c.args.source.now in
     let d = c.args.depth in
     let i = c.args.at in
     let w0 = opened ws d i g.ForElement element_symbols refl (only g.ForElement element_symbols (terminal_at ws i) refl) c.requires.within in
@@ -62,7 +62,7 @@ returns-in_err-next c =
 
 pub returns-in_err-limit : goal.returns-in_err-limit
 returns-in_err-limit c =
-    let ws = c.args.tokens.now in
+    let ws = c.args.source.now in
     let d = c.args.depth in
     let i = c.args.at in
     let w0 = opened ws d i g.ForElement element_symbols refl (only g.ForElement element_symbols (terminal_at ws i) refl) c.requires.within in
@@ -82,7 +82,7 @@ returns-in_err-limit c =
 
 pub returns-in-Some : goal.returns-in-Some
 returns-in-Some c =
-    let ws = c.args.tokens.now in
+    let ws = c.args.source.now in
     let d = c.args.depth in
     let i = c.args.at in
     let w0 = opened ws d i g.ForElement element_symbols refl (only g.ForElement element_symbols (terminal_at ws i) refl) c.requires.within in
@@ -99,7 +99,7 @@ returns-in-Some c =
 
 pub returns-in_default-eat : goal.returns-in_default-eat
 returns-in_default-eat c =
-    let ws = c.args.tokens.now in
+    let ws = c.args.source.now in
     let d = c.args.depth in
     let i = c.args.at in
     let w0 = opened ws d i g.ForElement element_symbols refl (only g.ForElement element_symbols (terminal_at ws i) refl) c.requires.within in
@@ -110,7 +110,7 @@ returns-in_default-eat c =
 
 pub returns-in_err-condition : goal.returns-in_err-condition
 returns-in_err-condition c =
-    let ws = c.args.tokens.now in
+    let ws = c.args.source.now in
     let d = c.args.depth in
     let i = c.args.at in
     let w0 = opened ws d i g.ForElement element_symbols refl (only g.ForElement element_symbols (terminal_at ws i) refl) c.requires.within in
@@ -128,7 +128,7 @@ returns-in_err-condition c =
 
 pub returns : goal.returns
 returns c =
-    let ws = c.args.tokens.now in
+    let ws = c.args.source.now in
     let d = c.args.depth in
     let i = c.args.at in
     let w0 = opened ws d i g.ForElement element_symbols refl (only g.ForElement element_symbols (terminal_at ws i) refl) c.requires.within in

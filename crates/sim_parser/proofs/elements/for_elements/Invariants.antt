@@ -5,7 +5,7 @@ use Rattle.sim_parser.proofs.DeclarationLists.{Listed}
 use Rattle.sim_parser.proofs.elements.for_elements.Given as goal
 
 abbrev pub invariant-loop-next : goal.invariant-loop-next
-invariant-loop-next l = Listed for_element_shown l.tokens l.depth g.ForElement g.NextForElement l.start l.list.items l.at
+invariant-loop-next l = Listed for_element_shown l.source l.depth g.ForElement g.NextForElement l.start l.list.items l.at
 
 abbrev pub decreases-loop-next : goal.decreases-loop-next
-decreases-loop-next l = length l.tokens - l.at
+decreases-loop-next l = length l.source - l.at

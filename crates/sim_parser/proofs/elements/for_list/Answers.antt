@@ -15,7 +15,7 @@ use Rattle.sim_parser.proofs.elements.for_list.Goals as goal
 
 pub returns-in_err-elements : goal.returns-in_err-elements
 returns-in_err-elements c =
-    let ws = c.args.tokens.now in
+    let ws = c.args.source.now in
     let d = c.args.depth in
     let i = c.args.at in
     let w = c.in-Some.ensures in
@@ -29,7 +29,7 @@ returns-in_err-elements c =
 
 pub returns-in-Some : goal.returns-in-Some
 returns-in-Some c =
-    let ws = c.args.tokens.now in
+    let ws = c.args.source.now in
     let d = c.args.depth in
     let i = c.args.at in
     let w = c.in-Some.ensures in
@@ -40,7 +40,7 @@ returns-in-Some c =
 
 pub returns-in_err-next : goal.returns-in_err-next
 returns-in_err-next c =
-    let ws = c.args.tokens.now in
+    let ws = c.args.source.now in
     let d = c.args.depth in
     let i = c.args.at in
     let e = c.in_err-next.field-0.0 in
@@ -50,7 +50,7 @@ returns-in_err-next c =
 
 pub returns-in_err-elements-2 : goal.returns-in_err-elements-2
 returns-in_err-elements-2 c =
-    let ws = c.args.tokens.now in
+    let ws = c.args.source.now in
     let d = c.args.depth in
     let i = c.args.at in
     let w = c.in_ok-next.ensures in
@@ -64,7 +64,7 @@ returns-in_err-elements-2 c =
 
 pub returns : goal.returns
 returns c =
-    let ws = c.args.tokens.now in
+    let ws = c.args.source.now in
     let d = c.args.depth in
     let i = c.args.at in
     let w = c.in_ok-next.ensures in

@@ -14,7 +14,7 @@ use Rattle.sim_parser.proofs.elements.reference_element.Goals as goal
 
 pub returns-in_err-value : goal.returns-in_err-value
 returns-in_err-value c =
-    let ws = c.args.tokens.now in
+    let ws = c.args.source.now in
     let d = c.args.depth in
     let i = c.args.at in
     let w0 = opened ws d i g.ReferenceElement reference_symbols refl (only g.ReferenceElement reference_symbols (terminal_at ws i) refl) c.requires.within in
@@ -25,7 +25,7 @@ returns-in_err-value c =
 
 pub returns-in_default : goal.returns-in_default
 returns-in_default c =
-    let ws = c.args.tokens.now in
+    let ws = c.args.source.now in
     let d = c.args.depth in
     let i = c.args.at in
     let w0 = opened ws d i g.ReferenceElement reference_symbols refl (only g.ReferenceElement reference_symbols (terminal_at ws i) refl) c.requires.within in
@@ -36,7 +36,7 @@ returns-in_default c =
 
 pub returns-in_err-condition : goal.returns-in_err-condition
 returns-in_err-condition c =
-    let ws = c.args.tokens.now in
+    let ws = c.args.source.now in
     let d = c.args.depth in
     let i = c.args.at in
     let w0 = opened ws d i g.ReferenceElement reference_symbols refl (only g.ReferenceElement reference_symbols (terminal_at ws i) refl) c.requires.within in
@@ -54,7 +54,7 @@ returns-in_err-condition c =
 
 pub returns : goal.returns
 returns c =
-    let ws = c.args.tokens.now in
+    let ws = c.args.source.now in
     let d = c.args.depth in
     let i = c.args.at in
     let w0 = opened ws d i g.ReferenceElement reference_symbols refl (only g.ReferenceElement reference_symbols (terminal_at ws i) refl) c.requires.within in

@@ -17,8 +17,8 @@ pub returns-in_err-first : goal.returns-in_err-first
 returns-in_err-first c =
     let e = c.in_err-first.field-0.0 in
     let r = c.from_residual in
-    exit (λ r. GivesAll c.args.tokens.now c.args.depth (Of Once g.ReferenceElement ∷ Of Many g.NextReferenceElement ∷ []) c.args.start (λ v. reference_elements v.items) r) r.result e r.ensures.1
-    (once-stops c.args.tokens.now c.args.depth c.args.start g.ReferenceElement e c.in_err-first.ensures (Of Many g.NextReferenceElement ∷ []))
+    exit (λ r. GivesAll c.args.source.now c.args.depth (Of Once g.ReferenceElement ∷ Of Many g.NextReferenceElement ∷ []) c.args.start (λ v. reference_elements v.items) r) r.result e r.ensures.1
+    (once-stops c.args.source.now c.args.depth c.args.start g.ReferenceElement e c.in_err-first.ensures (Of Many g.NextReferenceElement ∷ []))
 
 pub loop-next-init : goal.loop-next-init
 loop-next-init c =
@@ -28,7 +28,7 @@ pub returns-in_err-element : goal.returns-in_err-element
 returns-in_err-element c =
     let e = c.in_err-element.field-0.0 in
     let r = c.from_residual-in_err-element in
-    exit (λ r. GivesAll c.args.tokens.now c.args.depth (Of Once g.ReferenceElement ∷ Of Many g.NextReferenceElement ∷ []) c.args.start (λ v. reference_elements v.items) r) r.result e r.ensures.1
+    exit (λ r. GivesAll c.args.source.now c.args.depth (Of Once g.ReferenceElement ∷ Of Many g.NextReferenceElement ∷ []) c.args.start (λ v. reference_elements v.items) r) r.result e r.ensures.1
     (list-stops reference_element_shown c.loop-next.list.items (refl, refl) c.loop-next.invariant c.in-Some.ensures e c.in_err-element.ensures [])
 
 pub loop-next-preserved : goal.loop-next-preserved

@@ -15,7 +15,7 @@ use Rattle.sim_parser.proofs.heading.heading_at.Goals as goal
 
 pub returns-in-Some : goal.returns-in-Some
 returns-in-Some c = λ d.
-    let ws = c.args.tokens.now in
+    let ws = c.args.source.now in
     let i = c.args.at in
     let w = c.in-Some.ensures in
     gone (to (opened ws d i g.Heading no_parameters_row refl (by_test g.Heading (terminal_at ws i) t.Semicolon no_parameters_row w.0 heading_semicolon) c.requires.within) (marked w)) _
@@ -23,7 +23,7 @@ returns-in-Some c = λ d.
 
 pub returns-in_err-next : goal.returns-in_err-next
 returns-in_err-next c = λ d.
-    let ws = c.args.tokens.now in
+    let ws = c.args.source.now in
     let i = c.args.at in
     let e = c.in_err-next.field-0.0 in
     let r = c.from_residual in
@@ -33,7 +33,7 @@ returns-in_err-next c = λ d.
 
 pub returns-in_err-parameters : goal.returns-in_err-parameters
 returns-in_err-parameters c = λ d.
-    let ws = c.args.tokens.now in
+    let ws = c.args.source.now in
     let i = c.args.at in
     let w1 = open-parameters ws d i c.in_ok-next.next c.requires.within c.in_ok-next.ensures in
     let e = c.in_err-parameters.field-0.0 in
@@ -46,7 +46,7 @@ expect-requires-2-clause-within c = (c.in_ok-parameters.ensures 0).within
 
 pub returns-in_err-next-2 : goal.returns-in_err-next-2
 returns-in_err-next-2 c = λ d.
-    let ws = c.args.tokens.now in
+    let ws = c.args.source.now in
     let i = c.args.at in
     let w1 = open-parameters ws d i c.in_ok-next.next c.requires.within c.in_ok-next.ensures in
     let w2 = to w1 (once (c.in_ok-parameters.ensures d)) in
@@ -57,7 +57,7 @@ returns-in_err-next-2 c = λ d.
 
 pub returns-in_err-next-3 : goal.returns-in_err-next-3
 returns-in_err-next-3 c = λ d.
-    let ws = c.args.tokens.now in
+    let ws = c.args.source.now in
     let i = c.args.at in
     let w1 = open-parameters ws d i c.in_ok-next.next c.requires.within c.in_ok-next.ensures in
     let w2 = to w1 (once (c.in_ok-parameters.ensures d)) in
@@ -69,7 +69,7 @@ returns-in_err-next-3 c = λ d.
 
 pub returns-in_err-modes : goal.returns-in_err-modes
 returns-in_err-modes c = λ d.
-    let ws = c.args.tokens.now in
+    let ws = c.args.source.now in
     let i = c.args.at in
     let w1 = open-parameters ws d i c.in_ok-next.next c.requires.within c.in_ok-next.ensures in
     let w2 = to w1 (once (c.in_ok-parameters.ensures d)) in
@@ -80,12 +80,12 @@ returns-in_err-modes c = λ d.
     exit (λ r. GivesPart ws d g.Heading i (λ h. heading_shown h.parameters.items h.modes.items h.specifications.items) r) r.result e r.ensures.1
     (stops w4 e (c.in_err-modes.ensures d))
 
-pub specifications-requires-clause-within : goal.specifications-requires-clause-within
-specifications-requires-clause-within c = (c.in_ok-modes.ensures 0).within
+pub specifications-requires : goal.specifications-requires
+specifications-requires c = record { within = (c.in_ok-modes.ensures 0).within }
 
 pub returns-in_err-specifications : goal.returns-in_err-specifications
 returns-in_err-specifications c = λ d.
-    let ws = c.args.tokens.now in
+    let ws = c.args.source.now in
     let i = c.args.at in
     let w1 = open-parameters ws d i c.in_ok-next.next c.requires.within c.in_ok-next.ensures in
     let w2 = to w1 (once (c.in_ok-parameters.ensures d)) in
@@ -99,7 +99,7 @@ returns-in_err-specifications c = λ d.
 
 pub returns : goal.returns
 returns c = λ d.
-    let ws = c.args.tokens.now in
+    let ws = c.args.source.now in
     let i = c.args.at in
     let w1 = open-parameters ws d i c.in_ok-next.next c.requires.within c.in_ok-next.ensures in
     let w2 = to w1 (once (c.in_ok-parameters.ensures d)) in

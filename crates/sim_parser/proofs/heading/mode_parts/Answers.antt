@@ -13,7 +13,7 @@ use Rattle.sim_parser.proofs.heading.mode_parts.Goals as goal
 
 pub returns-in_err-names : goal.returns-in_err-names
 returns-in_err-names c = λ d.
-    let ws = c.args.tokens.now in
+    let ws = c.args.source.now in
     let l = c.loop-mode in
     let w = c.in-Some.ensures in
     let e = c.in_err-names.field-0.0 in
@@ -27,7 +27,7 @@ expect-requires-clause-within c = (c.in_ok-names.ensures 0).within
 
 pub returns-in_err-end : goal.returns-in_err-end
 returns-in_err-end c = λ d.
-    let ws = c.args.tokens.now in
+    let ws = c.args.source.now in
     let l = c.loop-mode in
     let w = c.in-Some.ensures in
     let e = c.in_err-end.field-0.0 in
@@ -41,7 +41,7 @@ loop-mode-smaller c = omega (arith, c.in-Some.ensures.ahead, (c.in_ok-names.ensu
 
 pub loop-mode-preserved : goal.loop-mode-preserved
 loop-mode-preserved c =
-    let ws = c.args.tokens.now in
+    let ws = c.args.source.now in
     let l = c.loop-mode in
     let w = c.in-Some.ensures in
     let n = c.token_no-token.result in
@@ -57,4 +57,4 @@ loop-mode-preserved c =
 pub returns : goal.returns
 returns c = λ d.
     let l = c.loop-mode in
-    row-end mode_shown l.parts.items (l.invariant.goes d) (one_row g.Mode modes mode_row (terminal_at c.args.tokens.now l.at) false refl c.in_default.ensures) l.invariant.ahead l.invariant.within
+    row-end mode_shown l.parts.items (l.invariant.goes d) (one_row g.Mode modes mode_row (terminal_at c.args.source.now l.at) false refl c.in_default.ensures) l.invariant.ahead l.invariant.within

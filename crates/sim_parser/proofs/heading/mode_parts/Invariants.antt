@@ -6,10 +6,10 @@ use Rattle.sim_parser.proofs.heading.mode_parts.Given as goal
 
 abbrev pub invariant-loop-mode : goal.invariant-loop-mode
 invariant-loop-mode l = record {
-  goes : (d : ℕ) → Row l.tokens d g.Mode l.start (map mode_shown l.parts.items) l.at;
+  goes : (d : ℕ) → Row l.source d g.Mode l.start (map mode_shown l.parts.items) l.at;
   ahead : l.start ≤ l.at;
-  within : l.at < length l.tokens;
+  within : l.at < length l.source;
 }
 
 abbrev pub decreases-loop-mode : goal.decreases-loop-mode
-decreases-loop-mode l = length l.tokens - l.at
+decreases-loop-mode l = length l.source - l.at

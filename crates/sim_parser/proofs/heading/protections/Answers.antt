@@ -8,12 +8,12 @@ use Rattle.sim_expr_parser.proofs.Steps.{exit, row-more, row-end, row-stops}
 use Rattle.sim_parser.proofs.HeadingSteps.{names-end, names-first-stop, names-last-stop}
 use Rattle.sim_parser.proofs.heading.protections.Goals as goal
 
-pub identifiers-requires-clause-within : goal.identifiers-requires-clause-within
-identifiers-requires-clause-within c = (c.in-Some.ensures 0).within
+pub identifiers-requires : goal.identifiers-requires
+identifiers-requires c = record { within = (c.in-Some.ensures 0).within }
 
 pub returns-in_err-names : goal.returns-in_err-names
 returns-in_err-names c = λ d.
-    let ws = c.args.tokens.now in
+    let ws = c.args.source.now in
     let l = c.loop-words in
     let e = c.in_err-names.field-0.0 in
     let r = c.from_residual in
@@ -25,7 +25,7 @@ expect-requires-clause-within c = (c.in_ok-names.ensures 0).within
 
 pub returns-in_err-end : goal.returns-in_err-end
 returns-in_err-end c = λ d.
-    let ws = c.args.tokens.now in
+    let ws = c.args.source.now in
     let l = c.loop-words in
     let e = c.in_err-end.field-0.0 in
     let r = c.from_residual-in_err-end in

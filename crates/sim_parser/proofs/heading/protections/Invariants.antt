@@ -6,10 +6,10 @@ use Rattle.sim_parser.proofs.heading.protections.Given as goal
 
 abbrev pub invariant-loop-words : goal.invariant-loop-words
 invariant-loop-words l = record {
-  goes : (d : ℕ) → Row l.tokens d g.Protection l.start (map protection_shown l.list.items) l.at;
+  goes : (d : ℕ) → Row l.source d g.Protection l.start (map protection_shown l.list.items) l.at;
   ahead : l.start ≤ l.at;
-  within : l.at < length l.tokens;
+  within : l.at < length l.source;
 }
 
 abbrev pub decreases-loop-words : goal.decreases-loop-words
-decreases-loop-words l = length l.tokens - l.at
+decreases-loop-words l = length l.source - l.at

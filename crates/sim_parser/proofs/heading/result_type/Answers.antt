@@ -13,24 +13,24 @@ use Rattle.sim_parser.proofs.heading.result_type.Goals as goal
 
 pub returns-then-eq : goal.returns-then-eq
 returns-then-eq c = λ d.
-    let ws = c.args.tokens.now in
+    let ws = c.args.source.now in
     let i = c.args.at in
-    let h : is (terminal_at ws i) t.Procedure ≡ true = ap (λ a. is a t.Procedure) (sym c.terminal_at_token.ensures) ∙ made_is _ _ true c.if-eq.ensures in
+    let h : is (terminal_at ws i) t.Procedure ≡ true = ap (λ a. is a t.Procedure) (sym c.terminal_at.ensures) ∙ made_is _ _ true c.if-eq.ensures in
     front (opened ws d i g.VirtualSpecification procedure_row refl (by_test g.VirtualSpecification (terminal_at ws i) t.Procedure procedure_row h virtual_procedure) c.requires.within)
 
 pub returns-in_err-result : goal.returns-in_err-result
 returns-in_err-result c = λ d.
-    let ws = c.args.tokens.now in
+    let ws = c.args.source.now in
     let i = c.args.at in
     let e = c.in_err-result.field-0.0 in
     let r = c.from_residual in
-    let plain : is (terminal_at ws i) t.Procedure ≡ false = ap (λ a. is a t.Procedure) (sym c.terminal_at_token.ensures) ∙ made_is _ _ false c.if-eq.ensures in
+    let plain : is (terminal_at ws i) t.Procedure ≡ false = ap (λ a. is a t.Procedure) (sym c.terminal_at.ensures) ∙ made_is _ _ false c.if-eq.ensures in
     exit (λ r. GivesFront ws d g.VirtualSpecification i typed procedure_row r) r.result e r.ensures.1
     (type-stops ws d i c.requires.within plain e (c.in_err-result.ensures d)).1
 
 pub returns : goal.returns
 returns c = λ d.
-    let ws = c.args.tokens.now in
+    let ws = c.args.source.now in
     let i = c.args.at in
     let p = c.in_ok-result.ensures d in
     front (to (opened ws d i g.VirtualSpecification typed_virtual_row refl (virtual-spec-row (terminal_at ws i) true (is (terminal_at ws i) t.Procedure) (type-began p) refl) c.requires.within) (once p))

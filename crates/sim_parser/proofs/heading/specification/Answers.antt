@@ -10,15 +10,15 @@ use Rattle.sim_parser.proofs.heading.specification.Goals as goal
 pub returns-in_err-specifier-clause-gives : goal.returns-in_err-specifier-clause-gives
 returns-in_err-specifier-clause-gives c = λ d.
     let r = c.from_residual in
-    exit (λ r. GivesPart c.args.tokens.now d g.Specification c.args.at specification_shown r) r.result c.in_err-specifier.field-0.0 r.ensures.1
+    exit (λ r. GivesPart c.args.source.now d g.Specification c.args.at specification_shown r) r.result c.in_err-specifier.field-0.0 r.ensures.1
     (c.in_err-specifier.ensures d)
 
-pub identifiers-requires-clause-within : goal.identifiers-requires-clause-within
-identifiers-requires-clause-within c = (c.in_ok-specifier.ensures 0).within
+pub identifiers-requires : goal.identifiers-requires
+identifiers-requires c = record { within = (c.in_ok-specifier.ensures 0).within }
 
 pub returns-in_err-names-clause-gives : goal.returns-in_err-names-clause-gives
 returns-in_err-names-clause-gives c = λ d.
-    let ws = c.args.tokens.now in
+    let ws = c.args.source.now in
     let e = c.in_err-names.field-0.0 in
     let r = c.from_residual-in_err-names in
     exit (λ r. GivesPart ws d g.Specification c.args.at specification_shown r) r.result e r.ensures.1
@@ -32,7 +32,7 @@ returns-in_err-end-clause-gives c = λ d.
     let e = c.in_err-end.field-0.0 in
     let r = c.from_residual-in_err-end in
     let q = c.in_ok-specifier.ensures d in
-    exit (λ r. GivesPart c.args.tokens.now d g.Specification c.args.at specification_shown r) r.result e r.ensures.1
+    exit (λ r. GivesPart c.args.source.now d g.Specification c.args.at specification_shown r) r.result e r.ensures.1
     (q.fails e (names-last-stop e q.within (c.in_ok-names.ensures d) c.in_err-end.ensures) [] Once)
 
 pub returns-clause-gives : goal.returns-clause-gives

@@ -10,15 +10,15 @@ use Rattle.sim_parser.proofs.heading.specifications.Goals as goal
 
 pub returns-in_err-first : goal.returns-in_err-first
 returns-in_err-first c = λ d.
-    let ws = c.args.tokens.now in
+    let ws = c.args.source.now in
     let i = c.args.start in
     let e = c.in_err-first.field-0.0 in
     let r = c.from_residual in
     exit (λ r. GivesSome ws d g.Specification i specification_shown r) r.result e r.ensures.1
     (once-stops ws d i g.Specification e (c.in_err-first.ensures.gives d) (Of Many g.Specification ∷ []))
 
-pub loop-alloc-init : goal.loop-alloc-init
-loop-alloc-init c =
+pub loop-list-init : goal.loop-list-init
+loop-list-init c =
     let x = c.in_ok-first.first in
     let items : c.push.new.self.items ≡ x ∷ [] = c.in_ok-push.ensures.items ∙ ap (λ l. l ++ x ∷ []) c.new-list.ensures.items in
     record {
@@ -30,20 +30,20 @@ loop-alloc-init c =
 
 pub returns-in_err-next : goal.returns-in_err-next
 returns-in_err-next c = λ d.
-    let ws = c.args.tokens.now in
+    let ws = c.args.source.now in
     let i = c.args.start in
-    let l = c.loop-alloc in
+    let l = c.loop-list in
     let e = c.in_err-next.field-0.0 in
     let r = c.from_residual-in_err-next in
-    let b = begins-spec (terminal_at ws l.at) (ap (one_of begins_specification) (sym c.terminal_at_token.ensures) ∙ sym c.loop-alloc-test.ensures) in
+    let b = begins-spec (terminal_at ws l.at) (ap (one_of begins_specification) (sym c.terminal_at.ensures) ∙ sym c.loop-list-test.ensures) in
     exit (λ r. GivesSome ws d g.Specification i specification_shown r) r.result e r.ensures.1
     (leads-stops (l.invariant.goes d) e (many-stops ws d l.at g.Specification b.0 b.1 e (c.in_err-next.ensures.gives d) []))
 
-pub loop-alloc-preserved : goal.loop-alloc-preserved
-loop-alloc-preserved c =
-    let l = c.loop-alloc in
+pub loop-list-preserved : goal.loop-list-preserved
+loop-list-preserved c =
+    let l = c.loop-list in
     let y = c.in_ok-next.next in
-    let ys = c.push-in-loop-alloc.new.self.items in
+    let ys = c.push-in-loop-list.new.self.items in
     let q = c.in_ok-next.ensures.gives 0 in
     record {
       goes = λ d. rows-more specification_shown l.list.items ys y (l.invariant.goes d) (c.in_ok-next.ensures.gives d) c.in_ok-push-2.ensures.items;
@@ -54,7 +54,7 @@ loop-alloc-preserved c =
 
 pub returns : goal.returns
 returns c = λ d.
-    let ws = c.args.tokens.now in
-    let l = c.loop-alloc in
-    let b = begins-neither (terminal_at ws l.at) (ap (one_of begins_specification) (sym c.terminal_at_token.ensures) ∙ sym c.loop-alloc-test.ensures) in
+    let ws = c.args.source.now in
+    let l = c.loop-list in
+    let b = begins-neither (terminal_at ws l.at) (ap (one_of begins_specification) (sym c.terminal_at.ensures) ∙ sym c.loop-list-test.ensures) in
     (l.invariant.some, rows-end specification_shown l.list.items (l.invariant.goes d) (spec-row (terminal_at ws l.at) false false b.0 b.1) l.invariant.ahead l.invariant.within)

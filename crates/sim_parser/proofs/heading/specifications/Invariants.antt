@@ -4,13 +4,13 @@ use Rattle.sim_tree.specs.ShownProgram.{specification_shown}
 use Rattle.sim_parser.proofs.HeadingSteps.{Rows}
 use Rattle.sim_parser.proofs.heading.specifications.Given as goal
 
-abbrev pub invariant-loop-alloc : goal.invariant-loop-alloc
-invariant-loop-alloc l = record {
-  goes : (d : ℕ) → Rows l.tokens d g.Specification l.start (map specification_shown l.list.items) l.at;
+abbrev pub invariant-loop-list : goal.invariant-loop-list
+invariant-loop-list l = record {
+  goes : (d : ℕ) → Rows l.source d g.Specification l.start (map specification_shown l.list.items) l.at;
   some : 0 < length l.list.items;
   ahead : l.start ≤ l.at;
-  within : l.at < length l.tokens;
+  within : l.at < length l.source;
 }
 
-abbrev pub decreases-loop-alloc : goal.decreases-loop-alloc
-decreases-loop-alloc l = length l.tokens - l.at
+abbrev pub decreases-loop-list : goal.decreases-loop-list
+decreases-loop-list l = length l.source - l.at

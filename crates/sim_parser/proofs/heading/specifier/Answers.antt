@@ -14,7 +14,7 @@ use Rattle.sim_parser.proofs.heading.specifier.Goals as goal
 
 pub returns-in-Some : goal.returns-in-Some
 returns-in-Some c = λ d.
-    let ws = c.args.tokens.now in
+    let ws = c.args.source.now in
     let i = c.args.at in
     let w = c.in-Some.ensures in
     let n = c.token_no-token.result in
@@ -22,15 +22,15 @@ returns-in-Some c = λ d.
 
 pub returns-in_err-element : goal.returns-in_err-element
 returns-in_err-element c = λ d.
-    let ws = c.args.tokens.now in
+    let ws = c.args.source.now in
     let i = c.args.at in
     let e = c.in_err-element.field-0.0 in
     let r = c.from_residual in
     exit (λ r. GivesFront ws d g.Specification i specifier_shown names_row r) r.result e r.ensures.1
     (type-stops ws d i c.requires.within c.in_default.ensures e (c.in_err-element.ensures d)).0
 
-pub token_no-token-requires-2-clause-within : goal.token_no-token-requires-2-clause-within
-token_no-token-requires-2-clause-within c = (c.in_ok-element.ensures 0).within
+pub token_no-token-requires-2 : goal.token_no-token-requires-2
+token_no-token-requires-2 c = record { within = (c.in_ok-element.ensures 0).within }
 
 pub eat-requires-2-clause-within : goal.eat-requires-2-clause-within
 eat-requires-2-clause-within c = (c.in_ok-element.ensures 0).within
@@ -38,7 +38,7 @@ eat-requires-2-clause-within c = (c.in_ok-element.ensures 0).within
 pub returns-in-Some-eat : goal.returns-in-Some-eat
 unfolding is
 returns-in-Some-eat c = λ d.
-    let ws = c.args.tokens.now in
+    let ws = c.args.source.now in
     let i = c.args.at in
     let p = c.in_ok-element.ensures d in
     let n = c.token_no-token-2.result in
@@ -51,7 +51,7 @@ eat-requires-3-clause-within c = (c.in_ok-element.ensures 0).within
 pub returns-in-Some-eat-2 : goal.returns-in-Some-eat-2
 unfolding is
 returns-in-Some-eat-2 c = λ d.
-    let ws = c.args.tokens.now in
+    let ws = c.args.source.now in
     let i = c.args.at in
     let p = c.in_ok-element.ensures d in
     let n = c.token_no-token-2.result in
@@ -60,7 +60,7 @@ returns-in-Some-eat-2 c = λ d.
 
 pub returns : goal.returns
 returns c = λ d.
-    let ws = c.args.tokens.now in
+    let ws = c.args.source.now in
     let i = c.args.at in
     let p = c.in_ok-element.ensures d in
     front (to (to (opened ws d i g.Specification typed_spec_row refl (spec-row (terminal_at ws i) true (is (terminal_at ws i) t.Procedure) (type-began p) refl) c.requires.within) (once p))

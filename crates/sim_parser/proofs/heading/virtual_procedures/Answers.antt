@@ -16,18 +16,18 @@ use Rattle.sim_parser.proofs.heading.virtual_procedures.Goals as goal
 pub returns-in_err-result-clause-gives : goal.returns-in_err-result-clause-gives
 returns-in_err-result-clause-gives c = λ d.
     let r = c.from_residual in
-    exit (λ r. GivesPart c.args.tokens.now d g.VirtualSpecification c.args.at virtual_shown r) r.result c.in_err-result.field-0.0 r.ensures.1
+    exit (λ r. GivesPart c.args.source.now d g.VirtualSpecification c.args.at virtual_shown r) r.result c.in_err-result.field-0.0 r.ensures.1
     (c.in_err-result.ensures d)
 
-pub token_no-token-requires-clause-within : goal.token_no-token-requires-clause-within
-token_no-token-requires-clause-within c = (c.in_ok-result.ensures 0).within
+pub token_no-token-requires : goal.token_no-token-requires
+token_no-token-requires c = record { within = (c.in_ok-result.ensures 0).within }
 
 pub expect-requires-clause-within : goal.expect-requires-clause-within
 expect-requires-clause-within c = (c.in_ok-result.ensures 0).within
 
 pub returns-in_err-next-clause-gives : goal.returns-in_err-next-clause-gives
 returns-in_err-next-clause-gives c = λ d.
-    let ws = c.args.tokens.now in
+    let ws = c.args.source.now in
     let e = c.in_err-next.field-0.0 in
     let r = c.from_residual-in_err-next in
     let h = c.in_err-next.ensures in
@@ -36,7 +36,7 @@ returns-in_err-next-clause-gives c = λ d.
 
 pub returns-in_err-names-clause-gives : goal.returns-in_err-names-clause-gives
 returns-in_err-names-clause-gives c = λ d.
-    let ws = c.args.tokens.now in
+    let ws = c.args.source.now in
     let e = c.in_err-names.field-0.0 in
     let r = c.from_residual-in_err-names in
     let q = c.in_ok-result.ensures d in
@@ -50,7 +50,7 @@ expect-requires-2-clause-within c = (c.in_ok-names.ensures 0).within
 
 pub returns-in_err-end-clause-gives : goal.returns-in_err-end-clause-gives
 returns-in_err-end-clause-gives c = λ d.
-    let ws = c.args.tokens.now in
+    let ws = c.args.source.now in
     let e = c.in_err-end.field-0.0 in
     let r = c.from_residual-in_err-end in
     let q = c.in_ok-result.ensures d in
@@ -61,7 +61,7 @@ returns-in_err-end-clause-gives c = λ d.
 
 pub returns-clause-gives : goal.returns-clause-gives
 returns-clause-gives c = λ d.
-    let ws = c.args.tokens.now in
+    let ws = c.args.source.now in
     let q = c.in_ok-result.ensures d in
     let n = c.token_no-token.result in
     let b1 = past (along d c.in_ok-result.next procedure_row q.within) (kept n.0 c.token_no-token.ensures (took_one ws c.in_ok-result.next c.in_ok-next.next k.Procedure refl c.in_ok-next.ensures)) in

@@ -15,11 +15,11 @@ use Rattle.sim_parser.proofs.heading.virtuals.Goals as goal
 pub returns-in_default : goal.returns-in_default
 returns-in_default c = λ d.
     to-as (λ f. f) (virtuals_shown c.new.result.items) (λ f. ap (λ l. virtuals_shown l f) (sym c.new.ensures.items))
-    (no-virtual c.args.tokens.now d c.args.at c.in_default.ensures c.requires.within)
+    (no-virtual c.args.source.now d c.args.at c.in_default.ensures c.requires.within)
 
 pub returns-in_err-next : goal.returns-in_err-next
 returns-in_err-next c = λ d.
-    let ws = c.args.tokens.now in
+    let ws = c.args.source.now in
     let i = c.args.at in
     let e = c.in_err-next.field-0.0 in
     let r = c.from_residual in
@@ -28,7 +28,7 @@ returns-in_err-next c = λ d.
 
 pub returns : goal.returns
 returns c = λ d.
-    let ws = c.args.tokens.now in
+    let ws = c.args.source.now in
     let i = c.args.at in
     let w = to (open-virtual ws d i c.in-Some.next c.requires.within c.in-Some.ensures) (marked c.in_ok-next.ensures) in
     passed (GivesSome ws d g.VirtualSpecification c.in_ok-next.next virtual_shown) (GivesTo ws d (Of Maybe g.Virtuals) i (λ v. virtuals_shown v.items))

@@ -12,7 +12,7 @@ use Rattle.sim_parser.proofs.names.identifiers.Goals as goal
 
 pub returns-in_err-first : goal.returns-in_err-first
 returns-in_err-first c = λ d.
-    let ws = c.args.tokens.now in
+    let ws = c.args.source.now in
     let i = c.args.start in
     let e = c.in_err-first.field-0.0 in
     let r = c.from_residual in
@@ -21,7 +21,7 @@ returns-in_err-first c = λ d.
 
 pub loop-next-init : goal.loop-next-init
 loop-next-init c =
-    let ws = c.args.tokens.now in
+    let ws = c.args.source.now in
     let i = c.args.start in
     let x = c.in_ok-first.first in
     let items : c.add.new.list.items ≡ x ∷ [] = c.in_ok-add.ensures ∙ ap (λ l. l ++ x ∷ []) c.new-list.ensures.items in
@@ -34,7 +34,7 @@ loop-next-init c =
 
 pub returns-in_err-identifier : goal.returns-in_err-identifier
 returns-in_err-identifier c = λ d.
-    let ws = c.args.tokens.now in
+    let ws = c.args.source.now in
     let i = c.args.start in
     let l = c.loop-next in
     let e = c.in_err-identifier.field-0.0 in
@@ -50,7 +50,7 @@ loop-next-smaller c =
 
 pub loop-next-preserved : goal.loop-next-preserved
 loop-next-preserved c =
-    let ws = c.args.tokens.now in
+    let ws = c.args.source.now in
     let i = c.args.start in
     let l = c.loop-next in
     let w = c.in-Some.ensures in
@@ -68,4 +68,4 @@ loop-next-preserved c =
 pub returns : goal.returns
 returns c = λ d.
     let l = c.loop-next in
-    gone (to (l.invariant.goes d) (no-more (no-next-id c.args.tokens.now l.at c.in_default.ensures) l.invariant.within)) (ids l.list.items) (ids-done l.list.items)
+    gone (to (l.invariant.goes d) (no-more (no-next-id c.args.source.now l.at c.in_default.ensures) l.invariant.within)) (ids l.list.items) (ids-done l.list.items)

@@ -7,11 +7,11 @@ use Rattle.sim_parser.proofs.names.identifiers.Given as goal
 
 abbrev pub invariant-loop-next : goal.invariant-loop-next
 invariant-loop-next l = record {
-  goes : (d : ℕ) → Within l.tokens d g.Identifiers l.start (ids_then l.list.items) d (Of Many g.NextIdentifier ∷ []) l.at;
+  goes : (d : ℕ) → Within l.source d g.Identifiers l.start (ids_then l.list.items) d (Of Many g.NextIdentifier ∷ []) l.at;
   some : 0 < length l.list.items;
   ahead : l.start ≤ l.at;
-  within : l.at < length l.tokens;
+  within : l.at < length l.source;
 }
 
 abbrev pub decreases-loop-next : goal.decreases-loop-next
-decreases-loop-next l = length l.tokens - l.at
+decreases-loop-next l = length l.source - l.at

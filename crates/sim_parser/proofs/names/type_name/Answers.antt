@@ -13,23 +13,23 @@ use Rattle.sim_parser.proofs.names.type_name.Goals as goal
 
 pub returns-in-Some : goal.returns-in-Some
 unfolding is right_side
-returns-in-Some c = λ d. simple-type c.args.tokens.now d c.args.at c.in-Some.next k.IntegerWord c.token_no-token.result refl refl refl c.in-Some.ensures c.token_no-token.ensures c.requires.within
+returns-in-Some c = λ d. simple-type c.args.source.now d c.args.at c.in-Some.next k.IntegerWord c.token_no-token.result refl refl refl c.in-Some.ensures c.token_no-token.ensures c.requires.within
 
 pub returns-in-Some-eat : goal.returns-in-Some-eat
 unfolding is right_side
-returns-in-Some-eat c = λ d. simple-type c.args.tokens.now d c.args.at c.in-Some-eat.next k.Boolean c.token_no-token.result refl refl refl c.in-Some-eat.ensures c.token_no-token.ensures c.requires.within
+returns-in-Some-eat c = λ d. simple-type c.args.source.now d c.args.at c.in-Some-eat.next k.Boolean c.token_no-token.result refl refl refl c.in-Some-eat.ensures c.token_no-token.ensures c.requires.within
 
 pub returns-in-Some-eat-2 : goal.returns-in-Some-eat-2
 unfolding is right_side
-returns-in-Some-eat-2 c = λ d. simple-type c.args.tokens.now d c.args.at c.in-Some-eat-2.next k.CharacterWord c.token_no-token.result refl refl refl c.in-Some-eat-2.ensures c.token_no-token.ensures c.requires.within
+returns-in-Some-eat-2 c = λ d. simple-type c.args.source.now d c.args.at c.in-Some-eat-2.next k.CharacterWord c.token_no-token.result refl refl refl c.in-Some-eat-2.ensures c.token_no-token.ensures c.requires.within
 
 pub returns-in-Some-eat-3 : goal.returns-in-Some-eat-3
 unfolding is right_side
-returns-in-Some-eat-3 c = λ d. simple-type c.args.tokens.now d c.args.at c.in-Some-eat-3.next k.TextWord c.token_no-token.result refl refl refl c.in-Some-eat-3.ensures c.token_no-token.ensures c.requires.within
+returns-in-Some-eat-3 c = λ d. simple-type c.args.source.now d c.args.at c.in-Some-eat-3.next k.TextWord c.token_no-token.result refl refl refl c.in-Some-eat-3.ensures c.token_no-token.ensures c.requires.within
 
 pub returns-in_err-next : goal.returns-in_err-next
 returns-in_err-next c = λ d.
-    let ws = c.args.tokens.now in
+    let ws = c.args.source.now in
     let i = c.args.at in
     let e = c.in_err-next.field-0.0 in
     let none = no-types (terminal_at ws i) c.in_default.ensures c.in_default-eat.ensures c.in_default-eat-2.ensures c.in_default-eat-3.ensures c.in_err-next.ensures.0 in
@@ -38,7 +38,7 @@ returns-in_err-next c = λ d.
 
 pub returns-in_err-next-2 : goal.returns-in_err-next-2
 returns-in_err-next-2 c = λ d.
-    let ws = c.args.tokens.now in
+    let ws = c.args.source.now in
     let i = c.args.at in
     let e = c.in_err-next-2.field-0.0 in
     let r = c.from_residual-in_err-next-2 in
@@ -48,7 +48,7 @@ returns-in_err-next-2 c = λ d.
 
 pub returns-in_err-class : goal.returns-in_err-class
 returns-in_err-class c = λ d.
-    let ws = c.args.tokens.now in
+    let ws = c.args.source.now in
     let i = c.args.at in
     let e = c.in_err-class.field-0.0 in
     let r = c.from_residual-in_err-class in
@@ -62,7 +62,7 @@ expect-requires-3-clause-within c = (c.in_ok-class.ensures 0).within
 
 pub returns-in_err-end : goal.returns-in_err-end
 returns-in_err-end c = λ d.
-    let ws = c.args.tokens.now in
+    let ws = c.args.source.now in
     let i = c.args.at in
     let e = c.in_err-end.field-0.0 in
     let r = c.from_residual-in_err-end in
@@ -73,7 +73,7 @@ returns-in_err-end c = λ d.
 
 pub returns : goal.returns
 returns c = λ d.
-    let ws = c.args.tokens.now in
+    let ws = c.args.source.now in
     let i = c.args.at in
     let n = c.token_no-token.result in
     let w0 = opened-ref ws d i c.in_ok-next.next n c.in_ok-next.ensures c.token_no-token.ensures c.requires.within in

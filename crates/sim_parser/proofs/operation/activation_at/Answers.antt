@@ -13,11 +13,11 @@ use Rattle.sim_parser.proofs.operation.activation_at.Goals as goal
 
 pub returns-in-Some : goal.returns-in-Some
 unfolding is
-returns-in-Some c = λ d. kept c.args.at refl (took c.args.tokens.now c.args.at c.in-Some.next activation_words k.Activate refl refl c.in-Some.ensures)
+returns-in-Some c = λ d. kept c.args.at refl (took c.args.source.now c.args.at c.in-Some.next activation_words k.Activate refl refl c.in-Some.ensures)
 
 pub returns-in_err-next : goal.returns-in_err-next
 returns-in_err-next c = λ d.
-    let ws = c.args.tokens.now in
+    let ws = c.args.source.now in
     let at = c.args.at in
     let e = c.in_err-next.field-0.0 in
     let none = ap (λ v. v || (is (terminal_at ws at) t.Reactivate || false)) c.in_default.ensures ∙ ap (λ v. v || false) c.in_err-next.ensures.0 in
@@ -26,4 +26,4 @@ returns-in_err-next c = λ d.
 
 pub returns : goal.returns
 unfolding is
-returns c = λ d. kept c.args.at refl (took c.args.tokens.now c.args.at c.in_ok-next.next activation_words k.Reactivate refl refl c.in_ok-next.ensures)
+returns c = λ d. kept c.args.at refl (took c.args.source.now c.args.at c.in_ok-next.next activation_words k.Reactivate refl refl c.in_ok-next.ensures)

@@ -10,7 +10,7 @@ use Rattle.sim_parser.proofs.operation.activation_statement.Goals as goal
 
 pub returns-in_err-activation : goal.returns-in_err-activation
 returns-in_err-activation c =
-    let ws = c.args.tokens.now in
+    let ws = c.args.source.now in
     let d = c.args.depth in
     let at = c.args.at in
     let w0 = along d at activation_row c.requires.within in
@@ -23,7 +23,7 @@ expression-requires-clause-within c = (c.in_ok-activation.ensures c.args.depth).
 
 pub returns-in_err-process : goal.returns-in_err-process
 returns-in_err-process c =
-    let ws = c.args.tokens.now in
+    let ws = c.args.source.now in
     let d = c.args.depth in
     let at = c.args.at in
     let w1 = past (along d at activation_row c.requires.within) (c.in_ok-activation.ensures d) in
@@ -34,7 +34,7 @@ returns-in_err-process c =
 
 pub returns-in_err-timing : goal.returns-in_err-timing
 returns-in_err-timing c =
-    let ws = c.args.tokens.now in
+    let ws = c.args.source.now in
     let d = c.args.depth in
     let at = c.args.at in
     let w2 = past (past (along d at activation_row c.requires.within) (c.in_ok-activation.ensures d)) (once c.in_ok-process.ensures.1) in

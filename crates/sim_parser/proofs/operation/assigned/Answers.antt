@@ -17,7 +17,7 @@ loop-sign-init c = record {
 
 pub returns-in_err-value : goal.returns-in_err-value
 returns-in_err-value c =
-    let ws = c.args.tokens.now in
+    let ws = c.args.source.now in
     let d = c.args.depth in
     let l = c.loop-sign in
     let w = c.in-Some.ensures in
@@ -29,7 +29,7 @@ returns-in_err-value c =
 
 pub loop-sign-preserved : goal.loop-sign-preserved
 loop-sign-preserved c =
-    let ws = c.args.tokens.now in
+    let ws = c.args.source.now in
     let d = c.args.depth in
     let l = c.loop-sign in
     let w = c.in-Some.ensures in
@@ -46,6 +46,6 @@ loop-sign-preserved c =
 
 pub returns : goal.returns
 returns c =
-    let ws = c.args.tokens.now in
+    let ws = c.args.source.now in
     let l = c.loop-sign in
     row-end assigned_shown l.rest.items l.invariant.goes (one_row g.Assigned assignments (Kept assignments ∷ Of Once g.Expression ∷ []) (terminal_at ws l.at) false refl c.in_default.ensures) l.invariant.ahead l.invariant.within

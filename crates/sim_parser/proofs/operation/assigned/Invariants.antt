@@ -6,10 +6,10 @@ use Rattle.sim_parser.proofs.operation.assigned.Given as goal
 
 abbrev pub invariant-loop-sign : goal.invariant-loop-sign
 invariant-loop-sign l = record {
-  goes : Row l.tokens l.depth g.Assigned l.start (map assigned_shown l.rest.items) l.at;
+  goes : Row l.source l.depth g.Assigned l.start (map assigned_shown l.rest.items) l.at;
   ahead : l.start ≤ l.at;
-  within : l.at < length l.tokens;
+  within : l.at < length l.source;
 }
 
 abbrev pub decreases-loop-sign : goal.decreases-loop-sign
-decreases-loop-sign l = length l.tokens - l.at
+decreases-loop-sign l = length l.source - l.at

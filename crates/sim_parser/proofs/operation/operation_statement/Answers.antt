@@ -11,7 +11,7 @@ use Rattle.sim_parser.proofs.operation.operation_statement.Goals as goal
 
 pub returns-in_err-left : goal.returns-in_err-left
 returns-in_err-left c =
-    let ws = c.args.tokens.now in
+    let ws = c.args.source.now in
     let d = c.args.depth in
     let at = c.args.at in
     let e = c.in_err-left.field-0.0 in
@@ -20,7 +20,7 @@ returns-in_err-left c =
 
 pub returns-in_err-rest : goal.returns-in_err-rest
 returns-in_err-rest c =
-    let ws = c.args.tokens.now in
+    let ws = c.args.source.now in
     let d = c.args.depth in
     let at = c.args.at in
     let e = c.in_err-rest.field-0.0 in
@@ -30,7 +30,7 @@ returns-in_err-rest c =
 
 pub returns : goal.returns
 returns c =
-    let ws = c.args.tokens.now in
+    let ws = c.args.source.now in
     let d = c.args.depth in
     let at = c.args.at in
     let left = c.in_ok-left.left in

@@ -12,7 +12,7 @@ use Rattle.sim_parser.proofs.operation.prior.Goals as goal
 
 pub returns-in-Some : goal.returns-in-Some
 returns-in-Some c = λ d.
-    let ws = c.args.tokens.now in
+    let ws = c.args.source.now in
     let at = c.args.at in
     let w = c.in-Some.ensures in
     let n = c.token_no.result in
@@ -22,4 +22,4 @@ returns-in-Some c = λ d.
 
 pub returns-in-None : goal.returns-in-None
 returns-in-None c = λ d.
-    skipped-all (one_row g.PriorMark (just t.Prior) (Kept (just t.Prior) ∷ []) (terminal_at c.args.tokens.now c.args.at) false refl (just_is _ _ _ c.in-None.ensures)) c.requires.within
+    skipped-all (one_row g.PriorMark (just t.Prior) (Kept (just t.Prior) ∷ []) (terminal_at c.args.source.now c.args.at) false refl (just_is _ _ _ c.in-None.ensures)) c.requires.within

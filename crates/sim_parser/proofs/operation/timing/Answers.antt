@@ -16,7 +16,7 @@ use Rattle.sim_parser.proofs.operation.timing.Goals as goal
 pub returns-in_err-time : goal.returns-in_err-time
 unfolding is
 returns-in_err-time c =
-    let ws = c.args.tokens.now in
+    let ws = c.args.source.now in
     let d = c.args.depth in
     let at = c.args.at in
     let w = c.in-Some.ensures in
@@ -29,7 +29,7 @@ returns-in_err-time c =
 pub returns-in-Some : goal.returns-in-Some
 unfolding is
 returns-in-Some c =
-    let ws = c.args.tokens.now in
+    let ws = c.args.source.now in
     let d = c.args.depth in
     let at = c.args.at in
     let w = c.in-Some.ensures in
@@ -41,7 +41,7 @@ returns-in-Some c =
 pub returns-in_err-time-2 : goal.returns-in_err-time-2
 unfolding is
 returns-in_err-time-2 c =
-    let ws = c.args.tokens.now in
+    let ws = c.args.source.now in
     let d = c.args.depth in
     let at = c.args.at in
     let w = c.in-Some-eat.ensures in
@@ -54,7 +54,7 @@ returns-in_err-time-2 c =
 pub returns-in-Some-eat : goal.returns-in-Some-eat
 unfolding is
 returns-in-Some-eat c =
-    let ws = c.args.tokens.now in
+    let ws = c.args.source.now in
     let d = c.args.depth in
     let at = c.args.at in
     let w = c.in-Some-eat.ensures in
@@ -66,7 +66,7 @@ returns-in-Some-eat c =
 pub returns-in_err-process : goal.returns-in_err-process
 unfolding is
 returns-in_err-process c =
-    let ws = c.args.tokens.now in
+    let ws = c.args.source.now in
     let d = c.args.depth in
     let at = c.args.at in
     let w = c.in-Some-eat-2.ensures in
@@ -79,7 +79,7 @@ returns-in_err-process c =
 pub returns-in-Some-eat-2 : goal.returns-in-Some-eat-2
 unfolding is
 returns-in-Some-eat-2 c =
-    let ws = c.args.tokens.now in
+    let ws = c.args.source.now in
     let d = c.args.depth in
     let at = c.args.at in
     let w = c.in-Some-eat-2.ensures in
@@ -90,12 +90,12 @@ returns-in-Some-eat-2 c =
 
 pub returns-in_default-eat-3 : goal.returns-in_default-eat-3
 returns-in_default-eat-3 c =
-    skipped-all (no_timing (terminal_at c.args.tokens.now c.args.at) c.in_default.ensures c.in_default-eat.ensures c.in_default-eat-2.ensures c.in_default-eat-3.ensures) c.requires.within
+    skipped-all (no_timing (terminal_at c.args.source.now c.args.at) c.in_default.ensures c.in_default-eat.ensures c.in_default-eat-2.ensures c.in_default-eat-3.ensures) c.requires.within
 
 pub returns-in_err-process-2 : goal.returns-in_err-process-2
 unfolding is
 returns-in_err-process-2 c =
-    let ws = c.args.tokens.now in
+    let ws = c.args.source.now in
     let d = c.args.depth in
     let at = c.args.at in
     let w = c.in-Some-eat-3.ensures in
@@ -108,7 +108,7 @@ returns-in_err-process-2 c =
 pub returns : goal.returns
 unfolding is
 returns c =
-    let ws = c.args.tokens.now in
+    let ws = c.args.source.now in
     let d = c.args.depth in
     let at = c.args.at in
     let w = c.in-Some-eat-3.ensures in

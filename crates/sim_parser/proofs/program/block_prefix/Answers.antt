@@ -13,17 +13,17 @@ use Rattle.sim_parser.proofs.program.block_prefix.Goals as goal
 
 pub returns-in_err-expect : goal.returns-in_err-expect
 returns-in_err-expect c =
-    let ws = c.args.tokens.now in
+    let ws = c.args.source.now in
     let a = terminal_at ws 0 in
     let e = c.in_err-expect.field-0.0 in
-    let none = no-row a c.in_err-expect.ensures.0 (ap (λ z. is z t.Identifier) (sym c.terminal_at_token.ensures) ∙ not_is _ _ true c.if-ne.ensures) in
+    let none = no-row a c.in_err-expect.ensures.0 (ap (λ z. is z t.Identifier) (sym c.terminal_at.ensures) ∙ not_is _ _ true c.if-ne.ensures) in
     let stops = no-program ws e none c.in_err-expect.ensures.1 in
     exit (GivesPrefix ws) c.from_residual.result e c.from_residual.ensures.1
     (stops, subst (NamesToken ws) (sym c.in_err-expect.ensures.1) c.requires.source.source.ended.some)
 
 pub returns-then-ne : goal.returns-then-ne
 returns-then-ne c =
-    let ws = c.args.tokens.now in
+    let ws = c.args.source.now in
     let row = plain-row (terminal_at ws 0) c.in_ok-expect.ensures.0 in
     record {
       reads = λ f m r. program-reads ws program_rest f m row r;
@@ -33,9 +33,9 @@ returns-then-ne c =
 
 pub returns-in_err-class : goal.returns-in_err-class
 returns-in_err-class c =
-    let ws = c.args.tokens.now in
+    let ws = c.args.source.now in
     let ended = c.requires.source.source.ended in
-    let row = prefixed-row (terminal_at ws 0) (ap (λ z. is z t.Identifier) (sym c.terminal_at_token.ensures) ∙ not_is _ _ false c.if-ne.ensures) in
+    let row = prefixed-row (terminal_at ws 0) (ap (λ z. is z t.Identifier) (sym c.terminal_at.ensures) ∙ not_is _ _ false c.if-ne.ensures) in
     let e = c.in_err-class.field-0.0 in
     let r = c.from_residual-in_err-class in
     exit (GivesPrefix ws) r.result e r.ensures.1 (
@@ -48,9 +48,9 @@ arguments-requires-clause-within c = (c.in_ok-class.ensures 0).within
 
 pub returns-in_err-arguments : goal.returns-in_err-arguments
 returns-in_err-arguments c =
-    let ws = c.args.tokens.now in
+    let ws = c.args.source.now in
     let ended = c.requires.source.source.ended in
-    let row = prefixed-row (terminal_at ws 0) (ap (λ z. is z t.Identifier) (sym c.terminal_at_token.ensures) ∙ not_is _ _ false c.if-ne.ensures) in
+    let row = prefixed-row (terminal_at ws 0) (ap (λ z. is z t.Identifier) (sym c.terminal_at.ensures) ∙ not_is _ _ false c.if-ne.ensures) in
     let w1 = past (along 0 0 prefixed_symbols ended.some) (c.in_ok-class.ensures 0) in
     let e = c.in_err-arguments.field-0.0 in
     let r = c.from_residual-in_err-arguments in
@@ -61,9 +61,9 @@ returns-in_err-arguments c =
 
 pub returns : goal.returns
 returns c =
-    let ws = c.args.tokens.now in
+    let ws = c.args.source.now in
     let ended = c.requires.source.source.ended in
-    let row = prefixed-row (terminal_at ws 0) (ap (λ z. is z t.Identifier) (sym c.terminal_at_token.ensures) ∙ not_is _ _ false c.if-ne.ensures) in
+    let row = prefixed-row (terminal_at ws 0) (ap (λ z. is z t.Identifier) (sym c.terminal_at.ensures) ∙ not_is _ _ false c.if-ne.ensures) in
     let w2 = past (past (along 0 0 prefixed_symbols ended.some) (c.in_ok-class.ensures 0)) c.in_ok-arguments.ensures in
     record {
       reads = λ f m r. program-reads ws prefixed_symbols (identifier c.in_ok-class.class (arguments (map shown c.in_ok-arguments.arguments.items) f)) m row (w2.leads.reads f m r);

@@ -34,7 +34,7 @@ use Rattle.sim_parser.proofs.statement.+statement.Goals.{for_statement-in-Values
 
 pub block_statement-returns-in_err-block : goal.block_statement-returns-in_err-block
 block_statement-returns-in_err-block u c =
-    let ws = c.args.tokens.now in
+    let ws = c.args.source.now in
     let d = c.args.depth in
     let i = c.args.at in
     let r = c.from_residual in
@@ -42,7 +42,7 @@ block_statement-returns-in_err-block u c =
 
 pub block_statement-returns : goal.block_statement-returns
 block_statement-returns u c =
-    let ws = c.args.tokens.now in
+    let ws = c.args.source.now in
     let d = c.args.depth in
     let i = c.args.at in
     let b = c.in_ok-block.block in
@@ -50,7 +50,7 @@ block_statement-returns u c =
 
 pub if_statement-returns-in_err-next : goal.if_statement-returns-in_err-next
 if_statement-returns-in_err-next u c =
-    let ws = c.args.tokens.now in
+    let ws = c.args.source.now in
     let d = c.args.depth in
     let i = c.args.at in
     let w0 = along d i if_row c.requires.within in
@@ -61,7 +61,7 @@ if_statement-returns-in_err-next u c =
 
 pub if_statement-returns-in_err-condition : goal.if_statement-returns-in_err-condition
 if_statement-returns-in_err-condition u c =
-    let ws = c.args.tokens.now in
+    let ws = c.args.source.now in
     let d = c.args.depth in
     let i = c.args.at in
     let w0 = along d i if_row c.requires.within in
@@ -73,7 +73,7 @@ if_statement-returns-in_err-condition u c =
 
 pub if_statement-returns-in_err-next-2 : goal.if_statement-returns-in_err-next-2
 if_statement-returns-in_err-next-2 u c =
-    let ws = c.args.tokens.now in
+    let ws = c.args.source.now in
     let d = c.args.depth in
     let i = c.args.at in
     let w0 = along d i if_row c.requires.within in
@@ -86,7 +86,7 @@ if_statement-returns-in_err-next-2 u c =
 
 pub if_statement-returns-in_err-first : goal.if_statement-returns-in_err-first
 if_statement-returns-in_err-first u c =
-    let ws = c.args.tokens.now in
+    let ws = c.args.source.now in
     let d = c.args.depth in
     let i = c.args.at in
     let w0 = along d i if_row c.requires.within in
@@ -100,7 +100,7 @@ if_statement-returns-in_err-first u c =
 
 pub if_statement-returns-in_err-else_branch : goal.if_statement-returns-in_err-else_branch
 if_statement-returns-in_err-else_branch u c =
-    let ws = c.args.tokens.now in
+    let ws = c.args.source.now in
     let d = c.args.depth in
     let i = c.args.at in
     let w0 = along d i if_row c.requires.within in
@@ -115,7 +115,7 @@ if_statement-returns-in_err-else_branch u c =
 
 pub if_statement-returns : goal.if_statement-returns
 if_statement-returns u c =
-    let ws = c.args.tokens.now in
+    let ws = c.args.source.now in
     let d = c.args.depth in
     let i = c.args.at in
     let n = c.token_no-token.result in
@@ -134,7 +134,7 @@ optional_branch-eat-requires-clause-no_end u c = ap (is t.EndOfSource) c.word.en
 
 pub optional_branch-returns-in_default : goal.optional_branch-returns-in_default
 optional_branch-returns-in_default u c =
-    let ws = c.args.tokens.now in
+    let ws = c.args.source.now in
     let d = c.args.depth in
     let i = c.args.at in
     let b = c.args.branch in
@@ -143,7 +143,7 @@ optional_branch-returns-in_default u c =
 
 pub optional_branch-returns-in_err-body : goal.optional_branch-returns-in_err-body
 optional_branch-returns-in_err-body u c =
-    let ws = c.args.tokens.now in
+    let ws = c.args.source.now in
     let d = c.args.depth in
     let i = c.args.at in
     let b = c.args.branch in
@@ -158,7 +158,7 @@ optional_branch-returns-in_err-body u c =
 
 pub optional_branch-returns : goal.optional_branch-returns
 optional_branch-returns u c =
-    let ws = c.args.tokens.now in
+    let ws = c.args.source.now in
     let d = c.args.depth in
     let i = c.args.at in
     let b = c.args.branch in
@@ -174,7 +174,7 @@ optional_branch-returns u c =
 
 pub while_statement-returns-in_err-next : goal.while_statement-returns-in_err-next
 while_statement-returns-in_err-next u c =
-    let ws = c.args.tokens.now in
+    let ws = c.args.source.now in
     let d = c.args.depth in
     let i = c.args.at in
     let w0 = along d i while_row c.requires.within in
@@ -185,7 +185,7 @@ while_statement-returns-in_err-next u c =
 
 pub while_statement-returns-in_err-condition : goal.while_statement-returns-in_err-condition
 while_statement-returns-in_err-condition u c =
-    let ws = c.args.tokens.now in
+    let ws = c.args.source.now in
     let d = c.args.depth in
     let i = c.args.at in
     let w0 = along d i while_row c.requires.within in
@@ -197,7 +197,7 @@ while_statement-returns-in_err-condition u c =
 
 pub while_statement-returns-in_err-body : goal.while_statement-returns-in_err-body
 while_statement-returns-in_err-body u c =
-    let ws = c.args.tokens.now in
+    let ws = c.args.source.now in
     let d = c.args.depth in
     let i = c.args.at in
     let w0 = along d i while_row c.requires.within in
@@ -210,7 +210,7 @@ while_statement-returns-in_err-body u c =
 
 pub while_statement-returns : goal.while_statement-returns
 while_statement-returns u c =
-    let ws = c.args.tokens.now in
+    let ws = c.args.source.now in
     let d = c.args.depth in
     let i = c.args.at in
     let n = c.token_no-token.result in
@@ -223,7 +223,7 @@ while_statement-returns u c =
 
 pub body-returns-in_err-next : goal.body-returns-in_err-next
 body-returns-in_err-next u c =
-    let ws = c.args.tokens.now in
+    let ws = c.args.source.now in
     let d = c.args.depth in
     let i = c.args.at in
     let w0 = along d i body_row c.requires.within in
@@ -234,7 +234,7 @@ body-returns-in_err-next u c =
 
 pub body-returns : goal.body-returns
 body-returns u c =
-    let ws = c.args.tokens.now in
+    let ws = c.args.source.now in
     let d = c.args.depth in
     let i = c.args.at in
     let w1 = past (along d i body_row c.requires.within) (marked c.in_ok-next.ensures) in
@@ -244,7 +244,7 @@ body-returns u c =
 
 pub for_statement-returns-in_err-next : goal.for_statement-returns-in_err-next
 for_statement-returns-in_err-next u c =
-    let ws = c.args.tokens.now in
+    let ws = c.args.source.now in
     let d = c.args.depth in
     let i = c.args.at in
     let w0 = along d i for_row c.requires.within in
@@ -255,7 +255,7 @@ for_statement-returns-in_err-next u c =
 
 pub for_statement-returns-in_err-variable : goal.for_statement-returns-in_err-variable
 for_statement-returns-in_err-variable u c =
-    let ws = c.args.tokens.now in
+    let ws = c.args.source.now in
     let d = c.args.depth in
     let i = c.args.at in
     let w0 = along d i for_row c.requires.within in
@@ -267,7 +267,7 @@ for_statement-returns-in_err-variable u c =
 
 pub for_statement-returns-in_err-list : goal.for_statement-returns-in_err-list
 for_statement-returns-in_err-list u c =
-    let ws = c.args.tokens.now in
+    let ws = c.args.source.now in
     let d = c.args.depth in
     let i = c.args.at in
     let w0 = along d i for_row c.requires.within in
@@ -280,7 +280,7 @@ for_statement-returns-in_err-list u c =
 
 pub for_statement-returns-in_err-body : goal.for_statement-returns-in_err-body
 for_statement-returns-in_err-body u c =
-    let ws = c.args.tokens.now in
+    let ws = c.args.source.now in
     let d = c.args.depth in
     let i = c.args.at in
     let w0 = along d i for_row c.requires.within in
@@ -294,7 +294,7 @@ for_statement-returns-in_err-body u c =
 
 pub identified_statement-returns-in_err-name : goal.identified_statement-returns-in_err-name
 identified_statement-returns-in_err-name u c =
-    let ws = c.args.tokens.now in
+    let ws = c.args.source.now in
     let d = c.args.depth in
     let i = c.args.at in
     let w0 = along d i identified_row c.requires.within in
@@ -305,7 +305,7 @@ identified_statement-returns-in_err-name u c =
 
 pub identified_statement-returns-in_err-arguments : goal.identified_statement-returns-in_err-arguments
 identified_statement-returns-in_err-arguments u c =
-    let ws = c.args.tokens.now in
+    let ws = c.args.source.now in
     let d = c.args.depth in
     let i = c.args.at in
     let w0 = along d i identified_row c.requires.within in
@@ -317,12 +317,12 @@ identified_statement-returns-in_err-arguments u c =
 
 pub identified_statement-returns-in_err-block : goal.identified_statement-returns-in_err-block
 identified_statement-returns-in_err-block u c =
-    let ws = c.args.tokens.now in
+    let ws = c.args.source.now in
     let d = c.args.depth in
     let i = c.args.at in
     let w2 = past (past (along d i identified_row c.requires.within) (c.in_ok-name.ensures d)) c.in_ok-arguments.ensures in
     let j = c.in_ok-arguments.next in
-    let begin = ap (λ z. is z t.Begin) (sym c.terminal_at_token.ensures) ∙ made_is _ _ true c.if-eq.ensures in
+    let begin = ap (λ z. is z t.Begin) (sym c.terminal_at.ensures) ∙ made_is _ _ true c.if-eq.ensures in
     let m0 = opened ws d j g.AfterFirstOperand (one g.Compound) refl (after_head (terminal_at ws j) true begin) w2.within in
     let e = c.in_err-block.field-0.0 in
     let r = c.from_residual-in_err-block in
@@ -331,12 +331,12 @@ identified_statement-returns-in_err-block u c =
 
 pub identified_statement-returns-then-eq : goal.identified_statement-returns-then-eq
 identified_statement-returns-then-eq u c =
-    let ws = c.args.tokens.now in
+    let ws = c.args.source.now in
     let d = c.args.depth in
     let i = c.args.at in
     let w2 = past (past (along d i identified_row c.requires.within) (c.in_ok-name.ensures d)) c.in_ok-arguments.ensures in
     let j = c.in_ok-arguments.next in
-    let begin = ap (λ z. is z t.Begin) (sym c.terminal_at_token.ensures) ∙ made_is _ _ true c.if-eq.ensures in
+    let begin = ap (λ z. is z t.Begin) (sym c.terminal_at.ensures) ∙ made_is _ _ true c.if-eq.ensures in
     let m0 = opened ws d j g.AfterFirstOperand (one g.Compound) refl (after_head (terminal_at ws j) true begin) w2.within in
     let b = c.in_ok-block.block in
     let m1 = gone (to m0 (once c.in_ok-block.ensures)) (node g.Compound (block_shown b) done) refl in
@@ -345,12 +345,12 @@ identified_statement-returns-then-eq u c =
 
 pub identified_statement-returns-in_err-selectors : goal.identified_statement-returns-in_err-selectors
 identified_statement-returns-in_err-selectors u c =
-    let ws = c.args.tokens.now in
+    let ws = c.args.source.now in
     let d = c.args.depth in
     let i = c.args.at in
     let w2 = past (past (along d i identified_row c.requires.within) (c.in_ok-name.ensures d)) c.in_ok-arguments.ensures in
     let j = c.in_ok-arguments.next in
-    let begin = ap (λ z. is z t.Begin) (sym c.terminal_at_token.ensures) ∙ made_is _ _ false c.if-eq.ensures in
+    let begin = ap (λ z. is z t.Begin) (sym c.terminal_at.ensures) ∙ made_is _ _ false c.if-eq.ensures in
     let m0 = opened ws d j g.AfterFirstOperand (Of Many g.Selection ∷ Of Many g.Assigned ∷ []) refl (after_head (terminal_at ws j) false begin) w2.within in
     let e = c.in_err-selectors.field-0.0 in
     let r = c.from_residual-in_err-selectors in
@@ -359,12 +359,12 @@ identified_statement-returns-in_err-selectors u c =
 
 pub identified_statement-returns-in_err-rest : goal.identified_statement-returns-in_err-rest
 identified_statement-returns-in_err-rest u c =
-    let ws = c.args.tokens.now in
+    let ws = c.args.source.now in
     let d = c.args.depth in
     let i = c.args.at in
     let w2 = past (past (along d i identified_row c.requires.within) (c.in_ok-name.ensures d)) c.in_ok-arguments.ensures in
     let j = c.in_ok-arguments.next in
-    let begin = ap (λ z. is z t.Begin) (sym c.terminal_at_token.ensures) ∙ made_is _ _ false c.if-eq.ensures in
+    let begin = ap (λ z. is z t.Begin) (sym c.terminal_at.ensures) ∙ made_is _ _ false c.if-eq.ensures in
     let m0 = opened ws d j g.AfterFirstOperand (Of Many g.Selection ∷ Of Many g.Assigned ∷ []) refl (after_head (terminal_at ws j) false begin) w2.within in
     let m1 = to m0 c.in_ok-selectors.ensures in
     let e = c.in_err-rest.field-0.0 in
@@ -374,12 +374,12 @@ identified_statement-returns-in_err-rest u c =
 
 pub identified_statement-returns : goal.identified_statement-returns
 identified_statement-returns u c =
-    let ws = c.args.tokens.now in
+    let ws = c.args.source.now in
     let d = c.args.depth in
     let i = c.args.at in
     let w2 = past (past (along d i identified_row c.requires.within) (c.in_ok-name.ensures d)) c.in_ok-arguments.ensures in
     let j = c.in_ok-arguments.next in
-    let begin = ap (λ z. is z t.Begin) (sym c.terminal_at_token.ensures) ∙ made_is _ _ false c.if-eq.ensures in
+    let begin = ap (λ z. is z t.Begin) (sym c.terminal_at.ensures) ∙ made_is _ _ false c.if-eq.ensures in
     let m0 = opened ws d j g.AfterFirstOperand (Of Many g.Selection ∷ Of Many g.Assigned ∷ []) refl (after_head (terminal_at ws j) false begin) w2.within in
     let m2 = to (to m0 c.in_ok-selectors.ensures) c.in_ok-rest.ensures in
     let x = c.in_ok-name.name in
@@ -396,75 +396,75 @@ identified_statement-returns u c =
 
 pub statement-returns-then-not-begins_statement : goal.statement-returns-then-not-begins_statement
 statement-returns-then-not-begins_statement u c =
-    let ws = c.args.tokens.now in
+    let ws = c.args.source.now in
     let d = c.args.depth in
     let i = c.args.at in
     let n = c.token_no-token.result in
-    let none = ap (one_of begins) (sym c.terminal_at_token.ensures) ∙ sym c.begins_statement.ensures ∙ c.if-not-begins_statement.true in
+    let none = ap (one_of begins) (sym c.terminal_at.ensures) ∙ sym c.begins_statement.ensures ∙ c.if-not-begins_statement.true in
     subst (λ z. ReadsPart ws d g.Statement i z i) (ap (λ z. place z done) (sym c.token_no-token.ensures) ∙ sym (shown-Empty n)) (nothing_read ws d i none c.requires.within)
 
 pub statement-returns-then-depth-eq-LIMIT : goal.statement-returns-then-depth-eq-LIMIT
 statement-returns-then-depth-eq-LIMIT u c =
-    let b = ap (one_of begins) (sym c.terminal_at_token.ensures) ∙ sym c.begins_statement.ensures ∙ c.if-not-begins_statement.false in
-    too_deep c.args.tokens.now c.args.depth c.args.at b (omega arith)
+    let b = ap (one_of begins) (sym c.terminal_at.ensures) ∙ sym c.begins_statement.ensures ∙ c.if-not-begins_statement.false in
+    too_deep c.args.source.now c.args.depth c.args.at b (omega arith)
 
 pub statement-returns : goal.statement-returns
 statement-returns u c =
-    let b = ap (one_of begins) (sym c.terminal_at_token.ensures) ∙ sym c.begins_statement.ensures ∙ c.if-not-begins_statement.false in
-    from_inside c.args.tokens.now c.args.depth c.args.at b (under-limit c.args.depth c.requires.shallow c.if-depth-eq-LIMIT.false) c.begun_statement.result c.begun_statement.ensures
+    let b = ap (one_of begins) (sym c.terminal_at.ensures) ∙ sym c.begins_statement.ensures ∙ c.if-not-begins_statement.false in
+    from_inside c.args.source.now c.args.depth c.args.at b (under-limit c.args.depth c.requires.shallow c.if-depth-eq-LIMIT.false) c.begun_statement.result c.begun_statement.ensures
 
 pub begun_statement-returns-in-Begin : goal.begun_statement-returns-in-Begin
 begun_statement-returns-in-Begin u c =
-    inside c.args.tokens.now c.args.depth c.args.at (one g.Compound) (ap (right_side g.Statement) (sym c.terminal_at_token.ensures ∙ c.in-Begin.is) ∙ block_at) c.block_statement.result c.block_statement.ensures
+    inside c.args.source.now c.args.depth c.args.at (one g.Compound) (ap (right_side g.Statement) (sym c.terminal_at.ensures ∙ c.in-Begin.is) ∙ block_at) c.block_statement.result c.block_statement.ensures
 
 pub begun_statement-returns-in-Identifier : goal.begun_statement-returns-in-Identifier
 begun_statement-returns-in-Identifier u c =
-    inside c.args.tokens.now c.args.depth c.args.at identified_row (ap (right_side g.Statement) (sym c.terminal_at_token.ensures ∙ c.in-Identifier.is) ∙ identified_at) c.identified_statement.result c.identified_statement.ensures
+    inside c.args.source.now c.args.depth c.args.at identified_row (ap (right_side g.Statement) (sym c.terminal_at.ensures ∙ c.in-Identifier.is) ∙ identified_at) c.identified_statement.result c.identified_statement.ensures
 
 pub begun_statement-returns-in-If : goal.begun_statement-returns-in-If
 begun_statement-returns-in-If u c =
-    inside c.args.tokens.now c.args.depth c.args.at if_row (ap (right_side g.Statement) (sym c.terminal_at_token.ensures ∙ c.in-If.is) ∙ if_at) c.if_statement.result c.if_statement.ensures
+    inside c.args.source.now c.args.depth c.args.at if_row (ap (right_side g.Statement) (sym c.terminal_at.ensures ∙ c.in-If.is) ∙ if_at) c.if_statement.result c.if_statement.ensures
 
 pub begun_statement-returns-in-While : goal.begun_statement-returns-in-While
 begun_statement-returns-in-While u c =
-    inside c.args.tokens.now c.args.depth c.args.at while_row (ap (right_side g.Statement) (sym c.terminal_at_token.ensures ∙ c.in-While.is) ∙ while_at) c.while_statement.result c.while_statement.ensures
+    inside c.args.source.now c.args.depth c.args.at while_row (ap (right_side g.Statement) (sym c.terminal_at.ensures ∙ c.in-While.is) ∙ while_at) c.while_statement.result c.while_statement.ensures
 
 pub begun_statement-returns-in-For : goal.begun_statement-returns-in-For
 begun_statement-returns-in-For u c =
-    inside c.args.tokens.now c.args.depth c.args.at for_row (ap (right_side g.Statement) (sym c.terminal_at_token.ensures ∙ c.in-For.is) ∙ for_at) c.for_statement.result c.for_statement.ensures
+    inside c.args.source.now c.args.depth c.args.at for_row (ap (right_side g.Statement) (sym c.terminal_at.ensures ∙ c.in-For.is) ∙ for_at) c.for_statement.result c.for_statement.ensures
 
 pub begun_statement-returns-in-Inspect : goal.begun_statement-returns-in-Inspect
 begun_statement-returns-in-Inspect u c =
-    inside c.args.tokens.now c.args.depth c.args.at inspect_row (ap (right_side g.Statement) (sym c.terminal_at_token.ensures ∙ c.in-Inspect.is) ∙ inspect_at) c.inspect_statement.result c.inspect_statement.ensures
+    inside c.args.source.now c.args.depth c.args.at inspect_row (ap (right_side g.Statement) (sym c.terminal_at.ensures ∙ c.in-Inspect.is) ∙ inspect_at) c.inspect_statement.result c.inspect_statement.ensures
 
 pub begun_statement-returns-in-Inner : goal.begun_statement-returns-in-Inner
 begun_statement-returns-in-Inner u c =
-    inside c.args.tokens.now c.args.depth c.args.at (Kept (just t.Inner) ∷ []) (ap (right_side g.Statement) (sym c.terminal_at_token.ensures ∙ c.in-Inner.is) ∙ inner_at) c.inner_statement.result
+    inside c.args.source.now c.args.depth c.args.at (Kept (just t.Inner) ∷ []) (ap (right_side g.Statement) (sym c.terminal_at.ensures ∙ c.in-Inner.is) ∙ inner_at) c.inner_statement.result
     (c.inner_statement.ensures c.args.depth)
 
 pub begun_statement-returns-in-Activate : goal.begun_statement-returns-in-Activate
 begun_statement-returns-in-Activate u c =
-    let ws = c.args.tokens.now in
+    let ws = c.args.source.now in
     let i = c.args.at in
-    let at : right_side g.Statement c.terminal_at_token.result ≡ Some activation_row = elim c.in-Activate.is [
+    let at : right_side g.Statement c.terminal_at.result ≡ Some activation_row = elim c.in-Activate.is [
       | inl e ↦ ap (right_side g.Statement) e ∙ activate_at
       | inr e ↦ ap (right_side g.Statement) e ∙ reactivate_at
     ] in
-    inside ws c.args.depth i activation_row (ap (right_side g.Statement) (sym c.terminal_at_token.ensures) ∙ at) c.activation_statement.result c.activation_statement.ensures
+    inside ws c.args.depth i activation_row (ap (right_side g.Statement) (sym c.terminal_at.ensures) ∙ at) c.activation_statement.result c.activation_statement.ensures
 
 pub begun_statement-returns-in_default : goal.begun_statement-returns-in_default
 begun_statement-returns-in_default u c =
-    let ws = c.args.tokens.now in
+    let ws = c.args.source.now in
     let i = c.args.at in
-    let a = c.terminal_at_token.result in
+    let a = c.terminal_at.result in
     let n = c.in_default in
-    let b = ap (one_of begins) c.terminal_at_token.ensures ∙ c.requires.begins in
+    let b = ap (one_of begins) c.terminal_at.ensures ∙ c.requires.begins in
     let h = operation_begins a b n.not-Begin n.not-Identifier n.not-Inner n.not-If n.not-While n.not-For n.not-Inspect n.not-Activate n.not-Reactivate in
-    inside ws c.args.depth i operation_row (ap (right_side g.Statement) (sym c.terminal_at_token.ensures) ∙ operation_stands a h) c.operation_statement.result c.operation_statement.ensures
+    inside ws c.args.depth i operation_row (ap (right_side g.Statement) (sym c.terminal_at.ensures) ∙ operation_stands a h) c.operation_statement.result c.operation_statement.ensures
 
 pub for_statement-returns : goal.for_statement-returns
 for_statement-returns u c =
-    let ws = c.args.tokens.now in
+    let ws = c.args.source.now in
     let d = c.args.depth in
     let i = c.args.at in
     let n = c.token_no-token.result in
@@ -492,7 +492,7 @@ for_statement-for_list-requires-clause-within u c = (c.in_ok-variable.ensures 0)
 pub for_statement-body-requires : goal.for_statement-body-requires
 for_statement-body-requires u c =
     let q = c.in_ok-list.ensures in
-    (omega (arith, c.decreases), (c.requires.source, (q.within, c.requires.shallow)))
+    (omega (arith, c.decreases), (q.within, c.requires.shallow))
 
 pub identified_statement-arguments-requires-clause-within : goal.identified_statement-arguments-requires-clause-within
 identified_statement-arguments-requires-clause-within u c = (c.in_ok-name.ensures 0).within
@@ -500,11 +500,11 @@ identified_statement-arguments-requires-clause-within u c = (c.in_ok-name.ensure
 pub identified_statement-compound-requires : goal.identified_statement-compound-requires
 identified_statement-compound-requires u c =
     let q = c.in_ok-arguments.ensures in
-    (omega (arith, c.decreases), (c.requires.source, (q.within, c.requires.shallow)))
+    (omega (arith, c.decreases), (q.within, c.requires.shallow))
 
 pub inspect_statement-returns-in_err-next : goal.inspect_statement-returns-in_err-next
 inspect_statement-returns-in_err-next u c =
-    let ws = c.args.tokens.now in
+    let ws = c.args.source.now in
     let d = c.args.depth in
     let i = c.args.at in
     let w0 = along d i inspect_row c.requires.within in
@@ -515,7 +515,7 @@ inspect_statement-returns-in_err-next u c =
 
 pub inspect_statement-returns-in_err-object : goal.inspect_statement-returns-in_err-object
 inspect_statement-returns-in_err-object u c =
-    let ws = c.args.tokens.now in
+    let ws = c.args.source.now in
     let d = c.args.depth in
     let i = c.args.at in
     let w0 = along d i inspect_row c.requires.within in
@@ -527,14 +527,14 @@ inspect_statement-returns-in_err-object u c =
 
 pub inspect_statement-returns-in_err-connection : goal.inspect_statement-returns-in_err-connection
 inspect_statement-returns-in_err-connection u c =
-    let ws = c.args.tokens.now in
+    let ws = c.args.source.now in
     let d = c.args.depth in
     let i = c.args.at in
     let w0 = along d i inspect_row c.requires.within in
     let w1 = past w0 (kept i refl (took_one ws i c.in_ok-next.next k.Inspect refl c.in_ok-next.ensures)) in
     let w2 = past w1 (once c.in_ok-object.ensures.1) in
     let j = c.in_ok-object.next in
-    let h = ap (λ z. is z t.Do) (sym c.terminal_at_token.ensures) ∙ made_is _ _ true c.if-eq.ensures in
+    let h = ap (λ z. is z t.Do) (sym c.terminal_at.ensures) ∙ made_is _ _ true c.if-eq.ensures in
     let m0 = opened ws d j g.Arms connection_row refl (by_test g.Arms (terminal_at ws j) t.Do connection_row h arms_do) w2.within in
     let e = c.in_err-connection.field-0.0 in
     let r = c.from_residual-in_err-connection in
@@ -543,14 +543,14 @@ inspect_statement-returns-in_err-connection u c =
 
 pub inspect_statement-returns-in_err-otherwise : goal.inspect_statement-returns-in_err-otherwise
 inspect_statement-returns-in_err-otherwise u c =
-    let ws = c.args.tokens.now in
+    let ws = c.args.source.now in
     let d = c.args.depth in
     let i = c.args.at in
     let w0 = along d i inspect_row c.requires.within in
     let w1 = past w0 (kept i refl (took_one ws i c.in_ok-next.next k.Inspect refl c.in_ok-next.ensures)) in
     let w2 = past w1 (once c.in_ok-object.ensures.1) in
     let j = c.in_ok-object.next in
-    let h = ap (λ z. is z t.Do) (sym c.terminal_at_token.ensures) ∙ made_is _ _ true c.if-eq.ensures in
+    let h = ap (λ z. is z t.Do) (sym c.terminal_at.ensures) ∙ made_is _ _ true c.if-eq.ensures in
     let m0 = opened ws d j g.Arms connection_row refl (by_test g.Arms (terminal_at ws j) t.Do connection_row h arms_do) w2.within in
     let w3 = past w2 (once (closed-by m0 (connection_shown c.in_ok-connection.connection) c.in_ok-connection.ensures (connection_shown c.in_ok-connection.connection) refl)) in
     let e = c.in_err-otherwise.field-0.0 in
@@ -560,7 +560,7 @@ inspect_statement-returns-in_err-otherwise u c =
 
 pub inspect_statement-returns-then-eq : goal.inspect_statement-returns-then-eq
 inspect_statement-returns-then-eq u c =
-    let ws = c.args.tokens.now in
+    let ws = c.args.source.now in
     let d = c.args.depth in
     let i = c.args.at in
     let n = c.token_no-token.result in
@@ -568,7 +568,7 @@ inspect_statement-returns-then-eq u c =
     let w1 = past w0 (kept n.0 c.token_no-token.ensures (took_one ws i c.in_ok-next.next k.Inspect refl c.in_ok-next.ensures)) in
     let w2 = past w1 (once c.in_ok-object.ensures.1) in
     let j = c.in_ok-object.next in
-    let h = ap (λ z. is z t.Do) (sym c.terminal_at_token.ensures) ∙ made_is _ _ true c.if-eq.ensures in
+    let h = ap (λ z. is z t.Do) (sym c.terminal_at.ensures) ∙ made_is _ _ true c.if-eq.ensures in
     let m0 = opened ws d j g.Arms connection_row refl (by_test g.Arms (terminal_at ws j) t.Do connection_row h arms_do) w2.within in
     let w3 = past w2 (once (closed-by m0 (connection_shown c.in_ok-connection.connection) c.in_ok-connection.ensures (connection_shown c.in_ok-connection.connection) refl)) in
     let a = c.in_ok-body.body in
@@ -579,7 +579,7 @@ inspect_statement-returns-then-eq u c =
 
 pub inspect_statement-returns-in_err-arms : goal.inspect_statement-returns-in_err-arms
 inspect_statement-returns-in_err-arms u c =
-    let ws = c.args.tokens.now in
+    let ws = c.args.source.now in
     let d = c.args.depth in
     let i = c.args.at in
     let w0 = along d i inspect_row c.requires.within in
@@ -592,7 +592,7 @@ inspect_statement-returns-in_err-arms u c =
 
 pub inspect_statement-returns-in_err-otherwise-2 : goal.inspect_statement-returns-in_err-otherwise-2
 inspect_statement-returns-in_err-otherwise-2 u c =
-    let ws = c.args.tokens.now in
+    let ws = c.args.source.now in
     let d = c.args.depth in
     let i = c.args.at in
     let w0 = along d i inspect_row c.requires.within in
@@ -606,7 +606,7 @@ inspect_statement-returns-in_err-otherwise-2 u c =
 
 pub inspect_statement-returns : goal.inspect_statement-returns
 inspect_statement-returns u c =
-    let ws = c.args.tokens.now in
+    let ws = c.args.source.now in
     let d = c.args.depth in
     let i = c.args.at in
     let n = c.token_no-token.result in
@@ -621,7 +621,7 @@ inspect_statement-returns u c =
 
 pub when_arms-returns-in_err-expect : goal.when_arms-returns-in_err-expect
 when_arms-returns-in_err-expect u c =
-    let ws = c.args.tokens.now in
+    let ws = c.args.source.now in
     let d = c.args.depth in
     let i = c.args.start in
     let e = c.in_err-expect.field-0.0 in
@@ -629,9 +629,9 @@ when_arms-returns-in_err-expect u c =
     exit (λ r. GivesPart ws d g.Arms i (λ v. row g.WhenArm (map when_shown v.items) done) r) r.result e r.ensures.1
     (unexpected ws d i g.Arms e c.in_err-expect.ensures.1 (no_arms (terminal_at ws i) (no_do (terminal_at ws i) c.requires.no_do) c.in_err-expect.ensures.0))
 
-pub when_arms-loop-alloc-init : goal.when_arms-loop-alloc-init
-when_arms-loop-alloc-init u c =
-    let ws = c.args.tokens.now in
+pub when_arms-loop-arms-init : goal.when_arms-loop-arms-init
+when_arms-loop-arms-init u c =
+    let ws = c.args.source.now in
     let d = c.args.depth in
     let i = c.args.start in
     record {
@@ -642,24 +642,24 @@ when_arms-loop-alloc-init u c =
 
 pub when_arms-returns-in_err-arm : goal.when_arms-returns-in_err-arm
 when_arms-returns-in_err-arm u c =
-    let ws = c.args.tokens.now in
+    let ws = c.args.source.now in
     let d = c.args.depth in
     let i = c.args.start in
-    let l = c.loop-alloc in
+    let l = c.loop-arms in
     let h = c.in_ok-expect.ensures.0 in
-    let at = ap (λ z. is z t.When) (sym c.terminal_at_token.ensures) ∙ made_is _ _ true c.loop-alloc-test.ensures in
+    let at = ap (λ z. is z t.When) (sym c.terminal_at.ensures) ∙ made_is _ _ true c.loop-arms-test.ensures in
     let w0 = opened ws d i g.Arms arms_row refl (by_test g.Arms (terminal_at ws i) t.When arms_row h arms_when) c.requires.within in
     let e = c.in_err-arm.field-0.0 in
     let r = c.from_residual-in_err-arm in
     exit (λ r. GivesPart ws d g.Arms i (λ v. row g.WhenArm (map when_shown v.items) done) r) r.result e r.ensures.1
     (stops-at Once w0 e (many_stops ws d i g.WhenArm arm_row [] (one_row g.WhenArm (just t.When) arm_row (terminal_at ws i) true refl (just_is _ _ _ h)) e (row-stops ws d i l.at g.WhenArm _ l.invariant.goes e (many_of_one ws d l.at g.WhenArm arm_row (one_row g.WhenArm (just t.When) arm_row (terminal_at ws l.at) true refl (just_is _ _ _ at)) e c.in_err-arm.ensures) [])) [])
 
-pub when_arms-loop-alloc-preserved : goal.when_arms-loop-alloc-preserved
-when_arms-loop-alloc-preserved u c =
-    let ws = c.args.tokens.now in
+pub when_arms-loop-arms-preserved : goal.when_arms-loop-arms-preserved
+when_arms-loop-arms-preserved u c =
+    let ws = c.args.source.now in
     let d = c.args.depth in
     let i = c.args.start in
-    let l = c.loop-alloc in
+    let l = c.loop-arms in
     let p = c.in_ok-arm.ensures in
     record {
       goes = row-more when_shown l.arms.items c.push.new.self.items c.in_ok-arm.arm (when_shown c.in_ok-arm.arm) l.invariant.goes p c.in_ok-push.ensures.items refl;
@@ -669,21 +669,21 @@ when_arms-loop-alloc-preserved u c =
 
 pub when_arms-returns : goal.when_arms-returns
 when_arms-returns u c =
-    let ws = c.args.tokens.now in
+    let ws = c.args.source.now in
     let d = c.args.depth in
     let i = c.args.start in
-    let l = c.loop-alloc in
+    let l = c.loop-arms in
     let h = c.in_ok-expect.ensures.0 in
     let w0 = opened ws d i g.Arms arms_row refl (by_test g.Arms (terminal_at ws i) t.When arms_row h arms_when) c.requires.within in
     let fs = map when_shown l.arms.items in
-    let no = ap (λ z. is z t.When) (sym c.terminal_at_token.ensures) ∙ made_is _ _ false c.loop-alloc-test.ensures in
+    let no = ap (λ z. is z t.When) (sym c.terminal_at.ensures) ∙ made_is _ _ false c.loop-arms-test.ensures in
     let to_end = row-end when_shown l.arms.items l.invariant.goes (one_row g.WhenArm (just t.When) arm_row (terminal_at ws l.at) false refl (just_is _ _ _ no)) l.invariant.ahead l.invariant.within in
     let read = to_end.reads [] done l.at reads-done in
     closed-by w0 (row g.WhenArm fs done) (record { reads = many_reads (one_row g.WhenArm (just t.When) arm_row (terminal_at ws i) true refl (just_is _ _ _ h)) read; ahead = l.invariant.ahead; within = l.invariant.within }) (row g.WhenArm fs done) refl
 
 pub when_arm-returns-in_err-next : goal.when_arm-returns-in_err-next
 when_arm-returns-in_err-next u c =
-    let ws = c.args.tokens.now in
+    let ws = c.args.source.now in
     let d = c.args.depth in
     let i = c.args.at in
     let e = c.in_err-next.field-0.0 in
@@ -693,7 +693,7 @@ when_arm-returns-in_err-next u c =
 
 pub when_arm-returns-in_err-class : goal.when_arm-returns-in_err-class
 when_arm-returns-in_err-class u c =
-    let ws = c.args.tokens.now in
+    let ws = c.args.source.now in
     let d = c.args.depth in
     let i = c.args.at in
     let m0 = opened ws d i g.WhenArm arm_row refl (one_row g.WhenArm (just t.When) arm_row (terminal_at ws i) true refl (just_is _ _ _ c.in_ok-next.ensures.0)) c.requires.within in
@@ -705,7 +705,7 @@ when_arm-returns-in_err-class u c =
 
 pub when_arm-returns-in_err-connection : goal.when_arm-returns-in_err-connection
 when_arm-returns-in_err-connection u c =
-    let ws = c.args.tokens.now in
+    let ws = c.args.source.now in
     let d = c.args.depth in
     let i = c.args.at in
     let m0 = opened ws d i g.WhenArm arm_row refl (one_row g.WhenArm (just t.When) arm_row (terminal_at ws i) true refl (just_is _ _ _ c.in_ok-next.ensures.0)) c.requires.within in
@@ -718,7 +718,7 @@ when_arm-returns-in_err-connection u c =
 
 pub when_arm-returns : goal.when_arm-returns
 when_arm-returns u c =
-    let ws = c.args.tokens.now in
+    let ws = c.args.source.now in
     let d = c.args.depth in
     let i = c.args.at in
     let n = c.token_no-token.result in
@@ -730,7 +730,7 @@ when_arm-returns u c =
 
 pub connected_at-returns-in_err-next : goal.connected_at-returns-in_err-next
 connected_at-returns-in_err-next u c =
-    let ws = c.args.tokens.now in
+    let ws = c.args.source.now in
     let d = c.args.depth in
     let i = c.args.at in
     let w0 = along d i connection_row c.requires.within in
@@ -741,7 +741,7 @@ connected_at-returns-in_err-next u c =
 
 pub connected_at-returns-in_err-body : goal.connected_at-returns-in_err-body
 connected_at-returns-in_err-body u c =
-    let ws = c.args.tokens.now in
+    let ws = c.args.source.now in
     let d = c.args.depth in
     let i = c.args.at in
     let w0 = along d i connection_row c.requires.within in
@@ -753,7 +753,7 @@ connected_at-returns-in_err-body u c =
 
 pub connected_at-returns : goal.connected_at-returns
 connected_at-returns u c =
-    let ws = c.args.tokens.now in
+    let ws = c.args.source.now in
     let d = c.args.depth in
     let i = c.args.at in
     let n = c.token_no-opening.result in
@@ -765,7 +765,7 @@ connected_at-returns u c =
 
 pub compound-returns-in_err-next : goal.compound-returns-in_err-next
 compound-returns-in_err-next u c =
-    let ws = c.args.tokens.now in
+    let ws = c.args.source.now in
     let d = c.args.depth in
     let i = c.args.at in
     let e = c.in_err-next.field-0.0 in
@@ -775,7 +775,7 @@ compound-returns-in_err-next u c =
 
 pub compound-returns-in_err-declarations : goal.compound-returns-in_err-declarations
 compound-returns-in_err-declarations u c =
-    let ws = c.args.tokens.now in
+    let ws = c.args.source.now in
     let d = c.args.depth in
     let i = c.args.at in
     let w0 = opened ws d i g.Compound compound_row refl (one_row g.Compound (just t.Begin) compound_row (terminal_at ws i) true refl (just_is _ _ _ c.in_ok-next.ensures.0)) c.requires.within in
@@ -788,7 +788,7 @@ compound-returns-in_err-declarations u c =
 
 pub compound-returns-in_err-sequence : goal.compound-returns-in_err-sequence
 compound-returns-in_err-sequence u c =
-    let ws = c.args.tokens.now in
+    let ws = c.args.source.now in
     let d = c.args.depth in
     let i = c.args.at in
     let w0 = opened ws d i g.Compound compound_row refl (one_row g.Compound (just t.Begin) compound_row (terminal_at ws i) true refl (just_is _ _ _ c.in_ok-next.ensures.0)) c.requires.within in
@@ -801,7 +801,7 @@ compound-returns-in_err-sequence u c =
 
 pub compound-returns : goal.compound-returns
 compound-returns u c =
-    let ws = c.args.tokens.now in
+    let ws = c.args.source.now in
     let d = c.args.depth in
     let i = c.args.at in
     let n = c.token_no-token.result in
@@ -817,14 +817,14 @@ compound-returns u c =
 
 pub declarations-loop-list-init : goal.declarations-loop-list-init
 declarations-loop-list-init u c =
-    let ws = c.args.tokens.now in
+    let ws = c.args.source.now in
     let d = c.args.depth in
     let i = c.args.start in
     subst (λ z. ReadsDeclarations ws d i (map decl_shown z) i) (sym c.new-list.ensures.items) (declares_none c.requires.within)
 
 pub declarations-returns-in_err-declared : goal.declarations-returns-in_err-declared
 declarations-returns-in_err-declared u c =
-    let ws = c.args.tokens.now in
+    let ws = c.args.source.now in
     let d = c.args.depth in
     let i = c.args.start in
     let e = c.in_err-declared.field-0.0 in
@@ -834,7 +834,7 @@ declarations-returns-in_err-declared u c =
 
 pub declarations-loop-list-preserved : goal.declarations-loop-list-preserved
 declarations-loop-list-preserved u c =
-    let ws = c.args.tokens.now in
+    let ws = c.args.source.now in
     let d = c.args.depth in
     let i = c.args.start in
     let l = c.loop-list in
@@ -845,7 +845,7 @@ declarations-loop-list-preserved u c =
 
 pub declarations-returns : goal.declarations-returns
 declarations-returns u c =
-    let ws = c.args.tokens.now in
+    let ws = c.args.source.now in
     let d = c.args.depth in
     let i = c.args.start in
     let l = c.loop-list in
@@ -853,7 +853,7 @@ declarations-returns u c =
 
 pub declaration-returns-in_err-prefix : goal.declaration-returns-in_err-prefix
 declaration-returns-in_err-prefix u c =
-    let ws = c.args.tokens.now in
+    let ws = c.args.source.now in
     let d = c.args.depth in
     let i = c.args.at in
     let j = c.in-Some.word in
@@ -866,14 +866,14 @@ declaration-returns-in_err-prefix u c =
 
 pub declaration-returns-in_err-next : goal.declaration-returns-in_err-next
 declaration-returns-in_err-next u c =
-    let ws = c.args.tokens.now in
+    let ws = c.args.source.now in
     let d = c.args.depth in
     let i = c.args.at in
     absurd (false≢true (sym c.in_err-next.ensures.0 ∙ c.in-Some.ensures.3))
 
 pub declaration-returns-in_err-class : goal.declaration-returns-in_err-class
 declaration-returns-in_err-class u c =
-    let ws = c.args.tokens.now in
+    let ws = c.args.source.now in
     let d = c.args.depth in
     let i = c.args.at in
     let j = c.in-Some.word in
@@ -891,7 +891,7 @@ declaration-returns-in_err-class u c =
 
 pub declaration-returns-in_err-end : goal.declaration-returns-in_err-end
 declaration-returns-in_err-end u c =
-    let ws = c.args.tokens.now in
+    let ws = c.args.source.now in
     let d = c.args.depth in
     let i = c.args.at in
     let j = c.in-Some.word in
@@ -910,7 +910,7 @@ declaration-returns-in_err-end u c =
 
 pub declaration-returns-in-Some : goal.declaration-returns-in-Some
 declaration-returns-in-Some u c =
-    let ws = c.args.tokens.now in
+    let ws = c.args.source.now in
     let d = c.args.depth in
     let i = c.args.at in
     let j = c.in-Some.word in
@@ -937,20 +937,20 @@ declaration-returns-in-Some u c =
 
 pub declaration-returns-then-not-begins_declaration : goal.declaration-returns-then-not-begins_declaration
 declaration-returns-then-not-begins_declaration u c =
-    let ws = c.args.tokens.now in
+    let ws = c.args.source.now in
     let d = c.args.depth in
     let i = c.args.at in
     record {
-      plain = ap (one_of begins_declaration) (sym c.terminal_at_token.ensures) ∙ sym c.if-not-begins_declaration.ensures;
+      plain = ap (one_of begins_declaration) (sym c.terminal_at.ensures) ∙ sym c.if-not-begins_declaration.ensures;
       prefixed = c.in_default.ensures;
     }
 
 pub declaration-returns-in_err-declared : goal.declaration-returns-in_err-declared
 declaration-returns-in_err-declared u c =
-    let ws = c.args.tokens.now in
+    let ws = c.args.source.now in
     let d = c.args.depth in
     let i = c.args.at in
-    let h = ap (one_of begins_declaration) (sym c.terminal_at_token.ensures) ∙ sym c.if-not-begins_declaration.ensures in
+    let h = ap (one_of begins_declaration) (sym c.terminal_at.ensures) ∙ sym c.if-not-begins_declaration.ensures in
     let w0 = opened ws d i g.Block declaring_row refl (block_declares (terminal_at ws i) h) c.requires.within in
     let e = c.in_err-declared.field-0.0 in
     let r = c.from_residual-in_err-declared in
@@ -959,10 +959,10 @@ declaration-returns-in_err-declared u c =
 
 pub declaration-returns-in_err-end-2 : goal.declaration-returns-in_err-end-2
 declaration-returns-in_err-end-2 u c =
-    let ws = c.args.tokens.now in
+    let ws = c.args.source.now in
     let d = c.args.depth in
     let i = c.args.at in
-    let h = ap (one_of begins_declaration) (sym c.terminal_at_token.ensures) ∙ sym c.if-not-begins_declaration.ensures in
+    let h = ap (one_of begins_declaration) (sym c.terminal_at.ensures) ∙ sym c.if-not-begins_declaration.ensures in
     let w0 = opened ws d i g.Block declaring_row refl (block_declares (terminal_at ws i) h) c.requires.within in
     let w1 = to w0 (once c.in_ok-declared.ensures.part) in
     let e = c.in_err-end-2.field-0.0 in
@@ -972,10 +972,10 @@ declaration-returns-in_err-end-2 u c =
 
 pub declaration-returns : goal.declaration-returns
 declaration-returns u c =
-    let ws = c.args.tokens.now in
+    let ws = c.args.source.now in
     let d = c.args.depth in
     let i = c.args.at in
-    let h = ap (one_of begins_declaration) (sym c.terminal_at_token.ensures) ∙ sym c.if-not-begins_declaration.ensures in
+    let h = ap (one_of begins_declaration) (sym c.terminal_at.ensures) ∙ sym c.if-not-begins_declaration.ensures in
     let w0 = opened ws d i g.Block declaring_row refl (block_declares (terminal_at ws i) h) c.requires.within in
     let p = c.in_ok-declared.ensures in
     let w1 = to w0 (once p.part) in
@@ -992,7 +992,7 @@ declaration-returns u c =
 
 pub plain_declaration-returns-in_err-procedure : goal.plain_declaration-returns-in_err-procedure
 plain_declaration-returns-in_err-procedure u c =
-    let ws = c.args.tokens.now in
+    let ws = c.args.source.now in
     let d = c.args.depth in
     let i = c.args.at in
     let w0 = opened ws d i g.Declaration procedure_row refl (by_test g.Declaration (terminal_at ws i) t.Procedure procedure_row c.in-Some.ensures.0 decl_procedure) c.requires.within in
@@ -1004,7 +1004,7 @@ plain_declaration-returns-in_err-procedure u c =
 
 pub plain_declaration-returns-in-Some : goal.plain_declaration-returns-in-Some
 plain_declaration-returns-in-Some u c =
-    let ws = c.args.tokens.now in
+    let ws = c.args.source.now in
     let d = c.args.depth in
     let i = c.args.at in
     let n = c.token_no-token.result in
@@ -1015,7 +1015,7 @@ plain_declaration-returns-in-Some u c =
 
 pub plain_declaration-returns-in_err-class : goal.plain_declaration-returns-in_err-class
 plain_declaration-returns-in_err-class u c =
-    let ws = c.args.tokens.now in
+    let ws = c.args.source.now in
     let d = c.args.depth in
     let i = c.args.at in
     let w0 = opened ws d i g.Declaration plain_class_row refl (by_test g.Declaration (terminal_at ws i) t.Class plain_class_row c.in-Some-eat.ensures.0 decl_class) c.requires.within in
@@ -1027,7 +1027,7 @@ plain_declaration-returns-in_err-class u c =
 
 pub plain_declaration-returns-in-Some-eat : goal.plain_declaration-returns-in-Some-eat
 plain_declaration-returns-in-Some-eat u c =
-    let ws = c.args.tokens.now in
+    let ws = c.args.source.now in
     let d = c.args.depth in
     let i = c.args.at in
     let n = c.token_no-token.result in
@@ -1038,7 +1038,7 @@ plain_declaration-returns-in-Some-eat u c =
 
 pub plain_declaration-returns-in_err-name : goal.plain_declaration-returns-in_err-name
 plain_declaration-returns-in_err-name u c =
-    let ws = c.args.tokens.now in
+    let ws = c.args.source.now in
     let d = c.args.depth in
     let i = c.args.at in
     let e = c.in_err-name.field-0.0 in
@@ -1048,7 +1048,7 @@ plain_declaration-returns-in_err-name u c =
 
 pub plain_declaration-returns : goal.plain_declaration-returns
 plain_declaration-returns u c =
-    let ws = c.args.tokens.now in
+    let ws = c.args.source.now in
     let d = c.args.depth in
     let i = c.args.at in
     let p = c.in_ok-name.ensures d in
@@ -1061,7 +1061,7 @@ plain_declaration-returns u c =
 
 pub typed_declaration-returns-in_err-procedure : goal.typed_declaration-returns-in_err-procedure
 typed_declaration-returns-in_err-procedure u c =
-    let ws = c.args.tokens.now in
+    let ws = c.args.source.now in
     let d = c.args.depth in
     let i = c.args.at in
     let x = c.args.type_name in
@@ -1074,7 +1074,7 @@ typed_declaration-returns-in_err-procedure u c =
 
 pub typed_declaration-returns-in-Some : goal.typed_declaration-returns-in-Some
 typed_declaration-returns-in-Some u c =
-    let ws = c.args.tokens.now in
+    let ws = c.args.source.now in
     let d = c.args.depth in
     let i = c.args.at in
     let n = c.token_no-token.result in
@@ -1086,7 +1086,7 @@ typed_declaration-returns-in-Some u c =
 
 pub typed_declaration-returns-in_err-segments : goal.typed_declaration-returns-in_err-segments
 typed_declaration-returns-in_err-segments u c =
-    let ws = c.args.tokens.now in
+    let ws = c.args.source.now in
     let d = c.args.depth in
     let i = c.args.at in
     let x = c.args.type_name in
@@ -1099,7 +1099,7 @@ typed_declaration-returns-in_err-segments u c =
 
 pub typed_declaration-returns-in-Some-eat : goal.typed_declaration-returns-in-Some-eat
 typed_declaration-returns-in-Some-eat u c =
-    let ws = c.args.tokens.now in
+    let ws = c.args.source.now in
     let d = c.args.depth in
     let i = c.args.at in
     let n = c.token_no-token.result in
@@ -1111,7 +1111,7 @@ typed_declaration-returns-in-Some-eat u c =
 
 pub typed_declaration-returns-in_err-expect : goal.typed_declaration-returns-in_err-expect
 typed_declaration-returns-in_err-expect u c =
-    let ws = c.args.tokens.now in
+    let ws = c.args.source.now in
     let d = c.args.depth in
     let i = c.args.at in
     let x = c.args.type_name in
@@ -1122,7 +1122,7 @@ typed_declaration-returns-in_err-expect u c =
 
 pub typed_declaration-returns-in_err-variables : goal.typed_declaration-returns-in_err-variables
 typed_declaration-returns-in_err-variables u c =
-    let ws = c.args.tokens.now in
+    let ws = c.args.source.now in
     let d = c.args.depth in
     let i = c.args.at in
     let x = c.args.type_name in
@@ -1134,7 +1134,7 @@ typed_declaration-returns-in_err-variables u c =
 
 pub typed_declaration-returns : goal.typed_declaration-returns
 typed_declaration-returns u c =
-    let ws = c.args.tokens.now in
+    let ws = c.args.source.now in
     let d = c.args.depth in
     let i = c.args.at in
     let x = c.args.type_name in
@@ -1144,7 +1144,7 @@ typed_declaration-returns u c =
 
 pub procedure-returns-in_err-name : goal.procedure-returns-in_err-name
 procedure-returns-in_err-name u c =
-    let ws = c.args.tokens.now in
+    let ws = c.args.source.now in
     let d = c.args.depth in
     let i = c.args.at in
     let w0 = opened ws d i g.Procedure proc_row refl (only g.Procedure proc_row (terminal_at ws i) refl) c.requires.within in
@@ -1155,7 +1155,7 @@ procedure-returns-in_err-name u c =
 
 pub procedure-returns-in_err-heading : goal.procedure-returns-in_err-heading
 procedure-returns-in_err-heading u c =
-    let ws = c.args.tokens.now in
+    let ws = c.args.source.now in
     let d = c.args.depth in
     let i = c.args.at in
     let w0 = opened ws d i g.Procedure proc_row refl (only g.Procedure proc_row (terminal_at ws i) refl) c.requires.within in
@@ -1167,7 +1167,7 @@ procedure-returns-in_err-heading u c =
 
 pub procedure-returns-in_err-body : goal.procedure-returns-in_err-body
 procedure-returns-in_err-body u c =
-    let ws = c.args.tokens.now in
+    let ws = c.args.source.now in
     let d = c.args.depth in
     let i = c.args.at in
     let w0 = opened ws d i g.Procedure proc_row refl (only g.Procedure proc_row (terminal_at ws i) refl) c.requires.within in
@@ -1180,7 +1180,7 @@ procedure-returns-in_err-body u c =
 
 pub procedure-returns : goal.procedure-returns
 procedure-returns u c =
-    let ws = c.args.tokens.now in
+    let ws = c.args.source.now in
     let d = c.args.depth in
     let i = c.args.at in
     let w0 = opened ws d i g.Procedure proc_row refl (only g.Procedure proc_row (terminal_at ws i) refl) c.requires.within in
@@ -1197,7 +1197,7 @@ procedure-returns u c =
 
 pub class-returns-in_err-name : goal.class-returns-in_err-name
 class-returns-in_err-name u c =
-    let ws = c.args.tokens.now in
+    let ws = c.args.source.now in
     let d = c.args.depth in
     let i = c.args.at in
     let w0 = opened ws d i g.Class cls_row refl (only g.Class cls_row (terminal_at ws i) refl) c.requires.within in
@@ -1208,7 +1208,7 @@ class-returns-in_err-name u c =
 
 pub class-returns-in_err-heading : goal.class-returns-in_err-heading
 class-returns-in_err-heading u c =
-    let ws = c.args.tokens.now in
+    let ws = c.args.source.now in
     let d = c.args.depth in
     let i = c.args.at in
     let w0 = opened ws d i g.Class cls_row refl (only g.Class cls_row (terminal_at ws i) refl) c.requires.within in
@@ -1220,7 +1220,7 @@ class-returns-in_err-heading u c =
 
 pub class-returns-in_err-protections : goal.class-returns-in_err-protections
 class-returns-in_err-protections u c =
-    let ws = c.args.tokens.now in
+    let ws = c.args.source.now in
     let d = c.args.depth in
     let i = c.args.at in
     let w0 = opened ws d i g.Class cls_row refl (only g.Class cls_row (terminal_at ws i) refl) c.requires.within in
@@ -1233,7 +1233,7 @@ class-returns-in_err-protections u c =
 
 pub class-returns-in_err-virtuals : goal.class-returns-in_err-virtuals
 class-returns-in_err-virtuals u c =
-    let ws = c.args.tokens.now in
+    let ws = c.args.source.now in
     let d = c.args.depth in
     let i = c.args.at in
     let w0 = opened ws d i g.Class cls_row refl (only g.Class cls_row (terminal_at ws i) refl) c.requires.within in
@@ -1247,7 +1247,7 @@ class-returns-in_err-virtuals u c =
 
 pub class-returns-in_err-body : goal.class-returns-in_err-body
 class-returns-in_err-body u c =
-    let ws = c.args.tokens.now in
+    let ws = c.args.source.now in
     let d = c.args.depth in
     let i = c.args.at in
     let w0 = opened ws d i g.Class cls_row refl (only g.Class cls_row (terminal_at ws i) refl) c.requires.within in
@@ -1262,7 +1262,7 @@ class-returns-in_err-body u c =
 
 pub class-returns : goal.class-returns
 class-returns u c =
-    let ws = c.args.tokens.now in
+    let ws = c.args.source.now in
     let d = c.args.depth in
     let i = c.args.at in
     let w0 = opened ws d i g.Class cls_row refl (only g.Class cls_row (terminal_at ws i) refl) c.requires.within in
@@ -1285,7 +1285,7 @@ class-returns u c =
 
 pub sequence_at-returns-in-Some : goal.sequence_at-returns-in-Some
 sequence_at-returns-in-Some u c =
-    let ws = c.args.tokens.now in
+    let ws = c.args.source.now in
     let d = c.args.depth in
     let i = c.args.at in
     let w = c.in-Some.ensures in
@@ -1296,19 +1296,19 @@ sequence_at-returns-in-Some u c =
 
 pub sequence_at-returns-then-not-begins_statement : goal.sequence_at-returns-then-not-begins_statement
 sequence_at-returns-then-not-begins_statement u c =
-    let ws = c.args.tokens.now in
+    let ws = c.args.source.now in
     let d = c.args.depth in
     let i = c.args.at in
-    let b = ap (one_of begins) (sym c.terminal_at_token.ensures) ∙ sym c.if-not-begins_statement.ensures in
+    let b = ap (one_of begins) (sym c.terminal_at.ensures) ∙ sym c.if-not-begins_statement.ensures in
     let a = terminal_at ws i in
     fails-part (no_block a c.requires.no_declaration.plain (or_left (is a t.Identifier) (one_of begins_statement a) b) c.in_default.ensures (or_right (is a t.Identifier) (one_of begins_statement a) b)) refl
 
 pub sequence_at-returns-in_err-statements : goal.sequence_at-returns-in_err-statements
 sequence_at-returns-in_err-statements u c =
-    let ws = c.args.tokens.now in
+    let ws = c.args.source.now in
     let d = c.args.depth in
     let i = c.args.at in
-    let b = ap (one_of begins) (sym c.terminal_at_token.ensures) ∙ sym c.if-not-begins_statement.ensures in
+    let b = ap (one_of begins) (sym c.terminal_at.ensures) ∙ sym c.if-not-begins_statement.ensures in
     let e = c.in_err-statements.field-0.0 in
     let r = c.from_residual in
     exit (λ r. GivesPart ws d g.Block i (λ s. statements_shown (map stmt_shown s.statements.items) s.end.0) r) r.result e r.ensures.1
@@ -1316,10 +1316,10 @@ sequence_at-returns-in_err-statements u c =
 
 pub sequence_at-returns-in_err-next : goal.sequence_at-returns-in_err-next
 sequence_at-returns-in_err-next u c =
-    let ws = c.args.tokens.now in
+    let ws = c.args.source.now in
     let d = c.args.depth in
     let i = c.args.at in
-    let b = ap (one_of begins) (sym c.terminal_at_token.ensures) ∙ sym c.if-not-begins_statement.ensures in
+    let b = ap (one_of begins) (sym c.terminal_at.ensures) ∙ sym c.if-not-begins_statement.ensures in
     let j = c.in_ok-statements.next in
     let e = c.in_err-next.field-0.0 in
     let r = c.from_residual-in_err-next in
@@ -1328,10 +1328,10 @@ sequence_at-returns-in_err-next u c =
 
 pub sequence_at-returns : goal.sequence_at-returns
 sequence_at-returns u c =
-    let ws = c.args.tokens.now in
+    let ws = c.args.source.now in
     let d = c.args.depth in
     let i = c.args.at in
-    let b = ap (one_of begins) (sym c.terminal_at_token.ensures) ∙ sym c.if-not-begins_statement.ensures in
+    let b = ap (one_of begins) (sym c.terminal_at.ensures) ∙ sym c.if-not-begins_statement.ensures in
     let j = c.in_ok-statements.next in
     let n = c.token_no-end-2.result in
     let q = c.in_ok-statements.ensures in
@@ -1342,7 +1342,7 @@ sequence_at-returns u c =
 
 pub statements-returns-in_err-first : goal.statements-returns-in_err-first
 statements-returns-in_err-first u c =
-    let ws = c.args.tokens.now in
+    let ws = c.args.source.now in
     let d = c.args.depth in
     let i = c.args.start in
     let e = c.in_err-first.field-0.0 in
@@ -1352,7 +1352,7 @@ statements-returns-in_err-first u c =
 
 pub statements-loop-next-init : goal.statements-loop-next-init
 statements-loop-next-init u c =
-    let ws = c.args.tokens.now in
+    let ws = c.args.source.now in
     let d = c.args.depth in
     let i = c.args.start in
     let x = c.in_ok-first.first in
@@ -1368,7 +1368,7 @@ statements-loop-next-init u c =
 
 pub statements-returns-in_err-following : goal.statements-returns-in_err-following
 statements-returns-in_err-following u c =
-    let ws = c.args.tokens.now in
+    let ws = c.args.source.now in
     let d = c.args.depth in
     let i = c.args.start in
     let l = c.loop-next in
@@ -1383,7 +1383,7 @@ statements-returns-in_err-following u c =
 
 pub statements-loop-next-preserved : goal.statements-loop-next-preserved
 statements-loop-next-preserved u c =
-    let ws = c.args.tokens.now in
+    let ws = c.args.source.now in
     let d = c.args.depth in
     let i = c.args.start in
     let l = c.loop-next in
@@ -1405,7 +1405,7 @@ statements-loop-next-preserved u c =
 
 pub statements-returns : goal.statements-returns
 statements-returns u c =
-    let ws = c.args.tokens.now in
+    let ws = c.args.source.now in
     let d = c.args.depth in
     let i = c.args.start in
     let l = c.loop-next in
@@ -1419,56 +1419,52 @@ statements-returns u c =
       },
     )
 
-pub when_arms-loop-alloc-smaller : goal.when_arms-loop-alloc-smaller
-when_arms-loop-alloc-smaller u c =
-    let ws = c.args.tokens.now in
+pub when_arms-loop-arms-smaller : goal.when_arms-loop-arms-smaller
+when_arms-loop-arms-smaller u c =
+    let ws = c.args.source.now in
     let d = c.args.depth in
     let i = c.args.start in
     let p = c.in_ok-arm.ensures in
-    omega (arith, part_ahead ws d c.loop-alloc.at c.in_ok-arm.next g.WhenArm _ refl p, p.within)
+    omega (arith, part_ahead ws d c.loop-arms.at c.in_ok-arm.next g.WhenArm _ refl p, p.within)
 
 pub when_arm-connected_at-requires : goal.when_arm-connected_at-requires
 when_arm-connected_at-requires u c =
     let q = c.in_ok-class.ensures 0 in
-    (omega (arith, c.decreases), (c.requires.source, (q.within, c.requires.shallow)))
+    (omega (arith, c.decreases), (q.within, c.requires.shallow))
 
 pub compound-declarations-requires : goal.compound-declarations-requires
 compound-declarations-requires u c =
     let q = c.past_semicolons-next.ensures 0 in
-    (omega (arith, c.decreases), (c.requires.source, (q.within, c.requires.shallow)))
+    (omega (arith, c.decreases), (q.within, c.requires.shallow))
 
 pub compound-sequence_at-requires : goal.compound-sequence_at-requires
 compound-sequence_at-requires u c =
     let p = c.in_ok-declarations.ensures in
-    (omega (arith, c.decreases), (c.requires.source, (p.0.within, (c.requires.shallow, p.1))))
+    (omega (arith, c.decreases), (p.0.within, (c.requires.shallow, p.1)))
 
 pub plain_declaration-typed_declaration-requires : goal.plain_declaration-typed_declaration-requires
 plain_declaration-typed_declaration-requires u c =
     let q = c.in_ok-name.ensures 0 in
-    (omega (arith, c.decreases), (c.requires.source, (q.within, c.requires.shallow)))
+    (omega (arith, c.decreases), (q.within, c.requires.shallow))
 
-pub procedure-heading_at-requires-clause-within : goal.procedure-heading_at-requires-clause-within
-procedure-heading_at-requires-clause-within u c =
-    (c.in_ok-name.ensures 0).within
+pub procedure-heading_at-requires : goal.procedure-heading_at-requires
+procedure-heading_at-requires u c = record { within = (c.in_ok-name.ensures 0).within }
 
-pub class-heading_at-requires-clause-within : goal.class-heading_at-requires-clause-within
-class-heading_at-requires-clause-within u c =
-    (c.in_ok-name.ensures 0).within
+pub class-heading_at-requires : goal.class-heading_at-requires
+class-heading_at-requires u c = record { within = (c.in_ok-name.ensures 0).within }
 
 pub procedure-statement-requires : goal.procedure-statement-requires
 procedure-statement-requires u c =
     let q = c.in_ok-heading.ensures 0 in
-    (omega (arith, c.decreases), (c.requires.source, (q.within, c.requires.shallow)))
+    (omega (arith, c.decreases), (q.within, c.requires.shallow))
 
-pub class-protections-requires-clause-within : goal.class-protections-requires-clause-within
-class-protections-requires-clause-within u c =
-    (c.in_ok-heading.ensures 0).within
+pub class-protections-requires : goal.class-protections-requires
+class-protections-requires u c = record { within = (c.in_ok-heading.ensures 0).within }
 
-pub class-virtuals-requires-clause-within : goal.class-virtuals-requires-clause-within
-class-virtuals-requires-clause-within u c =
-    (c.in_ok-protections.ensures 0).within
+pub class-virtuals-requires : goal.class-virtuals-requires
+class-virtuals-requires u c = record { within = (c.in_ok-protections.ensures 0).within }
 
 pub class-statement-requires : goal.class-statement-requires
 class-statement-requires u c =
     let q = c.in_ok-virtuals.ensures 0 in
-    (omega (arith, c.decreases), (c.requires.source, (q.within, c.requires.shallow)))
+    (omega (arith, c.decreases), (q.within, c.requires.shallow))

@@ -77,27 +77,27 @@ decreases-optional_branch l = calls_left calls l.depth 1
 
 abbrev pub invariant-statements-loop-next : goal.invariant-statements-loop-next
 invariant-statements-loop-next l = record {
-  goes : (s : List Symbol) → Leads l.tokens l.depth (statements_then s) l.start (statement_list (map stmt_shown l.list.items)) l.depth (Of Many g.NextStatement ∷ s) l.at;
+  goes : (s : List Symbol) → Leads l.source l.depth (statements_then s) l.start (statement_list (map stmt_shown l.list.items)) l.depth (Of Many g.NextStatement ∷ s) l.at;
   some : 0 < length l.list.items;
   ahead : l.start ≤ l.at;
-  within : l.at < length l.tokens;
+  within : l.at < length l.source;
 }
 
 abbrev pub decreases-statements-loop-next : goal.decreases-statements-loop-next
-decreases-statements-loop-next l = length l.tokens - l.at
+decreases-statements-loop-next l = length l.source - l.at
 
-abbrev pub invariant-when_arms-loop-alloc : goal.invariant-when_arms-loop-alloc
-invariant-when_arms-loop-alloc l = record {
-  goes : Row l.tokens l.depth g.WhenArm l.start (map when_shown l.arms.items) l.at;
+abbrev pub invariant-when_arms-loop-arms : goal.invariant-when_arms-loop-arms
+invariant-when_arms-loop-arms l = record {
+  goes : Row l.source l.depth g.WhenArm l.start (map when_shown l.arms.items) l.at;
   ahead : l.start ≤ l.at;
-  within : l.at < length l.tokens;
+  within : l.at < length l.source;
 }
 
-abbrev pub decreases-when_arms-loop-alloc : goal.decreases-when_arms-loop-alloc
-decreases-when_arms-loop-alloc l = length l.tokens - l.at
+abbrev pub decreases-when_arms-loop-arms : goal.decreases-when_arms-loop-arms
+decreases-when_arms-loop-arms l = length l.source - l.at
 
 abbrev pub invariant-declarations-loop-list : goal.invariant-declarations-loop-list
-invariant-declarations-loop-list l = ReadsDeclarations l.tokens l.depth l.start (map decl_shown l.list.items) l.at
+invariant-declarations-loop-list l = ReadsDeclarations l.source l.depth l.start (map decl_shown l.list.items) l.at
 
 abbrev pub decreases-declarations-loop-list : goal.decreases-declarations-loop-list
-decreases-declarations-loop-list l = length l.tokens - l.at
+decreases-declarations-loop-list l = length l.source - l.at

@@ -14,7 +14,7 @@ use Rattle.sim_parser.proofs.statement.inner_statement.Goals as goal
 
 pub returns-in_err-end : goal.returns-in_err-end
 returns-in_err-end c = λ d.
-    let ws = c.args.tokens.now in
+    let ws = c.args.source.now in
     let i = c.args.at in
     let e = c.in_err-end.field-0.0 in
     let r = c.from_residual in
@@ -23,7 +23,7 @@ returns-in_err-end c = λ d.
 
 pub returns : goal.returns
 returns c = λ d.
-    let ws = c.args.tokens.now in
+    let ws = c.args.source.now in
     let i = c.args.at in
     let n = c.token_no-token.result in
     all (past (along d i (Kept (just t.Inner) ∷ []) c.requires.within) (kept n.0 c.token_no-token.ensures (took_one ws i c.in_ok-end.end k.Inner refl c.in_ok-end.ensures)))

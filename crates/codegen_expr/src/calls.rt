@@ -1,0 +1,272 @@
+//! Identifiers with their operands: variables, elements of arrays, constants, calls.
+ghost use Rattle.codegen_expr.specs.Emit.{WritesActual, WritesActuals, WritesCall, WritesElement, WritesGiving, WritesNamed, WritesSeen};
+ghost use Rattle.codegen_expr.specs.Known.{Known};
+ghost use Rattle.std.specs.Prelude.{OnOk};
+
+use crate::cells::Cells;
+use crate::draft::{Draft, deeper};
+use crate::emit::emit_expr;
+use crate::instructions::{call_instr, element_instr, standard_instr};
+use crate::leaves::{emit_cell, emit_constant, emit_link};
+use crate::lookups::{block_number, denoted, formals_of_block, gives, line_at};
+use crate::operands::emit_list;
+use crate::operators::{Passed, Seen, passed_of, seen_of};
+use crate::spot::Spot;
+use crate::standard::emit_standard;
+use sim_base::{DeclNo, Line, TokenNo};
+use sim_code::Instr;
+use sim_scope::{Bound, Denotation, Formal, entry_of};
+use sim_tree::{Expr, Identifier};
+use std::alloc::AllocError;
+
+/// The address of an element of an array. The token is that of the array's identifier.
+#[cycle(emit)]
+#[tactic(auto, using(crate::proofs::Written::of_cells))]
+pub fn emit_element(
+    bound: &Bound,
+    cells: &Cells,
+    spot: Spot,
+    draft: &mut Draft,
+    depth: u32,
+    token: TokenNo,
+    declaration: DeclNo,
+    subscripts: &[Expr],
+) -> Result<(), AllocError>
+    requires cells { Known bound.now cells.now }
+    ensures { OnOk result (WritesElement bound.now spot depth draft.old draft.new token declaration subscripts.now) }
+{
+    let inside = deeper(depth)?;
+    emit_cell(bound, cells, spot, draft, depth, declaration)?;
+    emit_list(bound, cells, spot, draft, inside, subscripts)?;
+    draft.put(element_instr(subscripts.len())?, line_at(bound, token))?;
+    Ok(())
+}
+
+/// An actual parameter. The token is that of the procedure's identifier.
+#[cycle(emit)]
+#[tactic(auto, using(crate::proofs::Seen::sees))]
+fn emit_actual(
+    bound: &Bound,
+    cells: &Cells,
+    spot: Spot,
+    draft: &mut Draft,
+    depth: u32,
+    token: TokenNo,
+    expr: &Expr,
+    formal: Formal,
+) -> Result<(), AllocError>
+    requires cells { Known bound.now cells.now }
+    ensures { OnOk result (WritesActual bound.now spot depth draft.old draft.new token expr.now formal) }
+{
+    emit_expr(bound, cells, spot, draft, depth, expr)?;
+    match passed_of(formal) {
+        Passed::Plain => Ok(()),
+        Passed::Copied => {
+            draft.put(Instr::CopyArr, line_at(bound, token))?;
+            Ok(())
+        }
+        Passed::CopiedText => {
+            draft.push(depth, standard_instr(15), line_at(bound, token))?;
+            Ok(())
+        }
+        Passed::Other => {
+            draft.give_up();
+            Ok(())
+        }
+    }
+}
+
+/// Actual parameters, one for each formal. The token is that of the procedure's identifier.
+#[cycle(emit)]
+#[tactic(auto, using(crate::proofs::Seen::sees))]
+fn emit_actuals(
+    bound: &Bound,
+    cells: &Cells,
+    spot: Spot,
+    draft: &mut Draft,
+    depth: u32,
+    token: TokenNo,
+    list: &[Expr],
+    formals: &[Formal],
+) -> Result<(), AllocError>
+    requires cells { Known bound.now cells.now }
+    ensures { OnOk result (WritesActuals bound.now spot depth draft.old draft.new token list.now formals.now) }
+{
+    if list.len() != formals.len() {
+        draft.give_up();
+        return Ok(());
+    }
+    let mut inside = depth;
+    for index in 0..list.len() {
+        emit_actual(
+            bound,
+            cells,
+            spot,
+            draft,
+            inside,
+            token,
+            &list[index],
+            formals[index],
+        )?;
+        inside = deeper(inside)?;
+    }
+    Ok(())
+}
+
+/// A call of a procedure, whose text is a block of the tables. The token is that of its identifier.
+#[cycle(emit)]
+#[tactic(auto, using(crate::proofs::Seen::sees))]
+fn emit_call(
+    bound: &Bound,
+    cells: &Cells,
+    spot: Spot,
+    draft: &mut Draft,
+    depth: u32,
+    token: TokenNo,
+    declaration: DeclNo,
+    block: u32,
+    list: &[Expr],
+) -> Result<(), AllocError>
+    requires cells { Known bound.now cells.now }
+    ensures { OnOk result (WritesCall bound.now spot depth draft.old draft.new token declaration block list.now) }
+{
+    let inside = deeper(depth)?;
+    emit_link(bound, spot, draft, depth, declaration)?;
+    let formals = formals_of_block(bound, cells, block);
+    emit_actuals(bound, cells, spot, draft, inside, token, list, formals)?;
+    let number = block_number(bound, cells, block);
+    draft.put(call_instr(number, list.len())?, line_at(bound, token))?;
+    Ok(())
+}
+
+/// A declared identifier with its operands, as it is seen. The token is that of the identifier.
+#[cycle(emit)]
+#[tactic(auto, using(crate::proofs::Seen::sees))]
+fn emit_seen(
+    bound: &Bound,
+    cells: &Cells,
+    spot: Spot,
+    draft: &mut Draft,
+    depth: u32,
+    token: TokenNo,
+    declaration: DeclNo,
+    seen: Seen,
+    list: &[Expr],
+) -> Result<(), AllocError>
+    requires cells { Known bound.now cells.now }
+    ensures { OnOk result (WritesSeen bound.now spot depth draft.old draft.new token declaration seen list.now) }
+{
+    match seen {
+        Seen::Variable => {
+            if list.len() == 0 {
+                emit_cell(bound, cells, spot, draft, depth, declaration)?;
+                return Ok(());
+            }
+            draft.give_up();
+            Ok(())
+        }
+        Seen::Constant => {
+            if list.len() == 0 {
+                emit_constant(bound, cells, spot, draft, depth, declaration)?;
+                return Ok(());
+            }
+            draft.give_up();
+            Ok(())
+        }
+        Seen::Array => {
+            if list.len() == 0 {
+                emit_cell(bound, cells, spot, draft, depth, declaration)?;
+                return Ok(());
+            }
+            emit_element(bound, cells, spot, draft, depth, token, declaration, list)?;
+            draft.put(Instr::Fetch, Line(0))?;
+            Ok(())
+        }
+        Seen::Call(block) => {
+            emit_call(
+                bound,
+                cells,
+                spot,
+                draft,
+                depth,
+                token,
+                declaration,
+                block,
+                list,
+            )?;
+            Ok(())
+        }
+        Seen::Nothing => {
+            draft.give_up();
+            Ok(())
+        }
+    }
+}
+
+/// An identifier with its operands, also where it is a call that leaves no value. The token is that of the identifier, and what it denotes
+/// is given.
+#[cycle(emit)]
+#[tactic(auto, using(crate::proofs::Seen::sees))]
+pub fn emit_named(
+    bound: &Bound,
+    cells: &Cells,
+    spot: Spot,
+    draft: &mut Draft,
+    depth: u32,
+    token: TokenNo,
+    denoted: Option<Denotation>,
+    list: &[Expr],
+) -> Result<(), AllocError>
+    requires cells { Known bound.now cells.now }
+    ensures { OnOk result (WritesNamed bound.now spot depth draft.old draft.new token denoted list.now) }
+{
+    match denoted {
+        Some(Denotation::Declared(declaration)) => {
+            let seen = seen_of(entry_of(&bound.scopes, declaration));
+            emit_seen(
+                bound,
+                cells,
+                spot,
+                draft,
+                depth,
+                token,
+                declaration,
+                seen,
+                list,
+            )?;
+            Ok(())
+        }
+        Some(Denotation::Standard(standard)) => {
+            emit_standard(bound, cells, spot, draft, depth, 1, token, standard, list)?;
+            Ok(())
+        }
+        None => {
+            draft.give_up();
+            Ok(())
+        }
+    }
+}
+
+/// An identifier with its operands, which is an operand itself.
+#[cycle(emit)]
+#[tactic(auto, using(crate::proofs::Seen::sees))]
+pub(crate) fn emit_operand_named(
+    bound: &Bound,
+    cells: &Cells,
+    spot: Spot,
+    draft: &mut Draft,
+    depth: u32,
+    name: &Identifier,
+    list: &[Expr],
+) -> Result<(), AllocError>
+    requires cells { Known bound.now cells.now }
+    ensures { OnOk result (WritesGiving bound.now spot depth draft.old draft.new name.now list.now) }
+{
+    let denoted = denoted(bound, name.token);
+    if gives(bound, denoted) {
+        emit_named(bound, cells, spot, draft, depth, name.token, denoted, list)?;
+        return Ok(());
+    }
+    draft.give_up();
+    Ok(())
+}

@@ -1,0 +1,5 @@
+use Rattle.prefix_bind.specs.Sums.{Settled}
+use Rattle.prefix_bind.proofs.sums.settle_all.Given as goal
+
+abbrev pub invariant-loop-block : goal.invariant-loop-block
+invariant-loop-block l = Settled l.scopes l.rows.items
