@@ -2,7 +2,7 @@
 //! what it writes and its status.
 //!
 //! A collection is a file of `data/` with a first line that says what is in it, and then for each source a line
-//! `== NAME` and the lines of the source. Lines behind `>> ` are the lines of its input.
+//! `== NAME` and the lines of the source. Lines behind `>> ` are the lines of its input. A line behind `>*N ` stands N times in the source.
 #![tactic(auto)]
 
 use sim_driver::{Status, simula};
@@ -95,12 +95,26 @@ fn cases_of(alloc: Global, text: &str) -> Result<Vec<Case>, AllocError> {
                 case.input.extend_from_slice(input.as_bytes())?;
                 case.input.push(b'\n')?;
             } else {
-                case.source.extend_from_slice(line.as_bytes())?;
-                case.source.push(b'\n')?;
+                let (times, line) = repeated(line);
+                for _ in 0..times {
+                    case.source.extend_from_slice(line.as_bytes())?;
+                    case.source.push(b'\n')?;
+                }
             }
         }
     }
     Ok(cases)
+}
+
+// How many times a line of a collection stands in its source, and the line there.
+fn repeated(line: &str) -> (u32, &str) {
+    if let Some(behind) = line.strip_prefix(">*")
+        && let Some((count, line)) = behind.split_once(" ")
+        && let Ok(times) = count.parse::<u32>()
+    {
+        return (times, line);
+    }
+    (1, line)
 }
 
 // The bytes of the input of a model.

@@ -26,3 +26,4 @@ pub mod Called
 pub mod Handovers
 pub mod Supplied
 pub mod Calls
+pub mod Taking

@@ -11,3 +11,4 @@ pub mod Pairs
 pub mod Arrayed
 pub mod Covering
 pub mod Calling
+pub mod Taking

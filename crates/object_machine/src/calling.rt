@@ -78,6 +78,7 @@ fn parent_in(frames: &[Frame], slot: Slot) -> Option<FrameRef>
 }
 
 // Values from a stack fill the cells of a frame from a place on. It answers whether there were as many cells.
+#[inline(always)]
 fn fill(
     frames: &[Frame],
     cells: &mut [Slot],
@@ -103,6 +104,7 @@ fn fill(
 }
 
 // What a call finds on the operand stack: as many values, and below them a frame that was not given back.
+#[inline(always)]
 fn take_actuals(frames: &[Frame], stack: &[Slot], depth: usize, operand: i64) -> Option<Actuals>
     requires fits { depth ≤ length stack.now }
     ensures within { IfSome result (λ a. a.at + a.count ≤ length stack.now) }
@@ -168,6 +170,7 @@ fn first_formal(result_type: CodeType) -> usize
 }
 
 // The actual parameters fill the cells of a new frame from a place on. It answers whether there were as many cells.
+#[inline(always)]
 fn supply(
     storage: &mut Storage,
     home: FrameRef,
@@ -197,6 +200,7 @@ fn supply(
 }
 
 // A new frame gets its actual parameters and goes on top.
+#[inline(always)]
 fn pass(
     storage: &mut Storage,
     top: &mut Activation,

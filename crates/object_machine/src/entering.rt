@@ -21,6 +21,7 @@ use std::alloc::Global;
 use std::mem;
 
 /// A new frame goes on top, and the one that was there waits behind its instruction.
+#[inline(always)]
 pub fn cover(top: &mut Activation, below: &mut Vec<Activation>, next: Activation) -> Flow
     requires short { top.old.registers.pc + 1 < 2 ^ 64 }
     requires fits { top.old.registers.depth ≤ length top.old.stack.items }

@@ -12,6 +12,7 @@ use frame_arena::{Arrays, Slot};
 use sim_code::{CodeFormal, CodeMode, FormalShape};
 
 // Whether a formal is an array by value.
+#[inline(always)]
 fn takes_array(formal: CodeFormal) -> bool
     ensures { result ≡ is_array_by_value formal }
 {
@@ -22,6 +23,7 @@ fn takes_array(formal: CodeFormal) -> bool
 }
 
 /// The arrays among the actual parameters that a procedure takes by value go over to its frame.
+#[inline(always)]
 pub fn hand_over(
     arrays: &mut Arrays,
     formals: &[CodeFormal],

@@ -1,5 +1,5 @@
 //! Rows that end frames.
-ghost use Rattle.std.specs.Prelude.{◌≡◌, ℕ, ◌<◌, ◌≤◌, List, Option, IfSome, None, length, true};
+ghost use Rattle.std.specs.Prelude.{◌≡◌, ℕ, ◌<◌, ◌≤◌, List, Option, IfSome, Some, None, length, slice_get, true};
 ghost use Rattle.sim_base.specs.declared.limits.Limits.{Limits};
 ghost use Rattle.sim_code.specs.Code.{BlockOf, CodeOf};
 ghost use Rattle.sim_code.specs.Events.{having, when};
@@ -17,6 +17,7 @@ use frame_arena::frames::{self, Frame};
 use frame_arena::{Slot, stack};
 use sim_code::{BlockKind, BlockRecord, CodeType};
 use sim_values::{FrameRef, words_instance};
+use std::mem;
 
 /// What the end of a frame asks of its block.
 #[derive(Clone, Copy, Debug)]
@@ -37,6 +38,7 @@ fn block_of_frame(frames: &[Frame], place: usize) -> u32
 }
 
 // The block of a number, which is of this kind.
+#[inline(always)]
 fn own_block(blocks: &[BlockRecord], number: u32, kind: BlockKind) -> Option<OwnBlock>
     ensures row { (code : CodeOf) → code.blocks ≡ blocks.now → IsOwn result code kind number }
 {
@@ -63,6 +65,7 @@ fn is_nothing(result_type: CodeType) -> bool
 }
 
 // The result of a procedure, which stands in its first cell, if it has one; `None` where there is no value in that yet.
+#[inline(always)]
 fn result_of(
     frames: &[Frame],
     cells: &[Slot],
@@ -83,6 +86,7 @@ fn result_of(
 }
 
 // Pushes a value, if there is one. It answers whether there was room.
+#[inline(always)]
 fn put(stack: &mut [Slot], regs: &mut Registers, value: Option<Slot>) -> bool
     requires fits { regs.old.depth ≤ length stack.old }
     ensures fits { regs.new.depth ≤ length stack.new }
@@ -103,8 +107,10 @@ fn put(stack: &mut [Slot], regs: &mut Registers, value: Option<Slot>) -> bool
     true
 }
 
-// A frame gives back its words, and its arrays with theirs, and its region becomes free, where it is given back at its end.
-fn give(storage: &mut Storage, home: FrameRef, cells: u32)
+// A frame gives back its words, and its arrays with theirs, and its region becomes free, where it is given back at its end. Its operand
+// stack is to spare then.
+#[inline(always)]
+fn give(storage: &mut Storage, home: FrameRef, cells: u32, stack: Vec<Slot>)
     requires there { Has storage.old.frames.items home.frame home.stamp }
     ensures texts { storage.new.texts ≡ storage.old.texts }
     ensures image { storage.new.image ≡ storage.old.image }
@@ -117,9 +123,21 @@ fn give(storage: &mut Storage, home: FrameRef, cells: u32)
     let words = storage.words.saturating_sub(words_instance(cells, false));
     storage.words = storage.arrays.give_back_owned(home.stamp, words);
     frames::give_back(&mut storage.frames, &mut storage.heads, home.frame);
+    keep_stack(&mut storage.spares, home.frame as usize, stack);
+}
+
+// An operand stack is to spare in a region.
+#[inline(always)]
+fn keep_stack(spares: &mut [Vec<Slot>], place: usize, stack: Vec<Slot>)
+    ensures { place < length spares.old → slice_get spares.new place ≡ Some stack }
+{
+    if place < spares.len() {
+        spares[place] = stack;
+    }
 }
 
 // The frame on top ends, and the one below it, which gets a value or none, becomes the top.
+#[inline(always)]
 fn finish(
     storage: &mut Storage,
     top: &mut Activation,
@@ -144,8 +162,8 @@ fn finish(
     if !put(&mut next.stack, &mut next.registers, value) {
         return Flow::NoRule;
     }
-    give(storage, top.registers.home, cells);
-    *top = next;
+    let ended = mem::replace(top, next);
+    give(storage, ended.registers.home, cells, ended.stack);
     Flow::On
 }
 

@@ -43,8 +43,8 @@ pub struct Storage {
     pub frames: Vec<Frame>,
     /// The cells of all regions.
     pub cells: Vec<Slot>,
-    /// The operands of all regions, of which there are none: each frame at work has its own.
-    pub operands: Vec<Slot>,
+    /// For each region the operand stack of the frame that was there last. The next one takes it, where it has the room.
+    pub spares: Vec<Vec<Slot>>,
     /// For each block the region that was given back last.
     pub heads: Vec<u32>,
     /// How many frames were entered.

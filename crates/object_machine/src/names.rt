@@ -1,5 +1,5 @@
 //! Standard names.
-ghost use Rattle.std.specs.Prelude.{◌≡◌, ℕ, ◌+◌, ◌<◌, ◌≤◌, ◌^◌, List, Option, length, true};
+ghost use Rattle.std.specs.Prelude.{◌≡◌, ℕ, ◌+◌, ◌<◌, ◌≤◌, ◌^◌, List, Option, Some, length, true};
 ghost use Rattle.sim_code.specs.Events.{having, performing, when};
 ghost use Rattle.sim_code.specs.Machine.{Frames, on, operand as operand_of};
 ghost use Rattle.sim_code.specs.Rows.{put_back as put_back_of, room_for, standard_of, with_value};
@@ -9,6 +9,7 @@ ghost use Rattle.object_machine.specs.Named.{FlowEnds, InputEnds, Still};
 ghost use Rattle.object_machine.specs.Running.{Onward};
 ghost use Rattle.object_machine.specs.Settled.{Follows, Settles};
 ghost use Rattle.object_machine.specs.Standing.{HasImages, Obeys, outside};
+ghost use Rattle.object_machine.specs.Taking.{StepTakes};
 
 use crate::constants::index;
 use crate::machine::{Activation, Flow, Registers, Storage};
@@ -83,6 +84,7 @@ fn follow(regs: &mut Registers, placing: Placing, depth: usize) -> Flow
 }
 
 /// Does what a standard name does with its operands, and puts its value in their place, if it has one.
+#[tactic(auto, using(crate::proofs::Taking::takes_none))]
 pub fn standard<I: Source, O: Sink>(
     limits: &Limits,
     storage: &mut Storage,
@@ -100,6 +102,10 @@ pub fn standard<I: Source, O: Sink>(
     ensures valid { HasImages storage.new.texts storage.new.image }
     ensures ends { FlowEnds O.written O.faults out.old out.new result }
     ensures read { InputEnds (I.faults input.old) (I.faults input.new) result }
+
+    // Where the row takes nothing of the input nothing was read.
+    ensures takes { (s : List ℕ) → I.left input.old ≡ Some s → (line : ℕ) (below : List Activation) →
+        StepTakes limits.now (λ o m a b. having (standard_of operand) o (λ name. when (room_for name a) o (performing operand_of put_back_of limits.now line name a.stack o m (λ p m value st. on p m a (with_value value st) b)))) storage.old regs.old stack.old below (outside (O.written out.old) s) input.old input.new }
     ensures row { Onward (I.left input.old) (I.left input.new) (λ s t. Still result (O.written out.old) (O.written out.new) × ((line : ℕ) (below : List Activation) →
         Obeys result limits.now line (λ o m a b. having (standard_of operand) o (λ name. when (room_for name a) o (performing operand_of put_back_of limits.now line name a.stack o m (λ p m value st. on p m a (with_value value st) b)))) storage.old storage.new regs.old regs.new stack.old stack.new below below (outside (O.written out.old) s) (outside (O.written out.new) t))) }
 {

@@ -1,12 +1,12 @@
 //! New frames.
-ghost use Rattle.std.specs.Prelude.{◌≡◌, ◌<◌, ◌≤◌, ◌^◌, ℕ, List, Option, IfOk, Some, None, length, map, false};
+ghost use Rattle.std.specs.Prelude.{◌≡◌, ◌<◌, ◌≤◌, ◌^◌, ℕ, List, Option, IfOk, Some, None, length, map, replicate, false};
 ghost use Rattle.sim_code.specs.Machine.{Frames, first_value};
 ghost use Rattle.sim_code.specs.Outcome.{ArrayOf, World};
 ghost use Rattle.sim_values.specs.declared.value.FrameRef.{FrameRef as Reference};
 ghost use Rattle.sim_base.specs.declared.limits.Limits.{Limits};
 ghost use Rattle.frame_arena.specs.Arrays.{AllLeadArrays, RegionOf, names_array};
 ghost use Rattle.frame_arena.specs.Frames.{Holds, Leads, cells_at, frame_at, names_frame};
-ghost use Rattle.frame_arena.specs.Slots.{cell_value};
+ghost use Rattle.frame_arena.specs.Slots.{cell_value, empty_slot};
 ghost use Rattle.object_machine.specs.Entering.{Opens};
 ghost use Rattle.object_machine.specs.Standing.{Outside, Stores};
 
@@ -17,8 +17,10 @@ use frame_arena::{EMPTY, NOTHING, Slot, SlotKind};
 use sim_code::{BlockRecord, CodeType};
 use sim_values::FrameRef;
 use std::alloc::{AllocError, Global};
+use std::mem;
 
 // What a cell of a type holds at the entry.
+#[inline(always)]
 fn first_slot(code_type: CodeType) -> Slot
     ensures value { cell_value result ≡ first_value code_type }
     ensures no_frame { names_frame result.kind ≡ false }
@@ -48,11 +50,12 @@ fn first_slot(code_type: CodeType) -> Slot
     }
 }
 
-// A region that is free, with so many cells.
+// A region that is free, with so many cells. A new one has no operand stack to spare.
+#[inline(always)]
 fn reserve(
     frames: &mut Vec<Frame>,
     cells: &mut Vec<Slot>,
-    operands: &mut Vec<Slot>,
+    spares: &mut Vec<Vec<Slot>>,
     heads: &mut [u32],
     block: u32,
     count: u32,
@@ -67,10 +70,34 @@ fn reserve(
     if let Some(place) = take_free(frames, heads, block, count, 0) {
         return Ok(place);
     }
-    add_region(frames, cells, operands, count, 0)
+    let alloc = *frames.allocator();
+    spares.push(Vec::new(alloc))?;
+    let mut stacks = Vec::new(alloc);
+    add_region(frames, cells, &mut stacks, count, 0)
+}
+
+// An operand stack with no value: the one that is to spare in a region, where it has the room, or a new one.
+#[inline(always)]
+fn take_stack(
+    alloc: Global,
+    spares: &mut [Vec<Slot>],
+    place: usize,
+    room: usize,
+) -> Result<Vec<Slot>, AllocError>
+    ensures { IfOk result (λ v. v.items ≡ replicate room empty_slot) }
+{
+    if place < spares.len() {
+        let mut stack = mem::replace(&mut spares[place], Vec::new(alloc));
+        if stack.len() == room {
+            stack.fill(EMPTY);
+            return Ok(stack);
+        }
+    }
+    vec![in alloc; EMPTY; room]
 }
 
 // The cells of a free region get their first values.
+#[inline(always)]
 fn fill_first(frames: &[Frame], cells: &mut [Slot], place: usize, types: &[CodeType])
     requires there { place < length frames.now }
     requires free { (frame_at frames.now place).live ≡ false }
@@ -87,6 +114,7 @@ fn fill_first(frames: &[Frame], cells: &mut [Slot], place: usize, types: &[CodeT
 
 /// A new frame of a block, with its first values, which is not yet on the chain. It answers want of memory also where there would be
 /// 2^32 regions or 2^63 frames.
+#[inline(always)]
 pub fn open(
     alloc: Global,
     storage: &mut Storage,
@@ -106,11 +134,10 @@ pub fn open(
     if storage.entered >= 1 << 63 {
         return Err(AllocError);
     }
-    let stack = vec![in alloc; EMPTY; block.room as usize]?;
     let place = reserve(
         &mut storage.frames,
         &mut storage.cells,
-        &mut storage.operands,
+        &mut storage.spares,
         &mut storage.heads,
         number,
         count,
@@ -118,6 +145,7 @@ pub fn open(
     let Ok(region) = u32::try_from(place) else {
         return Err(AllocError);
     };
+    let stack = take_stack(alloc, &mut storage.spares, place, block.room as usize)?;
     fill_first(&storage.frames, &mut storage.cells, place, &block.types);
     let entry = Entry {
         number: storage.entered,

@@ -9,6 +9,7 @@ use crate::machine::{Flow, Storage};
 use sim_base::Limits;
 
 /// Takes a tick, and then so many words.
+#[inline(always)]
 pub fn pay(limits: &Limits, storage: &mut Storage, wanted: u64) -> Flow
     ensures texts { storage.new.texts ≡ storage.old.texts }
     ensures image { storage.new.image ≡ storage.old.image }

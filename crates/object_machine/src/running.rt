@@ -2,6 +2,7 @@
 ghost use Rattle.std.specs.Prelude.{◌≡◌, ℕ, List, Some};
 ghost use Rattle.sim_code.specs.Running.{AllRun};
 ghost use Rattle.object_machine.specs.Running.{FaultsAs, InputAs, RanAs};
+ghost use Rattle.object_machine.specs.Taking.{TakesNothing};
 
 use crate::begin::Begun;
 use crate::ending::answer;
@@ -26,8 +27,11 @@ pub fn run<I: Source, O: Sink>(
     ensures ran { (bytes : List ℕ) → I.left input.old ≡ Some bytes → RanAs code.now limits.now bytes result (O.written out.old) (O.written out.new) }
     ensures faults { FaultsAs O.written O.faults result out.old out.new }
     ensures input_faults { InputAs (I.faults input.old) (I.faults input.new) result }
+
+    // The input is as it was where the run takes nothing of it, whatever is answered.
+    ensures takes { (bytes : List ℕ) → I.left input.old ≡ Some bytes → TakesNothing code.now limits.now bytes → input.new ≡ input.old }
 {
-    let Ok(mut storage) = start(alloc, &code.texts, limits) else {
+    let Ok(mut storage) = start(alloc, &code.texts, code.blocks.len(), limits) else {
         return Ending::Memory;
     };
     let begun = begin(alloc, &code.blocks, &code.instrs, limits, &mut storage);

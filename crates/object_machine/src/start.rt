@@ -29,9 +29,18 @@ fn add_constants(texts: &mut Texts, constants: &[ByteString]) -> Result<(), Memo
     Ok(())
 }
 
-/// The machine before its first step: the text constants, and then the two images. It answers want of memory also for a constant of
+// No region has this number.
+const NO_REGION: u32 = u32::MAX;
+
+/// The machine before its first step, for so many blocks: the text constants, and then the two images. It answers want of memory also for a constant of
 /// 2^32-1 characters or more, and where sysin or sysout has no character in a line.
-pub fn start(alloc: Global, constants: &[ByteString], limits: &Limits) -> Result<Storage, Memory>
+pub fn start(
+    alloc: Global,
+    constants: &[ByteString],
+    blocks: usize,
+    limits: &Limits,
+) -> Result<Storage, Memory>
+    ensures blocks { IfOk result (λ p. length p.heads.items ≡ blocks) }
     ensures valid { IfOk result (λ p. HasImages p.texts p.image) }
     ensures row { IfOk result (λ p. (before : Option (List ℕ)) (input : List ℕ) → Stores limits.now p before (outside before input) (first_world constants.now limits.now input) empty_memory) }
 {
@@ -42,11 +51,14 @@ pub fn start(alloc: Global, constants: &[ByteString], limits: &Limits) -> Result
     add_constants(&mut texts, constants)?;
     let input = InImage::new(alloc, &mut texts, limits.in_length)?;
     let output = OutImage::new(&mut texts, limits.out_length)?;
+    let Ok(heads) = vec![in alloc; NO_REGION; blocks] else {
+        return Err(Memory);
+    };
     Ok(Storage {
         frames: Vec::new(alloc),
         cells: Vec::new(alloc),
-        operands: Vec::new(alloc),
-        heads: Vec::new(alloc),
+        spares: Vec::new(alloc),
+        heads,
         entered: 0,
         arrays: Arrays::new(alloc),
         texts,

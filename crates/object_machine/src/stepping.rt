@@ -1,5 +1,5 @@
 //! One step, of whatever instruction.
-ghost use Rattle.std.specs.Prelude.{◌≡◌, ◌+◌, ◌<◌, ◌≤◌, ◌^◌, ℕ, List, Option, length, true};
+ghost use Rattle.std.specs.Prelude.{◌≡◌, ◌+◌, ◌<◌, ◌≤◌, ◌^◌, ℕ, List, Option, Some, length, true};
 ghost use Rattle.sim_code.specs.Code.{CodeOf};
 ghost use Rattle.sim_code.specs.Rows.{row};
 ghost use Rattle.sim_code.specs.Running.{runs};
@@ -7,6 +7,7 @@ ghost use Rattle.object_machine.specs.Running.{Onward};
 ghost use Rattle.object_machine.specs.Named.{FlowEnds, InputEnds, Still};
 ghost use Rattle.object_machine.specs.Standing.{AllFit, HasImages, Obeys, Outside, Row, outside};
 ghost use Rattle.sim_base.specs.declared.limits.Limits.{Limits as LimitsOf};
+ghost use Rattle.object_machine.specs.Taking.{StepTakes};
 ghost use Rattle.frame_arena.specs.declared.slot.Slot.{Slot};
 
 use crate::calling::call;
@@ -38,6 +39,7 @@ fn without_ports(flow: Flow) -> Flow
 }
 
 /// Does one instruction.
+#[tactic(auto, using(crate::proofs::Taking::takes_none))]
 pub fn step<I: Source, O: Sink>(
     alloc: Global,
     blocks: &[BlockRecord],
@@ -61,6 +63,8 @@ pub fn step<I: Source, O: Sink>(
     ensures valid { HasImages storage.new.texts storage.new.image }
     ensures ends { FlowEnds O.written O.faults out.old out.new result }
     ensures read { InputEnds (I.faults input.old) (I.faults input.new) result }
+    ensures takes { (s : List ℕ) → I.left input.old ≡ Some s → (code : CodeOf) (line : ℕ) →
+        StepTakes limits.now (λ o m a b. row code limits.now o m a b line instr) storage.old top.old.registers top.old.stack.items below.old.items (outside (O.written out.old) s) input.old input.new }
     ensures row { Onward (I.left input.old) (I.left input.new) (λ s t. Still result (O.written out.old) (O.written out.new) × ((code : CodeOf) (line : ℕ) → code.blocks ≡ blocks.now → code.instrs ≡ instrs.now → code.texts ≡ constants.now →
         Obeys result limits.now line (λ o m a b. row code limits.now o m a b line instr) storage.old storage.new top.old.registers top.new.registers top.old.stack.items top.new.stack.items below.old.items below.new.items (outside (O.written out.old) s) (outside (O.written out.new) t))) }
 {

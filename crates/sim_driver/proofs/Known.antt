@@ -9,7 +9,7 @@ use Rattle.sim_base.specs.declared.token.Token.{Token}
 use Rattle.sim_expr_parser.specs.declared.refusal.SyntaxRefusal.TheVariants as syntax_refusal
 use Rattle.sim_lexer.specs.Spelling.{Lexed, Broken, Reads, Spelled}
 use Rattle.sim_lexer.proofs.OneAnswer as spelling
-use Rattle.sim_parser.specs.Parsing.{Parses}
+use Rattle.sim_parser.specs.Claim.{Parses}
 use Rattle.sim_tree.specs.Reading.{TooDeep, Unexpected}
 use Rattle.sim_tree.specs.Syntax.{Program}
 use Rattle.sim_tree.specs.SyntaxOfProgram.{program_syntax}

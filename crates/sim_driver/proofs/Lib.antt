@@ -2,7 +2,6 @@ pub mod Answering
 pub mod Known
 pub mod Limits
 pub mod Meant
-pub mod Places
 pub mod Prefixes
 pub mod Requests
 pub mod SourceReads

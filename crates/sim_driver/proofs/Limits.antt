@@ -7,6 +7,7 @@ use Rattle.sim_base.specs.declared.numbering.Line.{Line}
 use Rattle.sim_base.specs.declared.rule.Rule.{Rule}
 use Rattle.sim_base.specs.declared.rule.Rule.TheVariants.{SourceTooLong}
 use Rattle.sim_lexer.specs.Spelling.{Lexed, Broken, Reads, too_long, reads}
+use Rattle.sim_scope.specs.Source.{Source}
 use Rattle.sim_driver.specs.Answer.{Answer, IsSourceAnswer}
 use Rattle.sim_driver.specs.Compiling.{Compiled, LexedCompiles, Rejected, Runnable, SourceCompiles}
 use Rattle.sim_driver.specs.SourceMeaning.{IsCutOff, Meaning, SourceMeans}
@@ -79,3 +80,7 @@ cut_from source bytes input old new same (s, compiles, at) = (s, from_limited Ru
 -- and of one that is rejected
 pub rejected_to : (source bytes : List ℕ) (rule : Rule) (line : Line) → bytes ≡ take 1048577 source → SourceCompiles Run source (Rejected rule line) → SourceCompiles Run bytes (Rejected rule line)
 rejected_to source bytes rule line same is = subst (λ b. SourceCompiles Run b (Rejected rule line)) (sym same) (to_limited Run source (Rejected rule line) is)
+
+-- and of one whose program can be run
+pub runnable_to : (source bytes : List ℕ) (s : Source) → bytes ≡ take 1048577 source → SourceCompiles Run source (Runnable s) → SourceCompiles Run bytes (Runnable s)
+runnable_to source bytes s same is = subst (λ b. SourceCompiles Run b (Runnable s)) (sym same) (to_limited Run source (Runnable s) is)

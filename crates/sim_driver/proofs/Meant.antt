@@ -8,7 +8,7 @@ use Rattle.sim_base.specs.declared.rule.Rule.{Rule}
 use Rattle.sim_ports.specs.Bytes.{AddsPrefix}
 use Rattle.sim_run.specs.declared.running.RunFailure.{RunFailure as NotRun}
 use Rattle.sim_run.specs.declared.running.RunEnd.{RunEnd}
-use Rattle.sim_run.specs.RunEnds.{AtAMoment, Begins, Broken, Ran}
+use Rattle.sim_run.specs.RunEnds.{AtAMoment, Begins, Broken, Ran, TakesNothing}
 use Rattle.sim_run.proofs.OneEnd.{one_end}
 use Rattle.sim_scope.specs.Source.{Source}
 use Rattle.sim_driver.specs.Compiling.{Compiled, Rejected, Runnable, Sound, SourceBinds, SourceCompiles, SourceRejects}
@@ -68,6 +68,14 @@ not_rejected s rule line is = cc
 pub untouched_by : {P : Type 0} (command : Command) (source : List ℕ) (s : Source) (rule : Rule) (line : Line) → SourceBinds command source s → ((command ≡ Run → ⊥) → P) → SourceCompiles Run source (Rejected rule line) → P
 untouched_by Run source s rule line binds idle compiles = absurd (not_rejected s rule line ((binds (Rejected rule line)).there compiles))
 untouched_by Check source s rule line binds idle compiles = idle (λ is. cc is)
+
+-- and one that runs a program does what is known of the run of that program
+pub takes_by : {P : Type 0} (command : Command) (source input : List ℕ) (s t : Source) → SourceBinds command source t → ((command ≡ Run → ⊥) → P) → (TakesNothing t limits input → P) → SourceCompiles Run source (Runnable s) → TakesNothing s limits input → P
+takes_by Run source input s t binds idle takes compiles never = takes (subst (λ u. TakesNothing u limits input) (same_program ((binds (Runnable s)).there compiles)) never)
+  where
+    same_program : {s t : Source} → Runnable s ≡ Runnable t → s ≡ t
+    same_program is = cc is
+takes_by Check source input s t binds idle takes compiles never = idle (λ is. cc is)
 
 pub cut_by : {E P : Type 0} (command : Command) (source input : List ℕ) (s : Source) (old new : Option (List ℕ)) (r : Result Ending E) (e : E) → SourceBinds command source s → ((command ≡ Run → ⊥) → (r ≡ Ok Normal) × P) → r ≡ Err e → AtAMoment s limits input old new
     → IsCutOff source input old new

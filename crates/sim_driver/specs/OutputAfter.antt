@@ -17,7 +17,3 @@ InputAfter old new (Ok value) = new ≡ old
 InputAfter old new (Err Memory) = new ≡ old
 InputAfter old new (Err Input) = (old ≤ new) × Rose old new
 InputAfter old new (Err Output) = new ≡ old
-
--- the input was not touched: it has left and can give what it had, and no read failed
-abbrev pub Untouched : {S : Type 0} → (S → Option (List ℕ)) → (gives faults : S → ℕ) → S → S → Type 0
-Untouched left gives faults old new = (left new ≡ left old) × (gives new ≡ gives old) × (faults new ≡ faults old)

@@ -6,11 +6,11 @@ ghost use Rattle.sim_base.specs.declared.rule.Rule.{Rule as AnyRule};
 ghost use Rattle.sim_ports.specs.Bytes.{AddsPrefix};
 ghost use Rattle.sim_ports.specs.Faults.{Rose, StopsAt};
 ghost use Rattle.sim_ports.specs.Named.{IsOpen};
-ghost use Rattle.sim_run.specs.RunEnds.{AtAMoment, IsRunnable};
-ghost use Rattle.sim_scope.specs.Source.{source_of};
+ghost use Rattle.sim_run.specs.RunEnds.{AtAMoment, IsRunnable, TakesNothing};
+ghost use Rattle.sim_scope.specs.Source.{Source as AnySource, source_of};
 ghost use Rattle.sim_driver.specs.Answer.{Answer, Gives, IsAnswer, IsSourceAnswer};
-ghost use Rattle.sim_driver.specs.Compiling.{Rejected, SourceCompiles};
-ghost use Rattle.sim_driver.specs.OutputAfter.{InputAfter, OutputAfter, Untouched};
+ghost use Rattle.sim_driver.specs.Compiling.{Rejected, Runnable, SourceCompiles};
+ghost use Rattle.sim_driver.specs.OutputAfter.{InputAfter, OutputAfter};
 ghost use Rattle.sim_driver.specs.Reading.{TakesAtMost};
 ghost use Rattle.sim_driver.specs.SourceMeaning.{BoundMeans, Does, IsCutOff, Meaning, SourceMeans, ending_of as ending_of_run, limits};
 ghost use Rattle.sim_driver.specs.Status.{is_answer};
@@ -56,9 +56,11 @@ pub fn run_command<F: Files, I: Source, O: Sink>(
     ensures files_later { F.faults files.old ≤ F.faults files.new }
     ensures cut { (source given : List ℕ) → TellsFile (F.content files.old) (texts words.now) source → I.left input.old ≡ Some given → result ≡ Status.InputFault
         → IsCutOff source given (O.written out.old) (O.written out.new) }
-    ensures only_run { (AsksRun (texts words.now) → ⊥) → Untouched I.left I.can_give I.faults input.old input.new }
+    ensures only_run { (AsksRun (texts words.now) → ⊥) → input.new ≡ input.old }
     ensures untouched { (source : List ℕ) (rule : AnyRule) (line : AnyLine) → TellsFile (F.content files.old) (texts words.now) source
-        → SourceCompiles Command.Run source (Rejected rule line) → Untouched I.left I.can_give I.faults input.old input.new }
+        → SourceCompiles Command.Run source (Rejected rule line) → input.new ≡ input.old }
+    ensures takes { (source given : List ℕ) (s : AnySource) → TellsFile (F.content files.old) (texts words.now) source → I.left input.old ≡ Some given
+        → SourceCompiles Command.Run source (Runnable s) → TakesNothing s limits given → input.new ≡ input.old }
     ensures out_later { O.faults out.old ≤ O.faults out.new }
     ensures input_later { I.faults input.old ≤ I.faults input.new }
 {
@@ -95,9 +97,11 @@ fn answer_request<F: Files, I: Source, O: Sink>(
     ensures files_later { F.faults files.old ≤ F.faults files.new }
     ensures cut { (source given : List ℕ) → F.content files.old file.now ≡ Some source → I.left input.old ≡ Some given → result ≡ Status.InputFault
         → IsCutOff source given (O.written out.old) (O.written out.new) }
-    ensures only_run { (command ≡ Command.Run → ⊥) → Untouched I.left I.can_give I.faults input.old input.new }
+    ensures only_run { (command ≡ Command.Run → ⊥) → input.new ≡ input.old }
     ensures untouched { (source : List ℕ) (rule : AnyRule) (line : AnyLine) → F.content files.old file.now ≡ Some source
-        → SourceCompiles Command.Run source (Rejected rule line) → Untouched I.left I.can_give I.faults input.old input.new }
+        → SourceCompiles Command.Run source (Rejected rule line) → input.new ≡ input.old }
+    ensures takes { (source given : List ℕ) (s : AnySource) → F.content files.old file.now ≡ Some source → I.left input.old ≡ Some given
+        → SourceCompiles Command.Run source (Runnable s) → TakesNothing s limits given → input.new ≡ input.old }
     ensures out_later { O.faults out.old ≤ O.faults out.new }
     ensures input_later { I.faults input.old ≤ I.faults input.new }
 {
@@ -127,8 +131,9 @@ fn answer_source<I: Source, O: Sink>(
         → Gives answer result (O.written out.old) (O.written out.new) }
     ensures prefix { (given : List ℕ) (answer : Answer) → I.left input.old ≡ Some given → IsSourceAnswer command source.now given answer → AddsPrefix (O.written out.old) (O.written out.new) answer.output }
     ensures cut { (given : List ℕ) → I.left input.old ≡ Some given → result ≡ Status.InputFault → IsCutOff source.now given (O.written out.old) (O.written out.new) }
-    ensures only_run { (command ≡ Command.Run → ⊥) → Untouched I.left I.can_give I.faults input.old input.new }
-    ensures untouched { (rule : AnyRule) (line : AnyLine) → SourceCompiles Command.Run source.now (Rejected rule line) → Untouched I.left I.can_give I.faults input.old input.new }
+    ensures only_run { (command ≡ Command.Run → ⊥) → input.new ≡ input.old }
+    ensures untouched { (rule : AnyRule) (line : AnyLine) → SourceCompiles Command.Run source.now (Rejected rule line) → input.new ≡ input.old }
+    ensures takes { (given : List ℕ) (s : AnySource) → I.left input.old ≡ Some given → SourceCompiles Command.Run source.now (Runnable s) → TakesNothing s limits given → input.new ≡ input.old }
     ensures later { O.faults out.old ≤ O.faults out.new }
     ensures input_later { I.faults input.old ≤ I.faults input.new }
 {
@@ -152,8 +157,9 @@ fn bind_and_do<I: Source, O: Sink>(
     ensures known { (given : List ℕ) → I.left input.old ≡ Some given → OnOk result ((meaning : Meaning) × SourceMeans command source.now given meaning) }
     ensures does { (given : List ℕ) (meaning : Meaning) → I.left input.old ≡ Some given → SourceMeans command source.now given meaning → Does meaning (O.written out.old) (O.written out.new) result }
     ensures cut { (given : List ℕ) → I.left input.old ≡ Some given → result ≡ Err RunFailure.Input → IsCutOff source.now given (O.written out.old) (O.written out.new) }
-    ensures only_run { (command ≡ Command.Run → ⊥) → Untouched I.left I.can_give I.faults input.old input.new }
-    ensures untouched { (rule : AnyRule) (line : AnyLine) → SourceCompiles Command.Run source.now (Rejected rule line) → Untouched I.left I.can_give I.faults input.old input.new }
+    ensures only_run { (command ≡ Command.Run → ⊥) → input.new ≡ input.old }
+    ensures untouched { (rule : AnyRule) (line : AnyLine) → SourceCompiles Command.Run source.now (Rejected rule line) → input.new ≡ input.old }
+    ensures takes { (given : List ℕ) (s : AnySource) → I.left input.old ≡ Some given → SourceCompiles Command.Run source.now (Runnable s) → TakesNothing s limits given → input.new ≡ input.old }
     ensures output { OutputAfter O.written O.faults out.old out.new result }
     ensures input { InputAfter (I.faults input.old) (I.faults input.new) result }
 {
@@ -176,7 +182,8 @@ fn do_bound<I: Source, O: Sink>(
     ensures known { (given : List ℕ) → I.left input.old ≡ Some given → OnOk result ((meaning : Meaning) × BoundMeans command (source_of bound.now) given meaning) }
     ensures does { (given : List ℕ) (meaning : Meaning) → I.left input.old ≡ Some given → BoundMeans command (source_of bound.now) given meaning → Does meaning (O.written out.old) (O.written out.new) result }
     ensures cut { (given : List ℕ) → I.left input.old ≡ Some given → result ≡ Err RunFailure.Input → AtAMoment (source_of bound.now) limits given (O.written out.old) (O.written out.new) }
-    ensures only_run { (command ≡ Command.Run → ⊥) → (result ≡ Ok Ending.Normal) × Untouched I.left I.can_give I.faults input.old input.new }
+    ensures only_run { (command ≡ Command.Run → ⊥) → (result ≡ Ok Ending.Normal) × (input.new ≡ input.old) }
+    ensures takes { (given : List ℕ) → I.left input.old ≡ Some given → TakesNothing (source_of bound.now) limits given → input.new ≡ input.old }
     ensures output { OutputAfter O.written O.faults out.old out.new result }
     ensures input { InputAfter (I.faults input.old) (I.faults input.new) result }
 {
@@ -197,6 +204,7 @@ fn run<I: Source, O: Sink>(
     ensures known { (given : List ℕ) → I.left input.old ≡ Some given → OnOk result ((meaning : Meaning) × BoundMeans Command.Run (source_of bound.now) given meaning) }
     ensures does { (given : List ℕ) (meaning : Meaning) → I.left input.old ≡ Some given → BoundMeans Command.Run (source_of bound.now) given meaning → Does meaning (O.written out.old) (O.written out.new) result }
     ensures cut { (given : List ℕ) → I.left input.old ≡ Some given → result ≡ Err RunFailure.Input → AtAMoment (source_of bound.now) limits given (O.written out.old) (O.written out.new) }
+    ensures takes { (given : List ℕ) → I.left input.old ≡ Some given → TakesNothing (source_of bound.now) limits given → input.new ≡ input.old }
     ensures output { OutputAfter O.written O.faults out.old out.new result }
     ensures input { InputAfter (I.faults input.old) (I.faults input.new) result }
 {

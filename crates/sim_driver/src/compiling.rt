@@ -1,7 +1,7 @@
 // From the bytes of a source to the program that breaks no rule, or to the rule that refuses it.
 ghost use Rattle.std.specs.Prelude.{◌≡◌, ◌<◌, ◌^◌, ◌-◌, length, IfOk};
 ghost use Rattle.sim_lexer.specs.Spelling.{Reads, Spelled};
-ghost use Rattle.sim_parser.specs.Parsing.{IsWholeSource};
+ghost use Rattle.sim_parser.specs.Claim.{IsWholeSource};
 ghost use Rattle.sim_scope.specs.Source.{source_of};
 ghost use Rattle.sim_tree.specs.SyntaxOfProgram.{program_syntax};
 ghost use Rattle.sim_tree.specs.Tree.{IsTree};

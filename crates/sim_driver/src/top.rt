@@ -5,9 +5,10 @@ ghost use Rattle.sim_ports.specs.Bytes.{AddsPrefix};
 ghost use Rattle.sim_ports.specs.Faults.{Rose, Steady, StopsAt};
 ghost use Rattle.sim_ports.specs.Named.{IsOpen};
 ghost use Rattle.sim_driver.specs.Answer.{Answer, Gives, IsAnswer};
-ghost use Rattle.sim_driver.specs.Compiling.{Rejected, SourceCompiles};
-ghost use Rattle.sim_driver.specs.OutputAfter.{Untouched};
-ghost use Rattle.sim_driver.specs.SourceMeaning.{IsCutOff};
+ghost use Rattle.sim_run.specs.RunEnds.{TakesNothing};
+ghost use Rattle.sim_scope.specs.Source.{Source as AnySource};
+ghost use Rattle.sim_driver.specs.Compiling.{Rejected, Runnable, SourceCompiles};
+ghost use Rattle.sim_driver.specs.SourceMeaning.{IsCutOff, limits};
 ghost use Rattle.sim_driver.specs.Reading.{TakesAtMost};
 ghost use Rattle.sim_driver.specs.Speaking.{HasItsCause, Says};
 ghost use Rattle.sim_driver.specs.Status.{is_answer, is_told, line_text};
@@ -87,10 +88,14 @@ pub fn simula<F: Files, I: Source, O: Sink, D: Sink>(
     ensures cut { (source given : List ℕ) → TellsFile (F.content files.old) (texts words.now) source → I.left input.old ≡ Some given → result ≡ Status.InputFault
         → IsCutOff source given (O.written out.old) (O.written out.new) }
 
-    // The input is not touched where no run is asked for, and where a rule refuses the source.
-    ensures only_run { (AsksRun (texts words.now) → ⊥) → Untouched I.left I.can_give I.faults input.old input.new }
+    // The input is as it was where no run is asked for, and where a rule refuses the source.
+    ensures only_run { (AsksRun (texts words.now) → ⊥) → input.new ≡ input.old }
     ensures untouched { (source : List ℕ) (rule : AnyRule) (line : AnyLine) → TellsFile (F.content files.old) (texts words.now) source
-        → SourceCompiles Run source (Rejected rule line) → Untouched I.left I.can_give I.faults input.old input.new }
+        → SourceCompiles Run source (Rejected rule line) → input.new ≡ input.old }
+
+    // And the input is as it was where the program's run takes nothing of it.
+    ensures takes { (source given : List ℕ) (s : AnySource) → TellsFile (F.content files.old) (texts words.now) source → I.left input.old ≡ Some given
+        → SourceCompiles Run source (Runnable s) → TakesNothing s limits given → input.new ≡ input.old }
 {
     let status = run_command(alloc, words, files, input, out);
     write_status_line(alloc, status, diag)

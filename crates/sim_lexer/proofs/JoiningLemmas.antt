@@ -3,7 +3,7 @@ use Rattle.std.proofs.Common.{◌≡◌, ◌≤◌, ◌+◌, List, [], ◌∷◌
 use Rattle.sim_base.specs.declared.token.Token.{Token}
 use Rattle.sim_base.specs.declared.token.TokenKind.{TokenKind}
 use Rattle.sim_base.specs.declared.token.TokenKind.TheVariants as k
-use Rattle.sim_lexer.specs.Joining.{pair_of}
+use Rattle.sim_lexer.specs.Scanning.{pair_of}
 use Rattle.sim_lexer.specs.Spelling.{joined_kind, neighbours, with_next}
 use Rattle.sim_lexer.specs.declared.joining.Pair.TheVariants.{One, Two}
 

@@ -1,8 +1,9 @@
+pub mod EndCommentSteps
 pub mod Following
-pub mod Fronts
 pub mod JoiningLemmas
 pub mod Lines
 pub mod LongestSign
+pub mod LongestWords
 pub mod NoEnd
 pub mod Numbers
 pub mod OneAnswer

@@ -7,9 +7,9 @@ use Rattle.std.specs.Prelude.{◌&&◌, slice_index}
 use Rattle.sim_lexer.specs.Bytes.{is_digit}
 use Rattle.sim_base.specs.declared.token.TokenKind.{TokenKind}
 use Rattle.sim_base.specs.declared.rule.Rule.TheVariants as x
-use Rattle.sim_lexer.specs.Signs.{IsNoLonger, sign_in, sign_item, signs}
+use Rattle.sim_lexer.specs.Signs.{IsNoLonger, sign_in, sign, signs}
 use Rattle.sim_lexer.specs.Words.{Row}
-use Rattle.sim_lexer.specs.declared.item.Item.TheVariants.{Lexeme, Fault}
+use Rattle.sim_lexer.specs.Piece.{Lexeme, Fault}
 
 -- no row is longer
 abbrev NoneLonger : ℕ → List Row → Type 0
@@ -25,7 +25,7 @@ none_longer : (all : List ℕ) (most size : ℕ) (rows : List Row) → most ≡ 
 none_longer all most size [] same short = tt
 none_longer all most size (row ∷ rows) same short = ((λ stands. omega (arith, short.0)), none_longer all most size rows same short.1)
 
--- the item in front by whether the first row stands there
+-- the piece in front by whether the first row stands there
 longest_by : (all : List ℕ) (row : Row) (rows : List Row) (kind : TokenKind) (size : ℕ) (stands : Bool) → starts_with nat_eq all row.0 ≡ stands
     → IsFalling (row ∷ rows)
     → (sign_in rows all (Fault x.ByteBeginsNoToken) ≡ Lexeme kind size → AllByRecursion (IsNoLonger all size) rows)
@@ -52,8 +52,8 @@ behind_dot : (all : List ℕ) (kind : TokenKind) (size : ℕ) (is_real : Bool)
 behind_dot all kind size true front = cc
 behind_dot all kind size false front = longest all signs kind size signs-falling front
 
-pub longest_sign : (all : List ℕ) (kind : TokenKind) (size : ℕ) → sign_item all ≡ Lexeme kind size → All (IsNoLonger all size) signs
-unfolding sign_item
+pub longest_sign : (all : List ℕ) (kind : TokenKind) (size : ℕ) → sign all ≡ Lexeme kind size → All (IsNoLonger all size) signs
+unfolding sign
 longest_sign all kind size front =
     All-from_recursion (IsNoLonger all size) signs
     (behind_dot all kind size (nat_eq (slice_index all 0) 46 && is_digit (slice_index all 1)) front)

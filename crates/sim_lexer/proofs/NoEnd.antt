@@ -1,27 +1,26 @@
 -- No lexeme is the end of the source.
-use Rattle.std.proofs.Common.{ℕ, ◌+◌, Bool, true, false, List, [], ◌∷◌, Option, Some, None, length, drop, rules}
+use Rattle.std.proofs.Common.{ℕ, ◌+◌, Bool, true, false, subst, List, [], ◌∷◌, Option, Some, None, length, drop, rules}
 use Rattle.std.specs.List.{All, position, starts_with, take_while}
-use Rattle.std.specs.Prelude.{unwrap_or, if◌then◌else◌, nat_eq, nat_lt, nat_le, ◌^◌, ◌&&◌, codes, not, slice_index}
+use Rattle.std.specs.Prelude.{unwrap_or, if◌then◌else◌, nat_eq, nat_lt, nat_le, ◌^◌, ◌&&◌, codes, slice_index}
 use Rattle.std.specs.Str.{bytes_eq}
 use Rattle.std.proofs.lemmas.List.Elements.{All-cons, All-nil, All-head, All-tail}
 use Rattle.sim_base.specs.declared.token.Token.{Token}
 use Rattle.sim_base.specs.declared.token.TokenKind.{TokenKind}
 use Rattle.sim_base.specs.declared.token.TokenKind.TheVariants as k
-use Rattle.sim_lexer.specs.Bytes.{is_digit, is_digit_of, is_letter, is_separator, is_word_byte}
+use Rattle.sim_lexer.specs.Bytes.{is_digit, is_digit_of, is_letter, is_separator}
 use Rattle.sim_lexer.specs.Claims.{IsNoEnd}
-use Rattle.sim_lexer.specs.Constants.{character_item, code_form, coded_character, integer, is_real_behind, number_in, number_item, number_value, plain_character, radix, radix_digits}
-use Rattle.sim_lexer.specs.Items.{begun_by, comment_item, comment_to, directive_item, ends_or_blank, front_item, stops, word, word_item}
-use Rattle.sim_lexer.specs.Signs.{sign_in, sign_item, signs_of_more, signs_of_one}
-use Rattle.sim_lexer.specs.Spelling.{else_behind, joined_kind, neighbours, text_behind, then_behind, with_next}
-use Rattle.sim_lexer.specs.Texts.{Content, quoted, text_from, text_item}
+use Rattle.sim_lexer.specs.Constants.{Code, character, code_form, coded_character, integer, is_real_behind, number, number_in, number_value, plain_character, radix, radix_digits}
+use Rattle.sim_lexer.specs.Pieces.{begun_by, comment, comment_to, lower_word, percent_line, piece, word}
+use Rattle.sim_lexer.specs.Signs.{sign_in, sign, signs_of_more, signs_of_one}
+use Rattle.sim_lexer.specs.Spelling.{Writes, lexeme_writes, text_writes, else_behind, joined_kind, neighbours, text_behind, then_behind, with_next}
+use Rattle.sim_lexer.specs.EndComments.{is_directive}
+use Rattle.sim_lexer.specs.Piece.{Piece, Nothing, Separator, Lexeme, Quote, Fault}
 use Rattle.sim_lexer.specs.Words.{Row, is_left_out, keyword, look_up, or_else, words_a_to_d, words_e_to_h, words_i_to_n, words_o_to_s, words_t_to_z}
-use Rattle.sim_lexer.specs.declared.constants.CodeForm.{CodeForm}
-use Rattle.sim_lexer.specs.declared.item.Item.{Item}
-use Rattle.sim_lexer.specs.declared.item.Item.TheVariants.{Finish, Passed, Lexeme, Fault}
 
-abbrev pub GivesNoEnd : Item → Type 0
-GivesNoEnd Finish = Unit {0}
-GivesNoEnd (Passed size) = Unit {0}
+abbrev pub GivesNoEnd : Piece → Type 0
+GivesNoEnd Nothing = Unit {0}
+GivesNoEnd (Separator size) = Unit {0}
+GivesNoEnd Quote = Unit {0}
 GivesNoEnd (Lexeme kind size) = IsNoEnd kind
 GivesNoEnd (Fault rule) = Unit {0}
 
@@ -33,7 +32,7 @@ abbrev HasNoEnd : List Row → Type 0
 HasNoEnd [] = Unit {0}
 HasNoEnd (row ∷ rows) = IsNoEnd row.1 × HasNoEnd rows
 
-either : (b : Bool) (p q : Item) → GivesNoEnd p → GivesNoEnd q → GivesNoEnd (if b then p else q)
+either : (b : Bool) (p q : Piece) → GivesNoEnd p → GivesNoEnd q → GivesNoEnd (if b then p else q)
 either true p q here there = here
 either false p q here there = there
 
@@ -58,19 +57,19 @@ or_identifier : (kind : Option TokenKind) (bytes : List ℕ) → IsNoEndIf kind 
 or_identifier None bytes none = tt
 or_identifier (Some kind) bytes none = none
 
-no_end-comment : (all : List ℕ) → GivesNoEnd (comment_item all)
-unfolding comment_item
+no_end-comment : (all : List ℕ) → GivesNoEnd (comment all)
+unfolding comment
 no_end-comment all = by_place (position (λ byte. nat_eq byte 59) all)
   where
     by_place : (place : Option ℕ) → GivesNoEnd (comment_to place)
     by_place None = tt
     by_place (Some place) = tt
 
-no_end-word : (all : List ℕ) → GivesNoEnd (word_item all)
-unfolding word_item
+no_end-word : (all : List ℕ) → GivesNoEnd (word all)
+unfolding word
 no_end-word all =
-    either (bytes_eq (word all) (codes "comment")) _ _ (no_end-comment all)
-    (either (is_left_out (word all)) _ _ tt (or_identifier (keyword (word all)) (word all) (no_end-keyword (word all))))
+    either (bytes_eq (lower_word all) (codes "comment")) _ _ (no_end-comment all)
+    (either (is_left_out (lower_word all)) _ _ tt (or_identifier (keyword (lower_word all)) (lower_word all) (no_end-keyword (lower_word all))))
 
 no_end-integer : (base : ℕ) (digits : List ℕ) (size : ℕ) (behind : List ℕ) → GivesNoEnd (integer base digits size behind)
 unfolding integer
@@ -82,42 +81,34 @@ no_end-number_in None whole behind = no_end-integer 10 whole (length whole) behi
 no_end-number_in (Some base) whole behind =
     either (nat_eq (length (radix_digits base behind)) 0) _ _ (no_end-integer 10 whole (length whole) behind) (no_end-integer base (radix_digits base behind) _ _)
 
-no_end-number : (all : List ℕ) → GivesNoEnd (number_item all)
-unfolding number_item
+no_end-number : (all : List ℕ) → GivesNoEnd (number all)
+unfolding number
 no_end-number all = no_end-number_in (radix (take_while (is_digit_of 10) all)) _ _
 
 no_end-plain : (all : List ℕ) → GivesNoEnd (plain_character all)
 no_end-plain all = either (nat_le 32 (slice_index all 1) && nat_eq (slice_index all 2) 39) _ _ tt tt
 
-no_end-coded : (form : Option CodeForm) (all : List ℕ) → GivesNoEnd (coded_character form all)
+no_end-coded : (form : Option Code) (all : List ℕ) → GivesNoEnd (coded_character form all)
 no_end-coded None all = no_end-plain all
 no_end-coded (Some form) all = either (nat_eq (slice_index all (1 + form.size)) 39) _ _ tt (no_end-plain all)
 
-no_end-character : (all : List ℕ) → GivesNoEnd (character_item all)
-unfolding character_item
+no_end-character : (all : List ℕ) → GivesNoEnd (character all)
+unfolding character
 no_end-character all = no_end-coded (code_form (drop 1 all)) all
 
-no_end-quoted : (content : Option Content) → GivesNoEnd (quoted content)
-no_end-quoted None = tt
-no_end-quoted (Some content) = tt
-
-no_end-text : (all : List ℕ) → GivesNoEnd (text_item all)
-unfolding text_item
-no_end-text all = no_end-quoted (text_from 0 (drop 1 all))
-
-no_end-sign_in : (rows : List Row) (all : List ℕ) (other : Item) → HasNoEnd rows → GivesNoEnd other → GivesNoEnd (sign_in rows all other)
+no_end-sign_in : (rows : List Row) (all : List ℕ) (other : Piece) → HasNoEnd rows → GivesNoEnd other → GivesNoEnd (sign_in rows all other)
 no_end-sign_in [] all other none there = there
 no_end-sign_in (row ∷ rows) all other none there = either (starts_with nat_eq all row.0) _ _ none.0 (no_end-sign_in rows all other none.1 there)
 
-no_end-sign : (all : List ℕ) → GivesNoEnd (sign_item all)
-unfolding sign_item
+no_end-sign : (all : List ℕ) → GivesNoEnd (sign all)
+unfolding sign
 no_end-sign all =
     either (nat_eq (slice_index all 0) 46 && is_digit (slice_index all 1)) _ _ tt
     (no_end-sign_in signs_of_more all _ (search rules) (no_end-sign_in signs_of_one all _ (search rules) tt))
 
-no_end-directive : (all : List ℕ) → GivesNoEnd (directive_item all)
-unfolding directive_item
-no_end-directive all = either (ends_or_blank (drop 1 all)) _ _ tt tt
+no_end-percent : (all : List ℕ) → GivesNoEnd (percent_line all)
+unfolding percent_line
+no_end-percent all = either (is_directive all) _ _ tt tt
 
 no_end-begun : (byte : ℕ) (all : List ℕ) → GivesNoEnd (begun_by byte all)
 unfolding begun_by
@@ -126,16 +117,18 @@ no_end-begun byte all =
     (either (nat_eq byte 33) _ _ (no_end-comment all)
     (either (is_letter byte) _ _ (no_end-word all)
     (either (is_digit byte) _ _ (no_end-number all)
-    (either (nat_eq byte 34) _ _ (no_end-text all)
+    (either (nat_eq byte 34) _ _ tt
     (either (nat_eq byte 39) _ _ (no_end-character all) (no_end-sign all))))))
 
--- what stands in front spells no end of the source
-pub no_end-front : (fresh behind : Bool) (all : List ℕ) → GivesNoEnd (front_item fresh behind all)
-unfolding front_item
-no_end-front fresh behind [] = tt
-no_end-front fresh behind (byte ∷ rest) =
-    either (fresh && nat_eq byte 37) _ _ (no_end-directive (byte ∷ rest))
-    (either (behind && not (stops (byte ∷ rest))) _ _ (either (is_word_byte byte) _ _ tt tt) (no_end-begun byte (byte ∷ rest)))
+no_end-piece : (begins_line : Bool) (all : List ℕ) → GivesNoEnd (piece begins_line all)
+unfolding piece
+no_end-piece begins_line [] = tt
+no_end-piece begins_line (byte ∷ rest) = either (begins_line && nat_eq byte 37) _ _ (no_end-percent (byte ∷ rest)) (no_end-begun byte (byte ∷ rest))
+
+-- a lexeme writes no end of the source
+pub no_end-written : (begins_line : Bool) (all : List ℕ) {lexeme rest : List ℕ} {kind : TokenKind} → Writes (piece begins_line all) lexeme rest kind → IsNoEnd kind
+no_end-written begins_line all (lexeme_writes is) = subst GivesNoEnd is (no_end-piece begins_line all)
+no_end-written begins_line all (text_writes is d) = tt
 
 -- Tokens that are joined are no end of the source.
 

@@ -1,8 +1,11 @@
--- The classes of bytes that tokens are made of.
-use Rattle.std.specs.Prelude.{ℕ, ◌+◌, ◌-◌, Bool, ◌&&◌, ◌||◌, nat_eq, nat_lt, nat_le, not, if◌then◌else◌}
+-- The classes of bytes that lexemes are made of.
+use Rattle.std.specs.Prelude.{ℕ, ◌-◌, Bool, ◌&&◌, ◌||◌, nat_eq, nat_lt, nat_le, not, if◌then◌else◌}
 
 abbrev pub is_between : ℕ → ℕ → ℕ → Bool
 is_between low high byte = nat_le low byte && nat_le byte high
+
+abbrev pub is_line_feed : ℕ → Bool
+is_line_feed byte = nat_eq byte 10
 
 -- a tab, a form feed, a carriage return or a space
 abbrev pub is_blank : ℕ → Bool
@@ -10,28 +13,22 @@ is_blank byte = nat_eq byte 9 || nat_eq byte 12 || nat_eq byte 13 || nat_eq byte
 
 -- a blank, or a line feed, which ends a line
 abbrev pub is_separator : ℕ → Bool
-is_separator byte = is_blank byte || nat_eq byte 10
+is_separator byte = is_blank byte || is_line_feed byte
 
 -- a byte of the line that it stands in: any but a line feed
 abbrev pub is_in_line : ℕ → Bool
-is_in_line byte = not (nat_eq byte 10)
+is_in_line byte = not (is_line_feed byte)
 
-abbrev pub is_capital : ℕ → Bool
-is_capital = is_between 65 90
-
+-- a letter of either case
 abbrev pub is_letter : ℕ → Bool
-is_letter byte = is_capital byte || is_between 97 122 byte
+is_letter byte = is_between 65 90 byte || is_between 97 122 byte
 
 abbrev pub is_digit : ℕ → Bool
-is_digit = is_between 48 57
+is_digit byte = is_between 48 57 byte
 
 -- a letter, a digit or an underscore
 abbrev pub is_word_byte : ℕ → Bool
 is_word_byte byte = is_letter byte || is_digit byte || nat_eq byte 95
-
--- a byte in lower case
-abbrev pub lower : ℕ → ℕ
-lower byte = if is_capital byte then byte + 32 else byte
 
 -- a byte that may stand in a text constant: a tab, or a byte from 32 on
 abbrev pub is_text_byte : ℕ → Bool

@@ -1,13 +1,12 @@
 -- Integer and character constants.
 use Rattle.std.specs.Prelude.{ℕ, ◌+◌, ◌*◌, ◌^◌, List, [], ◌∷◌, Option, Some, None, Bool, ◌&&◌, ◌||◌, codes, drop, length, nat_eq, nat_lt, nat_le, not, pos, slice_index, if◌then◌else◌}
 use Rattle.std.specs.List.{fold, prefix_len, take_while}
+use Rattle.std.specs.Char.{to_ascii_lowercase}
 use Rattle.std.specs.Str.{bytes_eq}
 use Rattle.sim_base.specs.declared.rule.Rule.TheVariants as x
 use Rattle.sim_base.specs.declared.token.TokenKind.TheVariants as k
-use Rattle.sim_lexer.specs.Bytes.{digit_value, is_digit, is_digit_of, lower}
-use Rattle.sim_lexer.specs.declared.item.Item.{Item}
-use Rattle.sim_lexer.specs.declared.item.Item.TheVariants.{Fault, Lexeme}
-use Rattle.sim_lexer.specs.declared.constants.CodeForm.{CodeForm}
+use Rattle.sim_lexer.specs.Bytes.{digit_value, is_digit, is_digit_of}
+use Rattle.sim_lexer.specs.Piece.{Piece, Fault, Lexeme}
 
 -- a number with one more digit
 abbrev pub one_more : ℕ → ℕ → ℕ → ℕ
@@ -28,7 +27,7 @@ is_real_behind behind =
     || (nat_eq (slice_index behind 0) 38 && is_scale (slice_index behind 1) (slice_index behind 2))
 
 -- an integer constant of that many bytes, with what stands behind it
-unfoldable pub integer : (base : ℕ) (digits : List ℕ) (size : ℕ) (behind : List ℕ) → Item
+unfoldable pub integer : (base : ℕ) (digits : List ℕ) (size : ℕ) (behind : List ℕ) → Piece
 integer base digits size behind =
     if is_real_behind behind then Fault x.RealConstant
     else if nat_lt (number_value base digits) (2 ^ 63) then Lexeme (k.Integer (pos (number_value base digits))) size
@@ -46,52 +45,57 @@ radix whole =
 -- the digits of a base behind an `R` of either case; none where no `R` stands in front
 abbrev pub radix_digits : ℕ → List ℕ → List ℕ
 radix_digits base [] = []
-radix_digits base (mark ∷ rest) = if nat_eq (lower mark) 114 then take_while (is_digit_of base) rest else []
+radix_digits base (mark ∷ rest) = if nat_eq (to_ascii_lowercase mark) 114 then take_while (is_digit_of base) rest else []
 
 -- the integer constant of a base, the decimal digits `whole`, an `R` and these digits
-abbrev pub with_radix : (base : ℕ) (whole digits behind : List ℕ) → Item
+abbrev pub with_radix : (base : ℕ) (whole digits behind : List ℕ) → Piece
 with_radix base whole digits behind =
     integer base digits (length whole + (1 + length digits)) (drop (1 + length digits) behind)
 
 -- the integer constant that begins with the decimal digits `whole`: one of a base where digits of it stand behind an `R`
-abbrev pub number_in : Option ℕ → (whole behind : List ℕ) → Item
+abbrev pub number_in : Option ℕ → (whole behind : List ℕ) → Piece
 number_in None whole behind = integer 10 whole (length whole) behind
 number_in (Some base) whole behind =
     if nat_eq (length (radix_digits base behind)) 0 then integer 10 whole (length whole) behind
     else with_radix base whole (radix_digits base behind) behind
 
-unfoldable pub number_item : List ℕ → Item
-number_item all =
+unfoldable pub number : List ℕ → Piece
+number all =
     number_in
     (radix (take_while (is_digit_of 10) all))
     (take_while (is_digit_of 10) all)
     (drop (prefix_len (is_digit_of 10) all) all)
 
+-- a form `!n!`: the byte that it means, and how many bytes it takes
+pub record Code : Type 0 where
+  pub byte : ℕ
+  pub size : ℕ
+
 -- one to three decimal digits of a number up to 255, with a `!` behind them
-abbrev pub closed_form : (digits : List ℕ) (next : ℕ) → Option CodeForm
+abbrev pub closed_form : (digits : List ℕ) (next : ℕ) → Option Code
 closed_form digits next =
     if nat_eq (length digits) 0 || nat_lt 3 (length digits) || not (nat_eq next 33) then None
     else if nat_lt (number_value 10 digits) 256 then Some (record { byte = number_value 10 digits; size = length digits + 2 })
     else None
 
 -- the form `!n!` in front
-abbrev pub code_form : List ℕ → Option CodeForm
+abbrev pub code_form : List ℕ → Option Code
 code_form [] = None
 code_form (mark ∷ rest) =
     if nat_eq mark 33 then closed_form (take_while (is_digit_of 10) rest) (slice_index rest (prefix_len (is_digit_of 10) rest))
     else None
 
 -- a character constant: the form `!n!` is tried first, then one byte from 32 on
-abbrev pub plain_character : List ℕ → Item
+abbrev pub plain_character : List ℕ → Piece
 plain_character all =
     if nat_le 32 (slice_index all 1) && nat_eq (slice_index all 2) 39 then Lexeme (k.Character (slice_index all 1)) 3
     else Fault x.BadCharacterConstant
 
-abbrev pub coded_character : Option CodeForm → List ℕ → Item
+abbrev pub coded_character : Option Code → List ℕ → Piece
 coded_character None all = plain_character all
 coded_character (Some form) all =
     if nat_eq (slice_index all (1 + form.size)) 39 then Lexeme (k.Character form.byte) (form.size + 2)
     else plain_character all
 
-unfoldable pub character_item : List ℕ → Item
-character_item all = coded_character (code_form (drop 1 all)) all
+unfoldable pub character : List ℕ → Piece
+character all = coded_character (code_form (drop 1 all)) all

@@ -1,8 +1,11 @@
 pub mod Bytes
 pub mod Claims
 pub mod Constants
-pub mod Items
-pub mod Joining
+pub mod EndComments
+pub mod Longest
+pub mod Piece
+pub mod Pieces
+pub mod Scanning
 pub mod Signs
 pub mod Spelling
 pub mod Texts

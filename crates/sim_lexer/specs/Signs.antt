@@ -5,8 +5,7 @@ use Rattle.sim_base.specs.declared.rule.Rule.TheVariants as x
 use Rattle.sim_base.specs.declared.token.TokenKind.TheVariants as k
 use Rattle.sim_lexer.specs.Bytes.{is_digit}
 use Rattle.sim_lexer.specs.Words.{Row}
-use Rattle.sim_lexer.specs.declared.item.Item.{Item}
-use Rattle.sim_lexer.specs.declared.item.Item.TheVariants.{Fault, Lexeme}
+use Rattle.sim_lexer.specs.Piece.{Piece, Fault, Lexeme}
 
 -- the signs, those of more bytes first, so that the first that stands in front is the longest
 abbrev pub signs_of_more : List Row
@@ -47,13 +46,13 @@ signs = signs_of_more ++ signs_of_one
 abbrev pub IsNoLonger : List ℕ → ℕ → Row → Type 0
 IsNoLonger all size row = starts_with nat_eq all row.0 ≡ true → length row.0 ≤ size
 
--- the first sign of a table that stands in front, else the item that another table gives
-abbrev pub sign_in : List Row → (all : List ℕ) → Item → Item
+-- the first sign of a table that stands in front, else the piece that another table gives
+abbrev pub sign_in : List Row → (all : List ℕ) → Piece → Piece
 sign_in [] all other = other
 sign_in (row ∷ rows) all other = if starts_with nat_eq all row.0 then Lexeme row.1 (length row.0) else sign_in rows all other
 
 -- the longest sign in front; a `.` with a digit behind it is a real constant
-unfoldable pub sign_item : List ℕ → Item
-sign_item all =
+unfoldable pub sign : List ℕ → Piece
+sign all =
     if nat_eq (slice_index all 0) 46 && is_digit (slice_index all 1) then Fault x.RealConstant
     else sign_in signs_of_more all (sign_in signs_of_one all (Fault x.ByteBeginsNoToken))

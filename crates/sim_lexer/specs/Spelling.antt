@@ -1,77 +1,67 @@
--- The spelling of tokens: what a source reads as.
-use Rattle.std.specs.Prelude.{ℕ, ◌≡◌, ◌+◌, ◌<◌, ◌≤◌, List, [], ◌∷◌, ◌++◌, Option, Some, None, Bool, true, false, length, nat_eq, if◌then◌else◌}
-use Rattle.std.specs.List.{fold}
+-- The spelling of a source: the tokens that it spells, or the rule of spelling that it breaks first.
+--
+-- From its first byte on a source is written as separators and lexemes, one behind the other. A separator is a blank, a line
+-- feed, a comment or an empty line; it spells nothing. A lexeme is a word, a number, a character or text constant or a sign,
+-- the longest that stands there; it spells a token. `Pieces` says which of them stands in front of the rest of a source.
+use Rattle.std.specs.Prelude.{ℕ, ◌≡◌, ◌+◌, ◌<◌, ◌≤◌, List, [], ◌∷◌, ◌++◌, Option, Some, None, Bool, true, drop, length, nat_eq}
+use Rattle.std.specs.List.{count_by, fold}
 use Rattle.sim_base.specs.declared.rule.Rule.{Rule}
-use Rattle.sim_base.specs.declared.rule.Rule.TheVariants.{SourceTooLong}
+use Rattle.sim_base.specs.declared.rule.Rule.TheVariants.{SourceTooLong, TextConstantNotClosed}
 use Rattle.sim_base.specs.declared.token.Token.{Token}
 use Rattle.sim_base.specs.declared.token.TokenKind.{TokenKind}
 use Rattle.sim_base.specs.declared.token.TokenKind.TheVariants as k
-use Rattle.sim_lexer.specs.Items.{front_item}
-use Rattle.sim_lexer.specs.declared.item.Item.{Item}
-use Rattle.sim_lexer.specs.declared.item.Item.TheVariants.{Finish, Passed, Lexeme, Fault}
-use Rattle.sim_lexer.specs.declared.position.Position.{Position}
+use Rattle.sim_lexer.specs.Bytes.{is_line_feed}
+use Rattle.sim_lexer.specs.Piece.{Piece, Separator, Lexeme, Quote, Fault}
+use Rattle.sim_lexer.specs.Pieces.{piece}
+use Rattle.sim_lexer.specs.Texts.{Content}
 
 -- what a source reads as: the tokens that it spells, or the rule that it breaks and the place
 pub data Lexed : Type 0 where
   Spelled : List Token → Lexed
   Broken : Rule → ℕ → Lexed
 
--- the start of a source: its first line begins there
-abbrev pub start : Position
-start = record { place = 0; line = 1; is_fresh = true; is_behind_end = false }
+-- a line begins at the start and behind each line feed
+abbrev pub begins_line : (before : List ℕ) → Bool
+begins_line before = fold (λ begins byte. is_line_feed byte) true before
 
--- one byte further: a line feed begins a new line
-abbrev pub past_byte : Position → ℕ → Position
-past_byte at byte =
-    record {
-      place = at.place + 1;
-      line = if nat_eq byte 10 then at.line + 1 else at.line;
-      is_fresh = nat_eq byte 10;
-      is_behind_end = at.is_behind_end;
-    }
+-- the line behind these bytes: one more than their line feeds
+abbrev pub line_behind : (before : List ℕ) → ℕ
+line_behind before = 1 + count_by (nat_eq 10) before
 
-abbrev pub past : Position → List ℕ → Position
-past at bytes = fold past_byte at bytes
-
-abbrev pub is_end : TokenKind → Bool
-is_end k.End = true
-is_end kind = false
-
--- behind a token: an `end` begins a comment of its own
-abbrev pub behind : TokenKind → Position → Position
-behind kind at = record at { is_behind_end = is_end kind }
-
--- the token of this kind that begins here
-abbrev pub token : Position → TokenKind → Token
-token at kind = record { kind = kind; place = at.place; line = record { 0 = at.line } }
+-- the token of this kind that begins behind these bytes: its place is their number
+abbrev pub token : (before : List ℕ) → TokenKind → Token
+token before kind = record { kind = kind; place = length before; line = record { 0 = line_behind before } }
 
 -- a token in front of what the rest reads as
 abbrev pub with_token : Token → Lexed → Lexed
 with_token token (Spelled tokens) = Spelled (token ∷ tokens)
 with_token token (Broken rule place) = Broken rule place
 
--- a rest of a source splits into this piece, which stands in front, and what stands behind it
-pub record Stands (at : Position) (all piece rest : List ℕ) (item : Item) : Type 0 where
-  pub split : all ≡ piece ++ rest
-  pub front : front_item at.is_fresh at.is_behind_end all ≡ item
+-- a lexeme in front of the rest writes a token of this kind; a text constant is a quote, what it means and its closing quote
+pub data Writes (front : Piece) (lexeme rest : List ℕ) : TokenKind → Type 0 where
+  lexeme_writes : {kind : TokenKind} → front ≡ Lexeme kind (length lexeme) → Writes front lexeme rest kind
+  text_writes : {bytes : List ℕ} → front ≡ Quote → Content (drop 1 (lexeme ++ rest)) bytes rest → Writes front lexeme rest (k.Text bytes)
 
--- what a rest of a source reads as: at its end it spells the last token; a piece that spells no token is passed over; a
--- lexeme spells a token in front of those of what stands behind it; and a broken rule ends all
-pub data Spells : Position → List ℕ → Lexed → Type 0 where
-  ends : {at : Position} {all : List ℕ}
-      → Stands at all [] all Finish
-      → Spells at all (Spelled (token at k.EndOfSource ∷ []))
-  passes : {at : Position} {all : List ℕ} {answer : Lexed} (piece rest : List ℕ)
-      → Stands at all piece rest (Passed (length piece))
-      → Spells (past at piece) rest answer
-      → Spells at all answer
-  gives : {at : Position} {all : List ℕ} {answer : Lexed} (kind : TokenKind) (piece rest : List ℕ)
-      → Stands at all piece rest (Lexeme kind (length piece))
-      → Spells (behind kind (past at piece)) rest answer
-      → Spells at all (with_token (token at kind) answer)
-  breaks : {at : Position} {all : List ℕ} (rule : Rule)
-      → Stands at all [] all (Fault rule)
-      → Spells at all (Broken rule at.place)
+-- a rule is broken in front
+pub data Breaks (front : Piece) (all : List ℕ) : Rule → Type 0 where
+  piece_breaks : {rule : Rule} → front ≡ Fault rule → Breaks front all rule
+  text_breaks : front ≡ Quote → ((bytes rest : List ℕ) → Content (drop 1 all) bytes rest → ⊥) → Breaks front all TextConstantNotClosed
+
+-- what the rest of a source reads as, with the bytes before it: at its end it spells the last token; a separator is passed
+-- over; a lexeme spells a token in front of those of what stands behind it; and a broken rule ends all
+pub data Spells : (before all : List ℕ) → Lexed → Type 0 where
+  ends : {before : List ℕ} → Spells before [] (Spelled (token before k.EndOfSource ∷ []))
+  passes : {before all : List ℕ} {answer : Lexed} (separator rest : List ℕ)
+      → all ≡ separator ++ rest → piece (begins_line before) all ≡ Separator (length separator)
+      → Spells (before ++ separator) rest answer
+      → Spells before all answer
+  gives : {before all : List ℕ} {answer : Lexed} (kind : TokenKind) (lexeme rest : List ℕ)
+      → all ≡ lexeme ++ rest → Writes (piece (begins_line before) all) lexeme rest kind
+      → Spells (before ++ lexeme) rest answer
+      → Spells before all (with_token (token before kind) answer)
+  breaks : {before all : List ℕ} (rule : Rule)
+      → Breaks (piece (begins_line before) all) all rule
+      → Spells before all (Broken rule (length before))
 
 -- the one token that two neighbours make: two text constants with only separators between them, `and` and `then`, `or`
 -- and `else`
@@ -115,4 +105,4 @@ with_joined (Broken rule place) = Broken rule place
 -- what a source reads as
 pub data Reads (source : List ℕ) : Lexed → Type 0 where
   too_long : 1048576 < length source → Reads source (Broken SourceTooLong 1048576)
-  reads : {answer : Lexed} → length source ≤ 1048576 → Spells start source answer → Reads source (with_joined answer)
+  reads : {answer : Lexed} → length source ≤ 1048576 → Spells [] source answer → Reads source (with_joined answer)

@@ -1,7 +1,7 @@
 //! The classes of bytes that tokens are made of, and how far bytes of one class reach.
 ghost use Rattle.std.specs.Prelude.{◌≡◌, ◌≤◌, length, slice_index};
 ghost use Rattle.std.specs.List.{prefix_len};
-ghost use Rattle.sim_lexer.specs.Bytes.{digit_value, is_blank, is_digit, is_digit_of, is_in_line, is_letter, is_separator, is_text_byte, is_word_byte, lower};
+ghost use Rattle.sim_lexer.specs.Bytes.{digit_value, is_blank, is_digit_of, is_in_line, is_separator, is_text_byte, is_word_byte};
 
 /// A tab, a form feed, a carriage return or a space.
 pub(crate) fn is_blank(byte: u8) -> bool
@@ -17,36 +17,11 @@ pub(crate) fn is_separator(byte: u8) -> bool
     is_blank(byte) || byte == b'\n'
 }
 
-/// A letter of either case.
-pub(crate) fn is_letter(byte: u8) -> bool
-    ensures class { result ≡ is_letter byte }
-{
-    (byte >= b'A' && byte <= b'Z') || (byte >= b'a' && byte <= b'z')
-}
-
-/// A decimal digit.
-pub(crate) fn is_digit(byte: u8) -> bool
-    ensures class { result ≡ is_digit byte }
-{
-    byte >= b'0' && byte <= b'9'
-}
-
 /// A byte of an identifier or a keyword: a letter, a digit or an underscore.
 pub(crate) fn is_word_byte(byte: u8) -> bool
     ensures class { result ≡ is_word_byte byte }
 {
-    is_letter(byte) || is_digit(byte) || byte == b'_'
-}
-
-/// The byte in lower case.
-pub(crate) fn lower(byte: u8) -> u8
-    ensures byte { result ≡ lower byte }
-{
-    if byte >= b'A' && byte <= b'Z' {
-        byte + 32
-    } else {
-        byte
-    }
+    byte.is_ascii_alphabetic() || byte.is_ascii_digit() || byte == b'_'
 }
 
 /// A byte that may stand in a text constant: a tab, or a byte from 32 on.

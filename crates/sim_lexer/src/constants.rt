@@ -1,11 +1,9 @@
 //! Integer and character constants.
 ghost use Rattle.std.specs.Prelude.{◌≡◌, ◌+◌, ◌<◌, ◌≤◌, ◌^◌, length, IfSome, MatchOption};
-ghost use Rattle.std.specs.List.{prefix_len};
-ghost use Rattle.sim_lexer.specs.Bytes.{is_digit_of};
-ghost use Rattle.sim_lexer.specs.Constants.{character_item, closed_form, code_form, integer, is_real_behind, is_scale, number_item, number_in, number_value, one_more, plain_character, radix, radix_digits};
-ghost use Rattle.sim_lexer.specs.Within.{EndsWithin, IsWithin};
+ghost use Rattle.sim_lexer.specs.Constants.{character, closed_form, code_form, integer, is_real_behind, is_scale, number, number_in, number_value, one_more, plain_character, radix, radix_digits};
+ghost use Rattle.sim_lexer.specs.Scanning.{code_of, piece_of};
 
-use crate::bytes::{byte_at, digit_value, digits_len, is_digit, lower};
+use crate::bytes::{byte_at, digit_value, digits_len};
 use crate::item::Item;
 use sim_base::{Rule, TokenKind};
 
@@ -21,12 +19,10 @@ pub struct CodeForm {
 /// The integer constant in front, where a decimal digit stands in front: decimal digits, or `2R`, `4R`, `8R` or `16R`
 /// and digits of that base. It is a real constant where `.` and a digit, or `&`, perhaps a sign, and a digit stand
 /// directly behind it, and too large from 2^63 on.
-#[tactic(auto, unfolding(crate::specs::Constants::number_item))]
+#[tactic(auto, unfolding(crate::specs::Constants::number))]
 pub(crate) fn number_item(rest: &[u8]) -> Item
-    requires some { 0 < prefix_len (is_digit_of 10) rest.now }
     requires short { length rest.now < 2 ^ 63 }
-    ensures item { result ≡ number_item rest.now }
-    ensures within { IsWithin result rest.now }
+    ensures item { number rest.now ≡ piece_of result }
 {
     let (whole, behind) = rest.split_at(digits_len(10, rest));
     number_in(radix(whole), whole, behind)
@@ -35,10 +31,8 @@ pub(crate) fn number_item(rest: &[u8]) -> Item
 // The integer constant that begins with these decimal digits, of a base where digits of it stand behind an `R`.
 fn number_in(radix: Option<u8>, whole: &[u8], behind: &[u8]) -> Item
     requires base { IfSome radix (λ base. 0 < base) }
-    requires some { 0 < length whole.now }
     requires short { length whole.now + length behind.now < 2 ^ 63 }
-    ensures item { result ≡ number_in radix whole.now behind.now }
-    ensures within { EndsWithin result (length whole.now + length behind.now) }
+    ensures item { number_in radix whole.now behind.now ≡ piece_of result }
 {
     match radix {
         Some(base) => {
@@ -78,7 +72,9 @@ fn radix_digits(base: u8, behind: &[u8]) -> &[u8]
     ensures within { 0 < length result.now → 1 + length result.now ≤ length behind.now }
 {
     match behind {
-        [mark, rest @ ..] if lower(*mark) == b'r' => rest.split_at(digits_len(base, rest)).0,
+        [mark, rest @ ..] if mark.to_ascii_lowercase() == b'r' => rest
+            .split_at(digits_len(base, rest))
+            .0,
         _ => &[],
     }
 }
@@ -87,9 +83,7 @@ fn radix_digits(base: u8, behind: &[u8]) -> &[u8]
 #[tactic(auto, unfolding(crate::specs::Constants::integer))]
 fn integer(base: u8, digits: &[u8], size: usize, behind: &[u8]) -> Item
     requires base { 0 < base }
-    requires some { 0 < size }
-    ensures item { result ≡ integer base digits.now size behind.now }
-    ensures within { EndsWithin result size }
+    ensures item { integer base digits.now size behind.now ≡ piece_of result }
 {
     if is_real_behind(behind) {
         return Item::Fault(Rule::RealConstant);
@@ -105,7 +99,7 @@ fn is_real_behind(behind: &[u8]) -> bool
     ensures answer { result ≡ is_real_behind behind.now }
 {
     let first = byte_at(behind, 1);
-    (byte_at(behind, 0) == b'.' && is_digit(first))
+    (byte_at(behind, 0) == b'.' && first.is_ascii_digit())
         || (byte_at(behind, 0) == b'&' && is_scale(first, byte_at(behind, 2)))
 }
 
@@ -113,7 +107,7 @@ fn is_real_behind(behind: &[u8]) -> bool
 fn is_scale(first: u8, second: u8) -> bool
     ensures answer { result ≡ is_scale first second }
 {
-    is_digit(first) || ((first == b'+' || first == b'-') && is_digit(second))
+    first.is_ascii_digit() || ((first == b'+' || first == b'-') && second.is_ascii_digit())
 }
 
 // The number that digits write in a base, where it is below 2^63.
@@ -149,7 +143,7 @@ fn one_more(base: u8, value: u64, digit: u8) -> Option<u64>
 
 /// The form `!n!` in front, with one to three decimal digits and n at most 255.
 pub(crate) fn code_form(rest: &[u8]) -> Option<CodeForm>
-    ensures form { result ≡ code_form rest.now }
+    ensures form { code_of result ≡ code_form rest.now }
     ensures within { IfSome result (λ form. (0 < form.size) × (form.size ≤ length rest.now)) }
 {
     match rest {
@@ -163,7 +157,7 @@ pub(crate) fn code_form(rest: &[u8]) -> Option<CodeForm>
 
 // The form of these digits, with the byte that stands behind them.
 fn closed_form(digits: &[u8], next: u8) -> Option<CodeForm>
-    ensures form { result ≡ closed_form digits.now next }
+    ensures form { code_of result ≡ closed_form digits.now next }
 {
     if digits.is_empty() || digits.len() > 3 || next != b'!' {
         return None;
@@ -179,11 +173,10 @@ fn closed_form(digits: &[u8], next: u8) -> Option<CodeForm>
 
 /// The character constant in front, where an apostrophe stands in front: `'`, the form `!n!` or one byte from 32 on,
 /// and `'`. The form is tried first.
-#[tactic(auto, unfolding(crate::specs::Constants::character_item))]
+#[tactic(auto, unfolding(crate::specs::Constants::character))]
 pub(crate) fn character_item(rest: &[u8]) -> Item
     requires { 0 < length rest.now }
-    ensures item { result ≡ character_item rest.now }
-    ensures within { IsWithin result rest.now }
+    ensures item { character rest.now ≡ piece_of result }
 {
     match code_form(rest.split_at(1).1) {
         Some(form) if byte_at(rest, 1 + form.size) == b'\'' => {
@@ -195,8 +188,7 @@ pub(crate) fn character_item(rest: &[u8]) -> Item
 
 // A character constant of one byte.
 fn plain_character(rest: &[u8]) -> Item
-    ensures item { result ≡ plain_character rest.now }
-    ensures within { IsWithin result rest.now }
+    ensures item { plain_character rest.now ≡ piece_of result }
 {
     let byte = byte_at(rest, 1);
     if byte >= b' ' && byte_at(rest, 2) == b'\'' {

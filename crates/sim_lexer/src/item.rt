@@ -1,79 +1,69 @@
-//! What stands in front of the rest of a source: the end, a separator, a comment, a token or a broken rule.
-ghost use Rattle.std.specs.Prelude.{◌≡◌, ◌<◌, ◌^◌, length, nat_eq, slice_get, IfOk, IfSome, Some};
+//! What stands in front of the rest of a source: a separator, a lexeme or a broken rule.
+ghost use Rattle.std.specs.Prelude.{◌≡◌, ◌+◌, ◌<◌, ◌≤◌, ◌^◌, length, nat_eq, slice_get, IfOk, IfSome, Some};
 ghost use Rattle.std.specs.List.{position, prefix_len};
 ghost use Rattle.sim_lexer.specs.Bytes.{is_word_byte};
-ghost use Rattle.sim_lexer.specs.Items.{begun_by, comment_item, directive_item, front_item, item_of_word, passed_behind_end, stops, word as word_of, word_item, word_kind};
-ghost use Rattle.sim_lexer.specs.Within.{IsWithin};
+ghost use Rattle.sim_lexer.specs.Pieces.{begun_by, comment, comment_behind, lower_word, percent_line, piece, word, word_kind, word_lexeme, word_piece};
+ghost use Rattle.sim_lexer.specs.Scanning.{IsItem, piece_of};
 
-use crate::bytes::{
-    byte_at, is_digit, is_letter, is_separator, is_word_byte, line_len, lower, word_len,
-};
+use crate::bytes::{is_separator, is_word_byte, line_len, word_len};
 use crate::constants::{character_item, number_item};
+use crate::end_comments::{end_comment, is_directive, is_percent_line};
 use crate::signs::sign_item;
 use crate::texts::text_item;
-use crate::words::{is_left_out, is_stop_word, keyword};
+use crate::words::{is_left_out, keyword};
 use sim_base::{ByteString, Rule, TokenKind};
 use std::alloc::{AllocError, Global};
 
 /// What stands in front.
 #[derive(Debug, Drop)]
 pub enum Item {
-    /// Nothing: the source ends.
-    Finish,
-    /// So many bytes that spell no token: a separator, a comment, an empty line, or a part of what stands behind `end`.
-    Passed(usize),
-    /// A token and the number of bytes that spell it.
+    /// So many bytes that spell no token: a blank, a line feed, a comment or an empty line.
+    Skipped(usize),
+    /// A token and the number of bytes that spell it, for `end` with those of its comment.
     Lexeme(TokenKind, usize),
     /// A rule is broken at the first byte.
     Fault(Rule),
 }
 
-/// What stands in front of the rest of a source. `is_fresh` says that it is the front of a line, and `is_behind_end`
-/// that it stands behind an `end`, where all up to a `;` or one of four words is comment.
-#[tactic(auto, unfolding(crate::specs::Items::front_item))]
-pub(crate) fn front_item(
+/// What stands in front of the rest of a source, of which this byte is the first. `begins_line` says that a line begins
+/// here.
+#[tactic(auto, unfolding(crate::specs::Pieces::piece))]
+pub(crate) fn item_in_front(
     alloc: Global,
-    is_fresh: bool,
-    is_behind_end: bool,
+    begins_line: bool,
+    byte: u8,
     rest: &[u8],
 ) -> Result<Item, AllocError>
-    requires { length rest.now < 2 ^ 62 }
-    ensures item { IfOk result (λ item. item ≡ front_item is_fresh is_behind_end rest.now) }
-    ensures within { IfOk result (λ item. IsWithin item rest.now) }
+    requires first { slice_get rest.now 0 ≡ Some byte }
+    requires short { length rest.now < 2 ^ 62 }
+    ensures item { IfOk result (λ item. IsItem (piece begins_line rest.now) rest.now item) }
 {
-    let [byte, ..] = rest else {
-        return Ok(Item::Finish);
-    };
-    if is_fresh && *byte == b'%' {
-        return Ok(directive_item(rest));
+    if is_percent_line(begins_line, rest) {
+        Ok(percent_line(rest))
+    } else {
+        lex_by_first_byte(alloc, byte, rest)
     }
-    if is_behind_end && !stops(rest) {
-        return Ok(passed_behind_end(*byte, rest));
-    }
-    begun_by(alloc, *byte, rest)
 }
 
 // An empty line, which begins with `%` and a blank or a line end, or a directive.
-#[tactic(auto, using(crate::proofs::Fronts::front_passes), unfolding(crate::specs::Items::directive_item))]
-fn directive_item(rest: &[u8]) -> Item
-    requires { slice_get rest.now 0 ≡ Some 37 }
-    ensures item { result ≡ directive_item rest.now }
-    ensures within { IsWithin result rest.now }
+#[tactic(auto, unfolding(crate::specs::Pieces::percent_line))]
+fn percent_line(line: &[u8]) -> Item
+    ensures item { percent_line line.now ≡ piece_of result }
 {
-    match rest.split_at(1).1 {
-        [second, ..] if !is_separator(*second) => Item::Fault(Rule::Directive),
-        _ => Item::Passed(line_len(rest)),
+    if is_directive(line) {
+        Item::Fault(Rule::Directive)
+    } else {
+        Item::Skipped(line_len(line))
     }
 }
 
-// A comment, which runs to the next `;`.
-#[tactic(auto, unfolding(crate::specs::Items::comment_item))]
+// A comment, up to the next `;` and with it.
+#[tactic(auto, unfolding(crate::specs::Pieces::comment))]
 fn comment_item(rest: &[u8]) -> Item
-    ensures item { result ≡ comment_item rest.now }
-    ensures within { IsWithin result rest.now }
+    ensures item { comment rest.now ≡ piece_of result }
 {
     match semicolon(rest) {
-        Some(place) => Item::Passed(place + 1),
+        Some(place) => Item::Skipped(place + 1),
         None => Item::Fault(Rule::CommentNotClosed),
     }
 }
@@ -87,20 +77,19 @@ fn semicolon(rest: &[u8]) -> Option<usize>
 }
 
 // What this byte, the first, begins.
-#[tactic(auto, using(crate::proofs::Fronts::front_passes, crate::proofs::Fronts::front_digit), unfolding(crate::specs::Items::begun_by))]
-fn begun_by(alloc: Global, byte: u8, rest: &[u8]) -> Result<Item, AllocError>
+#[tactic(auto, unfolding(crate::specs::Pieces::begun_by))]
+fn lex_by_first_byte(alloc: Global, byte: u8, rest: &[u8]) -> Result<Item, AllocError>
     requires first { slice_get rest.now 0 ≡ Some byte }
     requires short { length rest.now < 2 ^ 62 }
-    ensures item { IfOk result (λ item. item ≡ begun_by byte rest.now) }
-    ensures within { IfOk result (λ item. IsWithin item rest.now) }
+    ensures item { IfOk result (λ item. IsItem (begun_by byte rest.now) rest.now item) }
 {
     if is_separator(byte) {
-        Ok(Item::Passed(1))
+        Ok(Item::Skipped(1))
     } else if byte == b'!' {
         Ok(comment_item(rest))
-    } else if is_letter(byte) {
+    } else if byte.is_ascii_alphabetic() {
         word_item(alloc, rest)
-    } else if is_digit(byte) {
+    } else if byte.is_ascii_digit() {
         Ok(number_item(rest))
     } else if byte == b'"' {
         text_item(alloc, rest)
@@ -112,11 +101,10 @@ fn begun_by(alloc: Global, byte: u8, rest: &[u8]) -> Result<Item, AllocError>
 }
 
 // The word in front: a comment's, one left out, a keyword or an identifier.
-#[tactic(auto, unfolding(crate::specs::Items::word_item))]
+#[tactic(auto, unfolding(crate::specs::Pieces::word))]
 fn word_item(alloc: Global, rest: &[u8]) -> Result<Item, AllocError>
-    requires { 0 < prefix_len is_word_byte rest.now }
-    ensures item { IfOk result (λ item. item ≡ word_item rest.now) }
-    ensures within { IfOk result (λ item. IsWithin item rest.now) }
+    requires { length rest.now < 2 ^ 62 }
+    ensures item { IfOk result (λ item. word rest.now ≡ piece_of item) }
 {
     let word = lower_word(alloc, rest)?;
     Ok(item_of_word(word, rest))
@@ -124,24 +112,44 @@ fn word_item(alloc: Global, rest: &[u8]) -> Result<Item, AllocError>
 
 // The longest word in front, in lower case.
 fn lower_word(alloc: Global, rest: &[u8]) -> Result<Vec<u8>, AllocError>
-    ensures word { IfOk result (λ word. word.items ≡ word_of rest.now) }
+    ensures word { IfOk result (λ word. word.items ≡ lower_word rest.now) }
 {
     let word = rest.split_at(word_len(rest)).0;
-    word.iter().map(|byte| lower(*byte)).collect(alloc)
+    word.iter().map(u8::to_ascii_lowercase).collect(alloc)
 }
 
 // What a word in lower case, the longest in front, is.
 fn item_of_word(word: Vec<u8>, rest: &[u8]) -> Item
-    requires { 0 < prefix_len is_word_byte rest.now }
-    ensures item { result ≡ item_of_word word.items rest.now }
-    ensures within { IsWithin result rest.now }
+    requires { length rest.now < 2 ^ 62 }
+    ensures item { word_piece word.items rest.now ≡ piece_of result }
 {
     if word.as_slice() == b"comment".as_slice() {
         comment_item(rest)
     } else if is_left_out(&word) {
         Item::Fault(Rule::WordLeftOut)
     } else {
-        Item::Lexeme(word_kind(word), word_len(rest))
+        word_lexeme(word_kind(word), rest)
+    }
+}
+
+// The lexeme of the word in front: `end` takes its comment along.
+fn word_lexeme(kind: TokenKind, rest: &[u8]) -> Item
+    requires { length rest.now < 2 ^ 62 }
+    ensures item { word_lexeme kind (prefix_len is_word_byte rest.now) rest.now ≡ piece_of result }
+{
+    let size = word_len(rest);
+    let behind = comment_behind(&kind, rest.split_at(size).1);
+    Item::Lexeme(kind, size + behind)
+}
+
+// How many bytes behind a word belong to it.
+fn comment_behind(kind: &TokenKind, behind: &[u8]) -> usize
+    ensures len { result ≡ comment_behind kind.now behind.now }
+    ensures within { result ≤ length behind.now }
+{
+    match kind {
+        TokenKind::End => end_comment(behind),
+        _ => 0,
     }
 }
 
@@ -152,26 +160,5 @@ fn word_kind(word: Vec<u8>) -> TokenKind
     match keyword(&word) {
         Some(kind) => kind,
         None => TokenKind::Identifier(ByteString::new(word)),
-    }
-}
-
-// Whether the comment behind an `end` stops here.
-fn stops(rest: &[u8]) -> bool
-    ensures answer { result ≡ stops rest.now }
-{
-    byte_at(rest, 0) == b';' || is_stop_word(rest.split_at(word_len(rest)).0)
-}
-
-// What is passed over behind an `end`: a word, or a byte of none.
-#[tactic(auto, using(crate::proofs::Fronts::front_passes))]
-fn passed_behind_end(byte: u8, rest: &[u8]) -> Item
-    requires { slice_get rest.now 0 ≡ Some byte }
-    ensures item { result ≡ passed_behind_end byte rest.now }
-    ensures within { IsWithin result rest.now }
-{
-    if is_word_byte(byte) {
-        Item::Passed(word_len(rest))
-    } else {
-        Item::Passed(1)
     }
 }

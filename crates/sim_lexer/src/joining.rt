@@ -1,7 +1,7 @@
 //! Neighbours that are one token: text constants, `and` and `then`, `or` and `else`.
 ghost use Rattle.std.specs.Prelude.{◌≡◌, ◌++◌, IfOk, OnOk};
 ghost use Rattle.sim_base.specs.declared.token.TokenKind.TheVariants as kinds;
-ghost use Rattle.sim_lexer.specs.Joining.{pair_of};
+ghost use Rattle.sim_lexer.specs.Scanning.{pair_of};
 ghost use Rattle.sim_lexer.specs.Spelling.{else_behind, joined_kind, neighbours, text_behind, then_behind, with_next};
 
 use sim_base::{ByteString, Token, TokenKind};

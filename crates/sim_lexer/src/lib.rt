@@ -3,6 +3,7 @@
 
 mod bytes;
 mod constants;
+mod end_comments;
 mod item;
 mod joining;
 mod laws;
@@ -13,6 +14,6 @@ mod spelling;
 mod texts;
 mod words;
 
-pub use laws::{lines_of_tokens, longest_sign, one_reading, places_and_lines};
+pub use laws::{longest_number, longest_sign, longest_word, one_reading, places_and_lines};
 pub use refusal::LexRefusal;
 pub use spelling::{SOURCE_LIMIT, lex};

@@ -1,8 +1,8 @@
 //! How far a source was read.
 ghost use Rattle.std.specs.Prelude.{◌≡◌, ◌+◌, ◌<◌, ◌≤◌, ◌^◌, length};
-ghost use Rattle.sim_lexer.specs.Spelling.{past, past_byte};
+ghost use Rattle.sim_lexer.specs.Scanning.{past, past_byte};
 
-/// How far a source was read, and what that says of what stands next.
+/// How far a source was read.
 #[derive(Clone, Copy, Debug, PartialEq, Eq)]
 pub struct Position {
     /// The number of bytes that were read.
@@ -10,9 +10,7 @@ pub struct Position {
     /// One more than the number of line feeds that were read.
     pub line: u32,
     /// Whether a line begins here.
-    pub is_fresh: bool,
-    /// Whether this is behind an `end` and its comment has not stopped.
-    pub is_behind_end: bool,
+    pub begins_line: bool,
 }
 
 /// The position behind these bytes.
@@ -36,11 +34,10 @@ fn past_byte(at: Position, byte: u8) -> Position
     requires line { at.line ≤ at.place + 1 }
     ensures position { result ≡ past_byte at byte }
 {
-    let is_fresh = byte == b'\n';
+    let begins_line = byte == b'\n';
     Position {
         place: at.place + 1,
-        line: if is_fresh { at.line + 1 } else { at.line },
-        is_fresh,
-        is_behind_end: at.is_behind_end,
+        line: if begins_line { at.line + 1 } else { at.line },
+        begins_line,
     }
 }

@@ -1,21 +1,20 @@
 //! The tokens that are written by signs.
-ghost use Rattle.std.specs.Prelude.{◌≡◌, ◌<◌, length};
-ghost use Rattle.sim_lexer.specs.Within.{IsWithin};
-ghost use Rattle.sim_lexer.specs.Signs.{sign_in, sign_item, signs_of_more, signs_of_one};
+ghost use Rattle.std.specs.Prelude.{◌≡◌};
+ghost use Rattle.sim_lexer.specs.Piece.{Fault as AnyFault};
+ghost use Rattle.sim_lexer.specs.Scanning.{piece_of};
+ghost use Rattle.sim_lexer.specs.Signs.{sign, sign_in, signs_of_more, signs_of_one};
 
-use crate::bytes::{byte_at, is_digit};
+use crate::bytes::byte_at;
 use crate::item::Item;
 use sim_base::{Rule, TokenKind};
 
 /// The longest sign in front. A `.` with a digit behind it is a real constant, and a byte that begins no sign begins
 /// no token.
-#[tactic(auto, unfolding(crate::specs::Signs::sign_item))]
+#[tactic(auto, unfolding(crate::specs::Signs::sign))]
 pub(crate) fn sign_item(rest: &[u8]) -> Item
-    requires { 0 < length rest.now }
-    ensures item { result ≡ sign_item rest.now }
-    ensures within { IsWithin result rest.now }
+    ensures item { sign rest.now ≡ piece_of result }
 {
-    if byte_at(rest, 0) == b'.' && is_digit(byte_at(rest, 1)) {
+    if byte_at(rest, 0) == b'.' && byte_at(rest, 1).is_ascii_digit() {
         return Item::Fault(Rule::RealConstant);
     }
     long_sign(rest)
@@ -23,8 +22,7 @@ pub(crate) fn sign_item(rest: &[u8]) -> Item
 
 // A sign of two bytes or more, else one of one byte.
 fn long_sign(rest: &[u8]) -> Item
-    ensures item { result ≡ sign_in signs_of_more rest.now (sign_in signs_of_one rest.now (Item.Fault Rule.ByteBeginsNoToken)) }
-    ensures within { IsWithin result rest.now }
+    ensures item { sign_in signs_of_more rest.now (sign_in signs_of_one rest.now (AnyFault Rule.ByteBeginsNoToken)) ≡ piece_of result }
 {
     if rest.starts_with(b"=/=") {
         Item::Lexeme(TokenKind::OtherReference, 3)
@@ -51,8 +49,7 @@ fn long_sign(rest: &[u8]) -> Item
 
 // A sign of one byte.
 fn short_sign(rest: &[u8]) -> Item
-    ensures item { result ≡ sign_in signs_of_one rest.now (Item.Fault Rule.ByteBeginsNoToken) }
-    ensures within { IsWithin result rest.now }
+    ensures item { sign_in signs_of_one rest.now (AnyFault Rule.ByteBeginsNoToken) ≡ piece_of result }
 {
     if rest.starts_with(b"(") {
         Item::Lexeme(TokenKind::Open, 1)

@@ -1,9 +1,10 @@
 //! The lexer: from the bytes of a source to its tokens.
 ghost use Rattle.std.specs.Prelude.{◌≡◌, ◌≤◌, ◌+◌, IfOk, MatchResult, length};
 ghost use Rattle.sim_lexer.specs.Claims.{IsEnded, Refused, Refuses};
-ghost use Rattle.sim_lexer.specs.Spelling.{Lexed, Reads, Spelled, is_end, token};
+ghost use Rattle.sim_lexer.specs.Scanning.{token_at};
+ghost use Rattle.sim_lexer.specs.Spelling.{Lexed, Reads, Spelled};
 
-use crate::item::{Item, front_item};
+use crate::item::{Item, item_in_front};
 use crate::joining::add;
 use crate::position::{Position, past};
 use crate::refusal::LexRefusal;
@@ -48,29 +49,24 @@ fn read(alloc: Global, source: &[u8]) -> Result<Vec<Token>, LexRefusal>
     let mut at = Position {
         place: 0,
         line: 1,
-        is_fresh: true,
-        is_behind_end: false,
+        begins_line: true,
     };
     let mut rest = source;
     'items: loop {
-        match front_item(alloc, at.is_fresh, at.is_behind_end, rest)? {
-            Item::Finish => {
-                add(&mut tokens, token(at, TokenKind::EndOfSource))?;
-                return Ok(tokens);
-            }
-            Item::Passed(size) => {
+        let [byte, ..] = rest else {
+            add(&mut tokens, token(at, TokenKind::EndOfSource))?;
+            return Ok(tokens);
+        };
+        match item_in_front(alloc, at.begins_line, *byte, rest)? {
+            Item::Skipped(size) => {
                 let (piece, behind) = rest.split_at(size);
                 at = past(at, piece);
                 rest = behind;
             }
             Item::Lexeme(kind, size) => {
                 let (piece, behind) = rest.split_at(size);
-                let is_behind_end = is_end(&kind);
                 add(&mut tokens, token(at, kind))?;
-                at = Position {
-                    is_behind_end,
-                    ..past(at, piece)
-                };
+                at = past(at, piece);
                 rest = behind;
             }
             Item::Fault(rule) => {
@@ -85,18 +81,11 @@ fn read(alloc: Global, source: &[u8]) -> Result<Vec<Token>, LexRefusal>
 
 // The token of this kind that begins here.
 fn token(at: Position, kind: TokenKind) -> Token
-    ensures token { result ≡ token at kind }
+    ensures token { result ≡ token_at at kind }
 {
     Token {
         kind,
         place: at.place,
         line: Line(at.line),
     }
-}
-
-// Whether this is the word `end`.
-fn is_end(kind: &TokenKind) -> bool
-    ensures answer { result ≡ is_end kind.now }
-{
-    matches!(kind, TokenKind::End)
 }

@@ -1,8 +1,7 @@
 //! Text constants.
 ghost use Rattle.std.specs.Prelude.{◌≡◌, ◌<◌, ◌^◌, length, IfOk};
-ghost use Rattle.sim_lexer.specs.Texts.{text_byte, text_item, text_piece};
 ghost use Rattle.sim_lexer.specs.Constants.{code_form};
-ghost use Rattle.sim_lexer.specs.Within.{IsPieceOf, IsWithin};
+ghost use Rattle.sim_lexer.specs.Scanning.{IsPieceOf, IsText, text_byte, text_piece};
 
 use crate::bytes::is_text_byte;
 use crate::constants::code_form;
@@ -23,12 +22,10 @@ pub enum TextPiece {
 
 /// The text constant in front, where a quote stands in front. It stands on one line and holds tabs and bytes from 32
 /// on; `""` in it means one quote and the form `!n!` the byte of that code.
-#[tactic(auto, unfolding(crate::specs::Texts::text_item))]
 pub(crate) fn text_item(alloc: Global, rest: &[u8]) -> Result<Item, AllocError>
     requires some { 0 < length rest.now }
     requires short { length rest.now < 2 ^ 63 }
-    ensures item { IfOk result (λ item. item ≡ text_item rest.now) }
-    ensures within { IfOk result (λ item. IsWithin item rest.now) }
+    ensures text { IfOk result (λ item. IsText rest.now item) }
 {
     let mut behind = rest.split_at(1).1;
     let mut read = 0;

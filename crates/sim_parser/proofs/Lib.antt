@@ -3,10 +3,12 @@ pub mod BlockShapes
 pub mod BlockSteps
 pub mod BlockTables
 pub mod DeclarationConstants
-pub mod DeclarationLists
+pub mod DeclarationSteps
 pub mod DeclarationTables
 pub mod ElementsTables
+pub mod Exits
 pub mod HeadingSteps
+pub mod ListSteps
 pub mod NameSteps
 pub mod OperationTables
 pub mod ProgramSteps

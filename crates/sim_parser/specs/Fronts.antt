@@ -7,14 +7,14 @@ use Rattle.sim_base.specs.declared.token.Token.{Token}
 use Rattle.sim_tree.specs.declared.terminal.Terminal.{Terminal}
 use Rattle.sim_tree.specs.declared.terminal.Terminal.TheVariants as t
 use Rattle.sim_tree.specs.Grammar as g
-use Rattle.sim_tree.specs.Grammar.{Part, Symbol, Of, Once, Many, Mark, is, types}
+use Rattle.sim_tree.specs.Grammar.{Part, Symbol, Of, Once, Many, Mark, is, one_of, right_side, types}
 use Rattle.sim_tree.specs.Reading.{Forest, done, terminal_at}
 use Rattle.sim_tree.specs.Claim.{one}
 use Rattle.sim_tree.specs.Shown.{row}
 use Rattle.sim_tree.specs.Tree.{ReadsPart}
 use Rattle.sim_expr_parser.specs.declared.refusal.Stop.{Stop}
 use Rattle.sim_expr_parser.specs.Parsing.{Stops}
-use Rattle.sim_parser.specs.Parsing.{ReadsAll}
+use Rattle.sim_parser.specs.Parsing.{GivesPart, ReadsAll}
 
 abbrev pub modes : List Terminal
 modes = t.Value ∷ t.Name ∷ []
@@ -42,6 +42,14 @@ GivesFront ws d n i view s (Err e) = Stops ws d (one n) i e
 abbrev pub GivesSome : {A : Type 0} → List Token → ℕ → Part → ℕ → (A → Forest) → Result (Vec A Global × ℕ) Stop → Type 0
 GivesSome ws d n i view (Ok r) = (0 < length r.0.items) × ReadsAll ws d (Of Once n ∷ Of Many n ∷ []) i (row n (map view r.0.items) done) r.1
 GivesSome ws d n i view (Err e) = Stops ws d (Of Once n ∷ Of Many n ∷ []) i e
+
+-- this part begins as a specification does
+abbrev pub BeginsSpecified : Part → Type 0
+BeginsSpecified n = (a : Terminal) → (one_of begins_specification a ≡ true → (right : List Symbol) × (right_side n a ≡ Some right)) × (one_of begins_specification a ≡ false → right_side n a ≡ None)
+
+-- a reader reads this part wherever it is called
+abbrev pub PartEach : {A : Type 0} → List Token → ℕ → Part → (A → Forest) → (ℕ → Result (A × ℕ) Stop → Type 0) → Type 0
+PartEach {A} ws d n view post = (i : ℕ) (r : Result (A × ℕ) Stop) → i < length ws → post i r → GivesPart ws d n i view r
 
 -- the token of a word, where it stands there, and the next index
 abbrev pub GivesWord : List Token → ℕ → Terminal → Option TokenNo → ℕ → Type 0

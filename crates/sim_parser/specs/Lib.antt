@@ -1,4 +1,5 @@
-pub mod Dimensions
+pub mod Claim
+pub mod CommaLists
 pub mod Elements
 pub mod Fronts
 pub mod Parsing

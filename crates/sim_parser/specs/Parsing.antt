@@ -1,12 +1,10 @@
--- What the parser's functions promise.
+-- What the functions inside the parser promise. `Claim` is what the parser as a whole does.
 use Rattle.std.specs.Prelude.{◌≡◌, ◌≤◌, ◌<◌, ℕ, ◌+◌, List, [], ◌∷◌, map, length, Option, Some, None, Result, Ok, Err, true, false}
 use Rattle.std.specs.declared.alloc.Global.{Global}
 use Rattle.std.specs.declared.boxed.Box.{Box}
 use Rattle.std.specs.declared.vec.Vec.{Vec}
 use Rattle.sim_base.specs.declared.token.Token.{Token}
 use Rattle.sim_base.specs.declared.token.TokenKind.TheVariants as k
-use Rattle.sim_base.specs.declared.rule.Rule.TheVariants as rule
-use Rattle.sim_tree.specs.declared.program.Program.{Program}
 use Rattle.sim_tree.specs.declared.stmt.Decl.{Decl}
 use Rattle.sim_tree.specs.declared.stmt.Stmt.{Stmt}
 use Rattle.sim_tree.specs.declared.stmt.TypeName.{TypeName}
@@ -14,23 +12,16 @@ use Rattle.sim_tree.specs.declared.terminal.Terminal.{Terminal}
 use Rattle.sim_tree.specs.declared.terminal.Terminal.TheVariants as t
 use Rattle.sim_tree.specs.Grammar as g
 use Rattle.sim_tree.specs.Grammar.{Part, Symbol, Of, Once, Maybe, Many, Kept, Mark, Any, Here, is, one_of, just, types, begins_statement}
-use Rattle.sim_tree.specs.Reading.{Forest, done, leaf, place, node, terminal_at, Reads, Fails, Fault, Unexpected, TooDeep}
-use Rattle.sim_tree.specs.Claim.{Begins, IsFirstBad, one}
+use Rattle.sim_tree.specs.Reading.{Forest, done, leaf, place, node, terminal_at, Reads, Fails, Fault}
+use Rattle.sim_tree.specs.Claim.{one}
 use Rattle.sim_tree.specs.ShownProgram.{Declared, Plain, Prefixed, decl_shown, next_statement, stmt_shown, type_shown}
 use Rattle.sim_tree.specs.Shown.{identifier, row}
-use Rattle.sim_tree.specs.Tree.{limit, IsTree, ReadsPart}
+use Rattle.sim_tree.specs.Tree.{limit, ReadsPart}
 use Rattle.sim_expr_parser.specs.declared.refusal.Stop.{Stop}
-use Rattle.sim_expr_parser.specs.declared.refusal.SyntaxRefusal.{SyntaxRefusal}
-use Rattle.sim_expr_parser.specs.declared.refusal.SyntaxRefusal.TheVariants as refusal
-use Rattle.sim_expr_parser.specs.Parsing.{IsSource, Stops}
+use Rattle.sim_expr_parser.specs.Parsing.{Stops}
 use Rattle.sim_parser.specs.declared.statement.Connection.{Connection}
 use Rattle.sim_parser.specs.declared.statement.Branch.{Branch}
 use Rattle.sim_parser.specs.declared.statement.Branch.TheVariants as branch
-
--- a source's tokens, of which the last one alone ends it
-pub record IsWholeSource (ws : List Token) : Type 0 where
-  pub source : IsSource ws
-  pub only : (i : ℕ) → i < length ws → terminal_at ws i ≡ t.EndOfSource → i + 1 ≡ length ws
 
 -- a part, read from i on
 abbrev pub GivesPart : {A : Type 0} → List Token → ℕ → Part → ℕ → (A → Forest) → Result (A × ℕ) Stop → Type 0
@@ -177,11 +168,3 @@ abbrev pub Closes : List Token → ℕ → ℕ → Result ℕ Stop → Type 0
 Closes ws d i (Ok j) = (i ≤ j) × (j < length ws) × ((s : List Symbol) (f : Forest) (m : ℕ) → Reads limit ws d s j f m → Reads limit ws d (Of Once g.AfterDeclaration ∷ Any t.Semicolon ∷ s) i (node g.AfterDeclaration done f) m)
     × ((s : List Symbol) (e : Stop) → Stops ws d s j e → Stops ws d (Of Once g.AfterDeclaration ∷ Any t.Semicolon ∷ s) i e)
 Closes ws d i (Err e) = (s : List Symbol) → Stops ws d (Of Once g.AfterDeclaration ∷ s) i e
-
--- What parse answers: the tree that the grammar gives, or the first bad token, or the first that nests too deeply, before which none is bad.
-abbrev pub Parses : List Token → Result Program SyntaxRefusal → Type 0
-Parses ws (Ok p) = IsTree ws p
-Parses ws (Err (refusal.Broken rule.UnexpectedToken k)) = Fails limit ws 0 (one g.Program) 0 (Unexpected k.0) × IsFirstBad ws (one g.Program) 0 k.0
-Parses ws (Err (refusal.Broken rule.NestedTooDeeply k)) = Fails limit ws 0 (one g.Program) 0 (TooDeep k.0) × Begins ws (one g.Program) 0 k.0
-Parses ws (Err (refusal.Broken _ k)) = ⊥
-Parses ws (Err refusal.Memory) = Unit {0}

@@ -4,14 +4,16 @@
 ghost use Rattle.std.specs.Prelude.{◌≡◌, ◌≤◌, ◌<◌, ℕ, List, [], ◌∷◌, map, length};
 ghost use Rattle.sim_tree.specs.Grammar as g;
 ghost use Rattle.sim_tree.specs.Grammar.{Of, Once, Many};
-ghost use Rattle.sim_tree.specs.ShownProgram.{bounds_shown, constant_shown, dimensions, segment_shown, segments_shown, variable_shown, variables_shown};
+ghost use Rattle.sim_tree.specs.Reading.{node};
+ghost use Rattle.sim_tree.specs.ShownProgram.{bounds_shown, constant_shown, segment_shown, segments_shown, variable_shown, variables_shown};
 ghost use Rattle.sim_expr_parser.specs.Parsing.{GivesTo};
-ghost use Rattle.sim_parser.specs.Dimensions.{GivesDimensions};
+ghost use Rattle.sim_parser.specs.CommaLists.{GivesItems};
 ghost use Rattle.sim_parser.specs.Parsing.{GivesAll, GivesPart};
 
+use crate::lists::comma_list;
 use crate::names::identifiers;
 use sim_base::TokenKind;
-use sim_expr_parser::{LIMIT, Source, Stop, add, expression, leading_sign};
+use sim_expr_parser::{LIMIT, Source, Stop, expression, leading_sign};
 use sim_tree::{ArraySegment, Bounds, Constant, Terminal, Variable};
 
 /// The variables and constants of a type, at least one, with commas between them, and the index after them.
@@ -19,15 +21,7 @@ pub fn variables(source: &Source, start: usize) -> Result<(Vec<Variable>, usize)
     requires within { start < length source.now }
     ensures { (d : ℕ) → GivesAll source.now d (Of Once g.Variable ∷ Of Many g.NextVariable ∷ []) start (λ v. variables_shown v.items) result }
 {
-    let mut list = Vec::new(source.allocator());
-    let (first, mut at) = variable(source, start)?;
-    add(&mut list, first)?;
-    while let Some(next) = source.eat(at, Terminal::Comma) {
-        let (variable, end) = variable(source, next)?;
-        add(&mut list, variable)?;
-        at = end;
-    }
-    Ok((list, at))
+    comma_list(source, start, |at| variable(source, at))
 }
 
 // A variable, or a constant.
@@ -85,15 +79,7 @@ pub fn segments(
     requires shallow { depth ≤ LIMIT }
     ensures { GivesAll source.now depth (Of Once g.ArraySegment ∷ Of Many g.NextArraySegment ∷ []) start (λ v. segments_shown v.items) result }
 {
-    let mut list = Vec::new(source.allocator());
-    let (first, mut at) = segment(source, start, depth)?;
-    add(&mut list, first)?;
-    while let Some(next) = source.eat(at, Terminal::Comma) {
-        let (segment, end) = segment(source, next, depth)?;
-        add(&mut list, segment)?;
-        at = end;
-    }
-    Ok((list, at))
+    comma_list(source, start, |at| segment(source, at, depth))
 }
 
 // Arrays with the same bounds.
@@ -113,17 +99,9 @@ fn segment(source: &Source, at: usize, depth: u32) -> Result<(ArraySegment, usiz
 fn bounds_list(source: &Source, start: usize, depth: u32) -> Result<(Vec<Bounds>, usize), Stop>
     requires within { start < length source.now }
     requires shallow { depth ≤ LIMIT }
-    ensures { GivesDimensions source.now depth start result }
+    ensures { GivesItems source.now depth (Of Once g.Bounds) g.NextBounds start (λ b f. node g.Bounds (bounds_shown b) f) result }
 {
-    let mut list = Vec::new(source.allocator());
-    let (first, mut at) = bounds(source, start, depth)?;
-    add(&mut list, first)?;
-    while let Some(next) = source.eat(at, Terminal::Comma) {
-        let (bounds, end) = bounds(source, next, depth)?;
-        add(&mut list, bounds)?;
-        at = end;
-    }
-    Ok((list, at))
+    comma_list(source, start, |at| bounds(source, at, depth))
 }
 
 // The bounds of a dimension.

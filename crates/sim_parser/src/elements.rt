@@ -8,8 +8,9 @@ ghost use Rattle.sim_tree.specs.ShownProgram.{for_element_shown, for_elements as
 ghost use Rattle.sim_parser.specs.Parsing.{GivesAll, GivesPart};
 ghost use Rattle.sim_parser.specs.Elements.{for_list_shown};
 
+use crate::lists::comma_list;
 use sim_base::TokenNo;
-use sim_expr_parser::{LIMIT, Source, Stop, add, expression};
+use sim_expr_parser::{LIMIT, Source, Stop, expression};
 use sim_tree::{ForElement, ReferenceElement, Terminal};
 
 /// The sign and the elements of a `for` list.
@@ -49,15 +50,7 @@ fn for_elements(source: &Source, start: usize, depth: u32) -> Result<(Vec<ForEle
     requires shallow { depth ≤ LIMIT }
     ensures { GivesAll source.now depth (Of Once g.ForElement ∷ Of Many g.NextForElement ∷ []) start (λ v. for_elements_shown v.items) result }
 {
-    let mut list = Vec::new(source.allocator());
-    let (first, mut at) = for_element(source, start, depth)?;
-    add(&mut list, first)?;
-    while let Some(next) = source.eat(at, Terminal::Comma) {
-        let (element, end) = for_element(source, next, depth)?;
-        add(&mut list, element)?;
-        at = end;
-    }
-    Ok((list, at))
+    comma_list(source, start, |at| for_element(source, at, depth))
 }
 
 // An element over values.
@@ -107,15 +100,7 @@ fn reference_elements(
     requires shallow { depth ≤ LIMIT }
     ensures { GivesAll source.now depth (Of Once g.ReferenceElement ∷ Of Many g.NextReferenceElement ∷ []) start (λ v. reference_elements_shown v.items) result }
 {
-    let mut list = Vec::new(source.allocator());
-    let (first, mut at) = reference_element(source, start, depth)?;
-    add(&mut list, first)?;
-    while let Some(next) = source.eat(at, Terminal::Comma) {
-        let (element, end) = reference_element(source, next, depth)?;
-        add(&mut list, element)?;
-        at = end;
-    }
-    Ok((list, at))
+    comma_list(source, start, |at| reference_element(source, at, depth))
 }
 
 // An element over references.

@@ -1,14 +1,15 @@
 //! Headings of procedures and classes: formal parameters, protection, virtual procedures.
 #![tactic(auto, unfolding(sim_tree::specs::Grammar::is))]
 
-ghost use Rattle.std.specs.Prelude.{◌≡◌, ◌<◌, ◌∷◌, ℕ, None, false, map, length, IfOk, MatchOption};
+ghost use Rattle.std.specs.Prelude.{◌≡◌, ◌<◌, ◌∷◌, ℕ, None, Ok, false, map, length, IfOk, MatchOption};
 ghost use Rattle.sim_tree.specs.declared.terminal.Terminal.TheVariants as t;
 ghost use Rattle.sim_tree.specs.Grammar as g;
-ghost use Rattle.sim_tree.specs.Grammar.{Kept, Maybe, Of, is, just, one_of, right_side};
-ghost use Rattle.sim_tree.specs.Reading.{terminal_at};
+ghost use Rattle.sim_tree.specs.Grammar.{Kept, Maybe, Of, Part, is, just, one_of, right_side};
+ghost use Rattle.sim_tree.specs.Reading.{Forest, terminal_at};
 ghost use Rattle.sim_tree.specs.ShownProgram.{heading_shown, mode_kind, mode_shown, protecting, protection_shown, specification_shown, specifier_shown, typed, virtual_shown, virtuals_shown};
 ghost use Rattle.sim_expr_parser.specs.Parsing.{GivesRow, GivesTo, Took};
-ghost use Rattle.sim_parser.specs.Fronts.{GivesFront, GivesSome, GivesWord, ReadsFront, begins_specification as specification_spec, modes, names_row};
+ghost use Rattle.sim_parser.specs.CommaLists.{IsReader};
+ghost use Rattle.sim_parser.specs.Fronts.{BeginsSpecified, GivesFront, GivesSome, GivesWord, PartEach, ReadsFront, begins_specification as specification_spec, modes, names_row};
 ghost use Rattle.sim_parser.specs.Parsing.{GivesPart};
 
 use crate::names::{identifiers, type_name};
@@ -98,20 +99,34 @@ fn begins_specification(terminal: Terminal) -> bool
     terminal == Terminal::Procedure || begins_type(terminal)
 }
 
+// Specifications, or virtual procedures, at a token, at least one, and the index after them.
+fn specified_list<T: Drop, F: Fn(usize) -> Result<(T, usize), Stop>>(
+    source: &Source,
+    start: usize,
+    item_at: F,
+) -> Result<(Vec<T>, usize), Stop>
+    requires within { start < length source.now }
+    requires reader { IsReader source.now (F.pre item_at) (F.post item_at) }
+    requires ahead { (i : ℕ) (x : T) (j : ℕ) → i < length source.now → F.post item_at i (Ok (x, j)) → i < j }
+    ensures { (d : ℕ) (n : Part) (view : T → Forest) → BeginsSpecified n → PartEach source.now d n view (F.post item_at) → GivesSome source.now d n start view result }
+{
+    let mut list = Vec::new(source.allocator());
+    let (first, mut at) = item_at(start)?;
+    list.push(first)?;
+    while begins_specification(source.terminal_at(at)) {
+        let (next, end) = item_at(at)?;
+        list.push(next)?;
+        at = end;
+    }
+    Ok((list, at))
+}
+
 // The specifications, at least one.
 fn specifications(source: &Source, start: usize) -> Result<(Vec<Specification>, usize), Stop>
     requires within { start < length source.now }
     ensures { (d : ℕ) → GivesSome source.now d g.Specification start specification_shown result }
 {
-    let mut list = Vec::new(source.allocator());
-    let (first, mut at) = specification(source, start)?;
-    list.push(first)?;
-    while begins_specification(source.terminal_at(at)) {
-        let (next, end) = specification(source, at)?;
-        list.push(next)?;
-        at = end;
-    }
-    Ok((list, at))
+    specified_list(source, start, |at| specification(source, at))
 }
 
 fn specification(source: &Source, at: usize) -> Result<(Specification, usize), Stop>
@@ -224,15 +239,7 @@ fn virtual_list(source: &Source, start: usize) -> Result<(Vec<VirtualSpecificati
     requires within { start < length source.now }
     ensures { (d : ℕ) → GivesSome source.now d g.VirtualSpecification start virtual_shown result }
 {
-    let mut list = Vec::new(source.allocator());
-    let (first, mut at) = virtual_procedures(source, start)?;
-    list.push(first)?;
-    while begins_specification(source.terminal_at(at)) {
-        let (next, end) = virtual_procedures(source, at)?;
-        list.push(next)?;
-        at = end;
-    }
-    Ok((list, at))
+    specified_list(source, start, |at| virtual_procedures(source, at))
 }
 
 // Virtual procedures of one result type.

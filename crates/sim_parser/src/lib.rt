@@ -4,6 +4,7 @@
 mod declaration;
 mod elements;
 mod heading;
+mod lists;
 mod names;
 mod operation;
 mod program;

@@ -9,7 +9,8 @@ ghost use Rattle.sim_tree.specs.ShownProgram.{ids, type_shown};
 ghost use Rattle.sim_expr_parser.specs.Parsing.{GivesTo};
 ghost use Rattle.sim_parser.specs.Parsing.{GivesPart};
 
-use sim_expr_parser::{Source, Stop, add};
+use crate::lists::comma_list;
+use sim_expr_parser::{Source, Stop};
 use sim_tree::{Identifier, Terminal, TypeName};
 
 /// The type at a token, with the index after it.
@@ -42,13 +43,5 @@ pub fn identifiers(source: &Source, start: usize) -> Result<(Vec<Identifier>, us
     requires within { start < length source.now }
     ensures { (d : ℕ) → GivesPart source.now d g.Identifiers start (λ v. ids v.items) result }
 {
-    let mut list = Vec::new(source.allocator());
-    let (first, mut at) = source.identifier_at(start)?;
-    add(&mut list, first)?;
-    while let Some(next) = source.eat(at, Terminal::Comma) {
-        let (identifier, end) = source.identifier_at(next)?;
-        add(&mut list, identifier)?;
-        at = end;
-    }
-    Ok((list, at))
+    comma_list(source, start, |at| source.identifier_at(at))
 }

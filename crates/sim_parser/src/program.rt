@@ -6,7 +6,7 @@ ghost use Rattle.sim_base.specs.declared.numbering.TokenNo.{TokenNo as Number};
 ghost use Rattle.sim_base.specs.declared.rule.Rule.{Rule as Broken};
 ghost use Rattle.sim_expr_parser.specs.declared.refusal.SyntaxRefusal.TheVariants as refusal;
 ghost use Rattle.sim_tree.specs.Tree.{line};
-ghost use Rattle.sim_parser.specs.Parsing.{IsWholeSource, Parses};
+ghost use Rattle.sim_parser.specs.Claim.{IsWholeSource, Parses};
 ghost use Rattle.sim_parser.specs.Program.{GivesPrefix, GivesProgram};
 
 use crate::statement::compound;

@@ -6,5 +6,5 @@ mod Expressions
 mod Declarations
 mod Statements
 mod Programs
-mod Sources
+pub mod Sources
 mod Places

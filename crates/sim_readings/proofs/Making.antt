@@ -18,8 +18,8 @@ use Rattle.sim_tree.specs.Terminal.{terminal_of}
 use Rattle.sim_tree.specs.Grammar.{Part, is, just, one_of}
 use Rattle.sim_tree.specs.Reading.{Forest, leaf, node}
 use Rattle.sim_tree.specs.Shown.{row, shown}
-use Rattle.sim_tree.proofs.Completion.{is_same}
 use Rattle.sim_tree.proofs.ShownLemmas.{raise-same}
+use Rattle.sim_expr_parser.proofs.Terminals.{is_bare, kind_from}
 use Rattle.sim_readings.proofs.Parts.{Good, Items, Levelled, Made}
 
 abbrev pub boxed : {X : Type 0} → X → Box X Global
@@ -37,108 +37,14 @@ at i = record { 0 = i }
 abbrev pub named : ℕ → List ℕ → Identifier
 named i name = record { token = record { 0 = i }; name = name }
 
--- ---- the token of a terminal that has no value
-
-abbrev pub is_bare : Terminal → Bool
-is_bare t.Identifier = false
-is_bare t.Integer = false
-is_bare t.Character = false
-is_bare t.Text = false
-is_bare _ = true
-
-back : Terminal → TokenKind
-back t.Activate = k.Activate
-back t.After = k.After
-back t.And = k.And
-back t.Array = k.Array
-back t.At = k.At
-back t.Before = k.Before
-back t.Begin = k.Begin
-back t.Boolean = k.Boolean
-back t.CharacterWord = k.CharacterWord
-back t.Class = k.Class
-back t.Delay = k.Delay
-back t.Do = k.Do
-back t.Else = k.Else
-back t.End = k.End
-back t.Eqv = k.Eqv
-back t.False = k.False
-back t.For = k.For
-back t.Hidden = k.Hidden
-back t.If = k.If
-back t.Imp = k.Imp
-back t.In = k.In
-back t.Inner = k.Inner
-back t.Inspect = k.Inspect
-back t.IntegerWord = k.IntegerWord
-back t.Is = k.Is
-back t.Name = k.Name
-back t.New = k.New
-back t.None = k.None
-back t.Not = k.Not
-back t.Notext = k.Notext
-back t.Or = k.Or
-back t.Otherwise = k.Otherwise
-back t.Prior = k.Prior
-back t.Procedure = k.Procedure
-back t.Protected = k.Protected
-back t.Qua = k.Qua
-back t.Reactivate = k.Reactivate
-back t.Ref = k.Ref
-back t.Step = k.Step
-back t.TextWord = k.TextWord
-back t.Then = k.Then
-back t.This = k.This
-back t.True = k.True
-back t.Until = k.Until
-back t.Value = k.Value
-back t.Virtual = k.Virtual
-back t.When = k.When
-back t.While = k.While
-back t.To = k.To
-back t.AndThen = k.AndThen
-back t.OrElse = k.OrElse
-back t.Open = k.Open
-back t.Close = k.Close
-back t.Comma = k.Comma
-back t.Semicolon = k.Semicolon
-back t.Colon = k.Colon
-back t.Dot = k.Dot
-back t.Plus = k.Plus
-back t.Minus = k.Minus
-back t.Times = k.Times
-back t.Power = k.Power
-back t.Divide = k.Divide
-back t.Ampersand = k.Ampersand
-back t.Assign = k.Assign
-back t.AssignReference = k.AssignReference
-back t.Equal = k.Equal
-back t.SameReference = k.SameReference
-back t.OtherReference = k.OtherReference
-back t.Less = k.Less
-back t.LessEqual = k.LessEqual
-back t.Greater = k.Greater
-back t.GreaterEqual = k.GreaterEqual
-back t.NotEqual = k.NotEqual
-back t.EndOfSource = k.EndOfSource
-back _ = k.EndOfSource
-
-known : (x : TokenKind) → is_bare (terminal_of x) ≡ true → back (terminal_of x) ≡ x
-unfolding back
-known (k.Identifier v) h = absurd (false≢true h)
-known (k.Integer v) h = absurd (false≢true h)
-known (k.Character v) h = absurd (false≢true h)
-known (k.Text v) h = absurd (false≢true h)
-known _ _ = refl
+-- ---- the token of a terminal, as the grammar takes it
 
 alone : (b : Bool) → (b || false) ≡ true → b ≡ true
 alone true h = refl
 alone false h = absurd (false≢true h)
 
 pub word : (x kind : TokenKind) → is_bare (terminal_of kind) ≡ true → one_of (just (terminal_of kind)) (terminal_of x) ≡ true → x ≡ kind
-word x kind b h =
-    let e = is_same (terminal_of x) (terminal_of kind) (alone (is (terminal_of x) (terminal_of kind)) h) in
-    sym (known x (ap is_bare e ∙ b)) ∙ ap back e ∙ known kind b
+word x kind b h = kind_from x kind b (alone (is (terminal_of x) (terminal_of kind)) h)
 
 pub name_of : (x : TokenKind) → one_of (just t.Identifier) (terminal_of x) ≡ true → (v : List ℕ) × (x ≡ k.Identifier v)
 unfolding is

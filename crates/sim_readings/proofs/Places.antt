@@ -1,14 +1,11 @@
 -- The tokens of a source stand one behind the other.
-use Rattle.std.proofs.Common.{◌≡◌, ◌≤◌, ◌<◌, ◌+◌, ℕ, List, [], ◌∷◌, ◌++◌, Option, Some, None, map, refl, subst, arith}
+use Rattle.std.proofs.Common.{◌≡◌, ◌≤◌, ◌<◌, ◌+◌, ℕ, List, [], ◌∷◌, ◌++◌, Option, Some, None, map, length, length-append, refl, subst, arith}
 use Rattle.std.specs.List.{AllByRecursion, fold}
 use Rattle.sim_base.specs.declared.token.Token.{Token}
 use Rattle.sim_base.specs.declared.token.TokenKind.{TokenKind}
 use Rattle.sim_base.specs.declared.token.TokenKind.TheVariants as k
-use Rattle.sim_lexer.specs.Spelling.{Broken, Lexed, Reads, Spelled, Spells, breaks, ends, gives, joined, joined_kind, neighbours, passes, past, reads, token, too_long, with_joined, with_next, with_token}
-use Rattle.sim_lexer.specs.Within.{IsWithin}
-use Rattle.sim_lexer.specs.declared.position.Position.{Position}
-use Rattle.sim_lexer.proofs.Lines.{past-place}
-use Rattle.sim_lexer.proofs.PiecesWithin.{within-front}
+use Rattle.sim_lexer.specs.Spelling.{Broken, Lexed, Reads, Spelled, Spells, begins_line, breaks, ends, gives, joined, joined_kind, neighbours, passes, reads, token, too_long, with_joined, with_next, with_token}
+use Rattle.sim_lexer.proofs.PiecesWithin.{lexeme-some}
 use Rattle.sim_tree.specs.Named.{IsAscending}
 use Rattle.sim_readings.specs.Readable.{place_of}
 
@@ -26,17 +23,19 @@ later p q (x ∷ xs) less from = (omega (arith, less, from.0), from.1)
 at_tokens : {ws vs : List Token} (p : ℕ) → Spelled vs ≡ Spelled ws → From p vs → From p ws
 at_tokens {ws = ws} {vs = vs} p e from = let same : vs ≡ ws = cc in subst (λ l. From p l) same from
 
-spelt : {at : Position} {all : List ℕ} {answer : Lexed} → Spells at all answer → (ws : List Token) → answer ≡ Spelled ws → From at.place ws
-spelt (ends {at = at} stands) ws e = at_tokens {vs = token at k.EndOfSource ∷ []} at.place e (omega arith, tt)
-spelt {at = at} (passes piece rest stands next) ws e = later (past at piece).place at.place ws (omega (arith, past-place at piece)) (spelt next ws e)
-spelt {at = at} {all = all} (gives {answer = answer} kind piece rest stands next) ws e = by_answer answer e (λ vs same. spelt next vs same) refl
+spelt : {before all : List ℕ} {answer : Lexed} → Spells before all answer → (ws : List Token) → answer ≡ Spelled ws → From (length before) ws
+spelt (ends {before = before}) ws e = at_tokens {vs = token before k.EndOfSource ∷ []} (length before) e (omega arith, tt)
+spelt {before = before} (passes separator rest split is next) ws e =
+    later (length (before ++ separator)) (length before) ws (omega (arith, length-append before separator)) (spelt next ws e)
+spelt {before = before} {all = all} (gives {answer = answer} kind lexeme rest split writes next) ws e = by_answer answer e (λ vs same. spelt next vs same) refl
   where
-    by_answer : (a : Lexed) → with_token (token at kind) a ≡ Spelled ws → ((vs : List Token) → answer ≡ Spelled vs → From (past at piece).place vs) → answer ≡ a → From at.place ws
+    by_answer : (a : Lexed) → with_token (token before kind) a ≡ Spelled ws → ((vs : List Token) → answer ≡ Spelled vs → From (length (before ++ lexeme)) vs) → answer ≡ a → From (length before) ws
     by_answer (Spelled vs) h rec same =
-        let within = subst (λ i. IsWithin i all) stands.front (within-front at.is_fresh at.is_behind_end all) in
-        at_tokens {vs = token at kind ∷ vs} at.place h (omega arith, later (past at piece).place (at.place + 1) vs (omega (arith, past-place at piece, within.some)) (rec vs same))
+        let some = lexeme-some (begins_line before) all lexeme rest writes in
+        at_tokens {vs = token before kind ∷ vs} (length before) h
+        (omega arith, later (length (before ++ lexeme)) (length before + 1) vs (omega (arith, length-append before lexeme, some)) (rec vs same))
     by_answer (Broken rule place) h rec same = absurd (cc)
-spelt (breaks rule stands) ws e = absurd (cc)
+spelt (breaks rule is) ws e = absurd (cc)
 
 -- ---- neighbours joined
 

@@ -11,12 +11,10 @@ use Rattle.sim_base.specs.declared.token.Token.{Token}
 use Rattle.sim_base.specs.declared.token.TokenKind.{TokenKind}
 use Rattle.sim_base.specs.declared.token.TokenKind.TheVariants as k
 use Rattle.sim_lexer.specs.Claims.{IsEnded as EndsSource, IsNoEnd}
-use Rattle.sim_lexer.specs.Spelling.{Broken, Lexed, Reads, Spelled, Spells, breaks, ends, gives, joined, passes, reads, token, too_long, with_joined, with_next, with_token}
-use Rattle.sim_lexer.specs.Within.{IsWithin}
-use Rattle.sim_lexer.specs.declared.position.Position.{Position}
+use Rattle.sim_lexer.specs.Spelling.{Broken, Lexed, Reads, Spelled, Spells, begins_line, breaks, ends, gives, joined, passes, reads, token, too_long, with_joined, with_next, with_token}
 use Rattle.sim_lexer.proofs.JoiningLemmas.{end_behind, few}
-use Rattle.sim_lexer.proofs.NoEnd.{GivesNoEnd, inside-next, no_end-front}
-use Rattle.sim_lexer.proofs.PiecesWithin.{within-front}
+use Rattle.sim_lexer.proofs.NoEnd.{inside-next, no_end-written}
+use Rattle.sim_lexer.proofs.PiecesWithin.{lexeme-some}
 use Rattle.sim_tree.specs.Grammar.{is}
 use Rattle.sim_tree.specs.Reading.{finish, kind_at, terminal_at}
 use Rattle.sim_tree.specs.Terminal.{terminal_of}
@@ -53,19 +51,19 @@ more ws few_bytes bytes less e = (e.0, omega (arith, less, e.1))
 at_tokens : {ws vs : List Token} (most : ℕ) → Spelled vs ≡ Spelled ws → Ended vs most → Ended ws most
 at_tokens {ws = ws} {vs = vs} most e ended = let same : vs ≡ ws = cc in subst (λ l. Ended l most) same ended
 
-spelt : {at : Position} {all : List ℕ} {answer : Lexed} → Spells at all answer → (ws : List Token) → answer ≡ Spelled ws → Ended ws (length all)
-spelt {all = all} (ends {at = at} stands) ws e = at_tokens (length all) e (alone (token at k.EndOfSource) (length all) refl)
-spelt {all = all} (passes piece rest stands next) ws e =
-    more ws (length rest) (length all) (omega (arith, ap length stands.split, length-append piece rest)) (spelt next ws e)
-spelt {at = at} {all = all} (gives {answer = answer} kind piece rest stands next) ws e = by_answer answer e (λ vs same. spelt next vs same) refl
+spelt : {before all : List ℕ} {answer : Lexed} → Spells before all answer → (ws : List Token) → answer ≡ Spelled ws → Ended ws (length all)
+spelt (ends {before = before}) ws e = at_tokens 0 e (alone (token before k.EndOfSource) 0 refl)
+spelt {all = all} (passes separator rest split is next) ws e =
+    more ws (length rest) (length all) (omega (arith, ap length split, length-append separator rest)) (spelt next ws e)
+spelt {before = before} {all = all} (gives {answer = answer} kind lexeme rest split writes next) ws e = by_answer answer e (λ vs same. spelt next vs same) refl
   where
-    by_answer : (a : Lexed) → with_token (token at kind) a ≡ Spelled ws → ((vs : List Token) → answer ≡ Spelled vs → Ended vs (length rest)) → answer ≡ a → Ended ws (length all)
+    by_answer : (a : Lexed) → with_token (token before kind) a ≡ Spelled ws → ((vs : List Token) → answer ≡ Spelled vs → Ended vs (length rest)) → answer ≡ a → Ended ws (length all)
     by_answer (Spelled vs) h rec same =
-        let inside : IsNoEnd kind = subst GivesNoEnd stands.front (no_end-front at.is_fresh at.is_behind_end all) in
-        let within = subst (λ i. IsWithin i all) stands.front (within-front at.is_fresh at.is_behind_end all) in
-        at_tokens (length all) h (more (token at kind ∷ vs) (length rest + 1) (length all) (omega (arith, within.some, ap length stands.split, length-append piece rest)) (in_front (token at kind) vs (length rest) inside (rec vs same)))
+        let inside : IsNoEnd kind = no_end-written (begins_line before) all writes in
+        let some = lexeme-some (begins_line before) all lexeme rest writes in
+        at_tokens (length all) h (more (token before kind ∷ vs) (length rest + 1) (length all) (omega (arith, some, ap length split, length-append lexeme rest)) (in_front (token before kind) vs (length rest) inside (rec vs same)))
     by_answer (Broken rule place) h rec same = absurd (cc)
-spelt (breaks rule stands) ws e = absurd (cc)
+spelt (breaks rule is) ws e = absurd (cc)
 
 -- ---- neighbours joined
 
@@ -137,7 +135,7 @@ module _ (tokens : List Token) (e : EndsSource tokens) where
       by_place (yes lt) = absurd (no_other i lt at)
       by_place (no h) = omega (arith, h, within, size)
 
-  ends_once : EndsOnce tokens
+  pub ends_once : EndsOnce tokens
   ends_once = record { ended = record { some = omega (arith, size); last = last }; only = only }
 
 pub tokens_end : (source : List ℕ) (ws : List Token) → Reads source (Spelled ws) → EndsOnce ws × (length ws < 2 ^ 32)

@@ -15,7 +15,7 @@ use Rattle.sim_values.specs.Words.{is_exhausted}
 use Rattle.sim_code.specs.declared.instr.Instr.{Instr}
 use Rattle.sim_code.specs.declared.instr.Instr.TheVariants as i
 use Rattle.sim_code.specs.Code.{BlockOf, CodeOf}
-use Rattle.sim_code.specs.Outcome.{Ending, Going, Run, RunFault, StorageExhausted, World, shown_world}
+use Rattle.sim_code.specs.Outcome.{Ending, Going, Run, RunFault, StorageExhausted, World}
 use Rattle.sim_code.specs.Events.{answering, applying_two, computing, having, joining, making_text, no_rule, pop_plain, pop_text, popping, stopping, taking, text_val, with_texts}
 use Rattle.sim_code.specs.Instances.{at_level}
 use Rattle.sim_code.specs.Machine.{Frames, Machine, Value}
@@ -30,6 +30,7 @@ use Rattle.sim_meaning.specs.Steps.{go}
 use Rattle.sim_meaning.specs.Texts.{text}
 use Rattle.codegen_expr.specs.CodeExpr.{Stand, join_instrs}
 use Rattle.codegen_expr.specs.Sites.{cells_in}
+use Rattle.sim_relate.specs.SameRuns.{seen_world}
 use Rattle.sim_relate.proofs.Relation.{ChainAt, HandAt, Keeps, Kind, OpAt, StackAt, StateAt, StoreAt, ValAt, WorkAt, anys, array_at, element_at, image_at, link_at, more_at, plain_at, site_at}
 use Rattle.sim_relate.proofs.Hands.{stack_length}
 use Rattle.sim_relate.proofs.Here.{Here, act, goes, kinds_as}
@@ -154,7 +155,7 @@ module _ (s : Source) (code : CodeOf) (l : Limits) (o : World) (m : Instances) (
     silent : {r : Run Configuration} {stk stk' : List Value} {f f' : Frames} (n : ℕ) (x : Instr) → slice_get (join_instrs lev temp) n ≡ Some x → Row x n o stk f (Going o (at (suc n) stk' f')) → Meets g R r o (at (suc n) stk' f') → Meets g R r o (at n stk f)
     silent {stk = stk} {f = f} n x e a more = first (steps n x o stk f _ e a) more
 
-    lag : {r : Run Configuration} {p p' : World} {stk stk' : List Value} {f f' : Frames} (n : ℕ) (x : Instr) → slice_get (join_instrs lev temp) n ≡ Some x → Row x n p stk f (Going p' (at (suc n) stk' f')) → shown_world p None ≡ shown_world p' None → Catches g R r (Going p' (at (suc n) stk' f')) → Catches g R r (Going p (at n stk f))
+    lag : {r : Run Configuration} {p p' : World} {stk stk' : List Value} {f f' : Frames} (n : ℕ) (x : Instr) → slice_get (join_instrs lev temp) n ≡ Some x → Row x n p stk f (Going p' (at (suc n) stk' f')) → seen_world p None ≡ seen_world p' None → Catches g R r (Going p' (at (suc n) stk' f')) → Catches g R r (Going p (at n stk f))
     lag {p = p} {stk = stk} {f = f} n x e a same more = lags (steps n x p stk f _ e a) same more
 
     both_end : (r : Run Configuration) (x : Machine) → r ≡ no_rule o → g o x ≡ no_rule o → Meets g R r o x

@@ -1,13 +1,14 @@
 -- Two machines that show the same, where each step of the one is matched by the other. The second may make steps of its own that show
 -- nothing: the relation has a rank, which says how many of them are to come.
 use Rattle.std.proofs.Common.{◌≡◌, ℕ, zero, suc, ◌<◌, ◌≤◌, None, refl, sym, ap, ◌∙◌, arith}
-use Rattle.sim_code.specs.Outcome.{Ended, Ending, Going, Run, World, after, shown, shown_world}
+use Rattle.sim_code.specs.Outcome.{Ended, Ending, Going, Run, World, after}
 use Rattle.sim_code.proofs.Simulation.{Alike, ended, going}
+use Rattle.sim_relate.specs.SameRuns.{seen, seen_world}
 
--- The second machine is alike, or still has steps of its own that change nothing of what is shown.
+-- The second machine is alike, or still has steps of its own that change nothing of what is seen.
 pub data Catches {S M : Type 0} (g : World → M → Run M) (R : S → M → Type 0) (r : Run S) : Run M → Type 0 where
   caught : {q : Run M} → Alike R r q → Catches g R r q
-  lags : {o o' : World} {m m' : M} → g o m ≡ Going o' m' → shown_world o None ≡ shown_world o' None → Catches g R r (Going o' m') → Catches g R r (Going o m)
+  lags : {o o' : World} {m m' : M} → g o m ≡ Going o' m' → seen_world o None ≡ seen_world o' None → Catches g R r (Going o' m') → Catches g R r (Going o m)
 
 -- It makes some steps that leave the world, and then the one that is matched.
 pub data Meets {S M : Type 0} (g : World → M → Run M) (R : S → M → Type 0) (r : Run S) (o : World) : M → Type 0 where
@@ -42,37 +43,37 @@ module _ (S M : Type 0) (f : World → S → Run S) (g : World → M → Run M) 
   abbrev pub Simulates : Type 0
   Simulates = (n : ℕ) (o : World) (s : S) (m : M) → R n s m → Moves n o s m
 
-  ended_stays : (n : ℕ) (o : World) (e : Ending) → shown (after f n (Ended o e)) ≡ shown (after g 0 (Ended o e))
+  ended_stays : (n : ℕ) (o : World) (e : Ending) → seen (after f n (Ended o e)) ≡ seen (after g 0 (Ended o e))
   ended_stays zero o e = refl
   ended_stays (suc n) o e = ended_stays n o e
 
-  ended_stays' : (n : ℕ) (o : World) (e : Ending) → shown (after g n (Ended o e)) ≡ shown (after f 0 (Ended o e))
+  ended_stays' : (n : ℕ) (o : World) (e : Ending) → seen (after g n (Ended o e)) ≡ seen (after f 0 (Ended o e))
   ended_stays' zero o e = refl
   ended_stays' (suc n) o e = ended_stays' n o e
 
-  alike_shown : (r : Run S) (q : Run M) → Alike Related r q → shown q ≡ shown r
-  alike_shown _ _ (going h) = refl
-  alike_shown _ _ ended = refl
+  alike_seen : (r : Run S) (q : Run M) → Alike Related r q → seen q ≡ seen r
+  alike_seen _ _ (going h) = refl
+  alike_seen _ _ ended = refl
 
-  catches_shown : (r : Run S) (q : Run M) → Catches g Related r q → shown q ≡ shown r
-  catches_shown r q (caught a) = alike_shown r q a
-  catches_shown r _ (lags {o' = o'} {m' = m'} e same more) = same ∙ catches_shown r (Going o' m') more
+  catches_seen : (r : Run S) (q : Run M) → Catches g Related r q → seen q ≡ seen r
+  catches_seen r q (caught a) = alike_seen r q a
+  catches_seen r _ (lags {o' = o'} {m' = m'} e same more) = same ∙ catches_seen r (Going o' m') more
 
-  -- what a moment of the first is shown by, and of the second
+  -- what a moment of the first is seen as, and of the second
   abbrev Shows : ℕ → Run S → Run M → Type 0
-  Shows n r q = (k : ℕ) × (shown (after g k q) ≡ shown (after f n r))
+  Shows n r q = (k : ℕ) × (seen (after g k q) ≡ seen (after f n r))
 
   abbrev Only : ℕ → Run S → Run M → Type 0
-  Only k r q = (n : ℕ) × (shown (after g k q) ≡ shown (after f n r))
+  Only k r q = (n : ℕ) × (seen (after g k q) ≡ seen (after f n r))
 
   forth_meets : (n : ℕ) (o : World) (s : S) (m : M) → ((r : Run S) (q : Run M) → Catches g Related r q → Shows n r q) → Meets g Related (f o s) o m → Shows (suc n) (Going o s) (Going o m)
   forth_meets n o s m ih (meets a) = let x = ih (f o s) (g o m) a in (suc x.0, x.1)
-  forth_meets n o s m ih (first {m' = m'} e more) = let x = forth_meets n o s m' ih more in (suc x.0, ap (λ r. shown (after g x.0 r)) e ∙ x.1)
+  forth_meets n o s m ih (first {m' = m'} e more) = let x = forth_meets n o s m' ih more in (suc x.0, ap (λ r. seen (after g x.0 r)) e ∙ x.1)
 
   forth_turn : (n rank : ℕ) (o : World) (s : S) (m : M) → ((r : Run S) (q : Run M) → Catches g Related r q → Shows n r q) → ((m' : M) (k : ℕ) → R k s m' → k < rank → Shows (suc n) (Going o s) (Going o m')) → Moves rank o s m → Shows (suc n) (Going o s) (Going o m)
   forth_turn n rank o s m ih go (Both a) = forth_meets n o s m ih a
-  forth_turn n rank o s m ih go (Quiet s' e h' lt) = let x = ih (Going o s') (Going o m) (caught (going h')) in (x.0, x.1 ∙ ap (λ r. shown (after f n r)) (sym e))
-  forth_turn n rank o s m ih go (Slow m' k e h' lt) = let x = go m' k h' lt in (suc x.0, ap (λ r. shown (after g x.0 r)) e ∙ x.1)
+  forth_turn n rank o s m ih go (Quiet s' e h' lt) = let x = ih (Going o s') (Going o m) (caught (going h')) in (x.0, x.1 ∙ ap (λ r. seen (after f n r)) (sym e))
+  forth_turn n rank o s m ih go (Slow m' k e h' lt) = let x = go m' k h' lt in (suc x.0, ap (λ r. seen (after g x.0 r)) e ∙ x.1)
 
   forth_inner : (n : ℕ) (o : World) (s : S) → ((k : ℕ) (m : M) → R k s m → Moves k o s m) → ((r : Run S) (q : Run M) → Catches g Related r q → Shows n r q) → (w k : ℕ) (m : M) → R k s m → k ≤ w → Shows (suc n) (Going o s) (Going o m)
   forth_inner n o s sim ih zero k m h le = forth_turn n k o s m ih (λ m' k' h' lt. absurd (omega (arith, le, lt))) (sim k m h)
@@ -84,21 +85,21 @@ module _ (S M : Type 0) (f : World → S → Run S) (g : World → M → Run M) 
 
   forth_catches : (n : ℕ) (r : Run S) → ((q : Run M) → Alike Related r q → Shows n r q) → (q : Run M) → Catches g Related r q → Shows n r q
   forth_catches n r f q (caught a) = f q a
-  forth_catches n r f _ (lags {o' = o'} {m' = m'} e same more) = let x = forth_catches n r f (Going o' m') more in (suc x.0, ap (λ r. shown (after g x.0 r)) e ∙ x.1)
+  forth_catches n r f _ (lags {o' = o'} {m' = m'} e same more) = let x = forth_catches n r f (Going o' m') more in (suc x.0, ap (λ r. seen (after g x.0 r)) e ∙ x.1)
 
   pub forth : Simulates → (n : ℕ) (r : Run S) (q : Run M) → Catches g Related r q → Shows n r q
-  forth sim zero r q a = (0, catches_shown r q a)
+  forth sim zero r q a = (0, catches_seen r q a)
   forth sim (suc n) r q a = forth_catches (suc n) r (λ q b. forth_alike sim n (forth sim n) r q b) q a
 
   only_meets : (o : World) (s : S) (k : ℕ) (m : M) → ((j : ℕ) → j ≤ k → (r : Run S) (q : Run M) → Catches g Related r q → Only j r q) → Meets g Related (f o s) o m → Only (suc k) (Going o s) (Going o m)
   only_meets o s k m ih (meets a) = let x = ih k (omega arith) (f o s) (g o m) a in (suc x.0, x.1)
-  only_meets o s zero m ih (first {m' = m'} e more) = (0, ap shown e)
-  only_meets o s (suc k) m ih (first {m' = m'} e more) = let x = only_meets o s k m' (λ j le. ih j (omega (arith, le))) more in (x.0, ap (λ r. shown (after g (suc k) r)) e ∙ x.1)
+  only_meets o s zero m ih (first {m' = m'} e more) = (0, ap seen e)
+  only_meets o s (suc k) m ih (first {m' = m'} e more) = let x = only_meets o s k m' (λ j le. ih j (omega (arith, le))) more in (x.0, ap (λ r. seen (after g (suc k) r)) e ∙ x.1)
 
   only_turn : (k rank : ℕ) (o : World) (s : S) (m : M) → ((j : ℕ) → j ≤ k → (r : Run S) (q : Run M) → Catches g Related r q → Only j r q) → ((s' : S) → Related s' m → weight s' < weight s → Only (suc k) (Going o s') (Going o m)) → Moves rank o s m → Only (suc k) (Going o s) (Going o m)
   only_turn k rank o s m ih go (Both a) = only_meets o s k m ih a
-  only_turn k rank o s m ih go (Quiet s' e h' lt) = let x = go s' h' lt in (suc x.0, x.1 ∙ ap (λ r. shown (after f x.0 r)) (sym e))
-  only_turn k rank o s m ih go (Slow m' n e h' lt) = let x = ih k (omega arith) (Going o s) (Going o m') (caught (going (n, h'))) in (x.0, ap (λ r. shown (after g k r)) e ∙ x.1)
+  only_turn k rank o s m ih go (Quiet s' e h' lt) = let x = go s' h' lt in (suc x.0, x.1 ∙ ap (λ r. seen (after f x.0 r)) (sym e))
+  only_turn k rank o s m ih go (Slow m' n e h' lt) = let x = ih k (omega arith) (Going o s) (Going o m') (caught (going (n, h'))) in (x.0, ap (λ r. seen (after g k r)) e ∙ x.1)
 
   only_inner : (k : ℕ) (o : World) (m : M) → ((n : ℕ) (s : S) → R n s m → Moves n o s m) → ((j : ℕ) → j ≤ k → (r : Run S) (q : Run M) → Catches g Related r q → Only j r q) → (w : ℕ) (s : S) → Related s m → weight s ≤ w → Only (suc k) (Going o s) (Going o m)
   only_inner k o m sim ih zero s h le = only_turn k h.0 o s m ih (λ s' h' lt. absurd (omega (arith, le, lt))) (sim h.0 s h.1)
@@ -110,10 +111,10 @@ module _ (S M : Type 0) (f : World → S → Run S) (g : World → M → Run M) 
 
   only_catches : (k : ℕ) (r : Run S) → ((j : ℕ) → j ≤ k → (r : Run S) (q : Run M) → Catches g Related r q → Only j r q) → ((q : Run M) → Alike Related r q → Only (suc k) r q) → (q : Run M) → Catches g Related r q → Only (suc k) r q
   only_catches k r ih f q (caught a) = f q a
-  only_catches k r ih f _ (lags {o' = o'} {m' = m'} e same more) = let x = ih k (omega arith) r (Going o' m') more in (x.0, ap (λ r. shown (after g k r)) e ∙ x.1)
+  only_catches k r ih f _ (lags {o' = o'} {m' = m'} e same more) = let x = ih k (omega arith) r (Going o' m') more in (x.0, ap (λ r. seen (after g k r)) e ∙ x.1)
 
   only_upto : Simulates → (k j : ℕ) → j ≤ k → (r : Run S) (q : Run M) → Catches g Related r q → Only j r q
-  only_upto sim k zero le r q a = (0, catches_shown r q a)
+  only_upto sim k zero le r q a = (0, catches_seen r q a)
   only_upto sim zero (suc j) le r q a = absurd (let e : ⊥ = omega (arith, le) in e)
   only_upto sim (suc k) (suc j) le r q a =
       let before : (i : ℕ) → i ≤ j → (r : Run S) (q : Run M) → Catches g Related r q → Only i r q = λ i less. only_upto sim k i (omega (arith, le, less)) in

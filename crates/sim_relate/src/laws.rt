@@ -5,8 +5,8 @@ ghost use Rattle.codegen.specs.Compiled.{Compiled};
 ghost use Rattle.sim_relate.specs.SameRuns.{SameRuns};
 ghost use Rattle.sim_relate.specs.Examples.{WorkedCodes};
 
-/// The code of a program shows what the program shows: each moment of the one run is shown by a moment of the other, with the same output,
-/// ticks and words, and with the same ending where it has ended; whatever the limits and the input are.
+/// The code of a program shows what the program shows: each moment of the one run is one of the other, with the same output, ticks and
+/// words, the same input left, and the same ending where it has ended; whatever the limits and the input are.
 #[tactic(auto, using(crate::proofs::Whole::same_runs))]
 pub fn compiled_code_runs_as_meant()
     ensures { (s : Source) (code : CodeOf) → Compiled s code → SameRuns s code }

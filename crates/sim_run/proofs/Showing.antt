@@ -12,8 +12,10 @@ use Rattle.sim_meaning.specs.Meaning.{run}
 use Rattle.sim_meaning.specs.Pending.{Configuration}
 use Rattle.sim_ports.specs.Bytes.{AddsPrefix}
 use Rattle.sim_scope.specs.Source.{Source}
-use Rattle.sim_run.specs.RunEnds.{AtAMoment, Begins, IsRunnable, MeaningEnds}
-use Rattle.sim_relate.specs.SameRuns.{SameRuns}
+use Rattle.standard_calls.specs.Taking.{HasAll}
+use Rattle.object_machine.specs.Taking.{TakesNothing as CodeTakesNothing}
+use Rattle.sim_run.specs.RunEnds.{AtAMoment, Begins, IsRunnable, MeaningEnds, TakesNothing}
+use Rattle.sim_relate.specs.SameRuns.{SameRuns, Seen, seen}
 use Rattle.sim_run.proofs.OneEnd.{ended_later}
 use Rattle.sim_run.proofs.Prefixes.{adds_more}
 
@@ -41,12 +43,43 @@ ends_too S M r q e output ends same =
     let there : EndsIn r e ends.world.store.written = ended_alike S r ends.world e (sym (ap shown ends.is) ∙ same) in
     record { world = there.world; is = there.is; writes = ends.writes ∙ there.writes }
 
+-- what is seen tells what is shown
+shown_alike : (S M : Type 0) (q : Run M) (r : Run S) → seen q ≡ seen r → shown q ≡ shown r
+shown_alike S M q r same = sym (is_shown q) ∙ ap (λ (x : Seen). x.shown) same ∙ is_shown r
+  where
+    is_shown : {T : Type 0} (r : Run T) → (seen r).shown ≡ shown r
+    is_shown (Going o s) = refl
+    is_shown (Ended o e) = refl
+
+-- and that nothing was taken
+has_all_too : (S M : Type 0) (q : Run M) (r : Run S) (input : List ℕ) → seen q ≡ seen r → HasAll input r → HasAll input q
+has_all_too S M (Going p m) (Going o s) input same h = (ap (λ (x : Seen). x.left) same ∙ h.0, ap (λ (x : Seen). x.endfile) same ∙ h.1)
+has_all_too S M (Going p m) (Ended o e) input same h = absurd (goes_on e (ap (λ (x : Seen). x.shown.ending) same))
+  where
+    goes_on : (e : Ending) → None ≡ Some e → ⊥
+    goes_on e h = cc
+has_all_too S M (Ended p d) (Going o s) input same h = absurd (goes_on d (ap (λ (x : Seen). x.shown.ending) same))
+  where
+    goes_on : (e : Ending) → Some e ≡ None → ⊥
+    goes_on e h = cc
+has_all_too S M (Ended p d) (Ended o e) input same h =
+    (ap (λ (x : Seen). x.left) same ∙ h.0, ap (λ (x : Seen). x.endfile) same ∙ h.1, λ line is. h.2 line (sym (ends_so d e (ap (λ (x : Seen). x.shown.ending) same)) ∙ is))
+  where
+    ends_so : (e d : Ending) → Some e ≡ Some d → e ≡ d
+    ends_so e d h = cc
+
 module _ (s : Source) (code : CodeOf) (same : SameRuns s code) (l : Limits) (input : List ℕ) where
+  -- code of a program that takes nothing takes nothing
+  pub code_takes : TakesNothing s l input → CodeTakesNothing code l input
+  code_takes never m =
+      let n = same.only l input m in
+      has_all_too Configuration Machine (mrun code l input m) (run s l input n.0) input n.1 (never n.0)
+
   -- where the code has ended the program has
   pub program_ends : (n : ℕ) (e : Ending) (output : List ℕ) → EndsIn (mrun code l input n) e output → MeaningEnds s l input e output
   program_ends n e output ends =
       let k = same.only l input n in
-      let there : EndsIn (run s l input k.0) e output = ends_too Configuration Machine (run s l input k.0) (mrun code l input n) e output ends k.1 in
+      let there : EndsIn (run s l input k.0) e output = ends_too Configuration Machine (run s l input k.0) (mrun code l input n) e output ends (shown_alike Configuration Machine (mrun code l input n) (run s l input k.0) k.1) in
       record { steps = k.0; world = there.world; ends = there.is; writes = there.writes }
 
   -- and where the program has the code has
@@ -54,7 +87,7 @@ module _ (s : Source) (code : CodeOf) (same : SameRuns s code) (l : Limits) (inp
   code_ends e output ends =
       let m = same.shows l input ends.steps in
       let here : EndsIn (run s l input ends.steps) e output = record { world = ends.world; is = ends.ends; writes = ends.writes } in
-      (m.0, ends_too Machine Configuration (mrun code l input m.0) (run s l input ends.steps) e output here (sym m.1))
+      (m.0, ends_too Machine Configuration (mrun code l input m.0) (run s l input ends.steps) e output here (sym (shown_alike Configuration Machine (mrun code l input m.0) (run s l input ends.steps) m.1)))
 
   -- what begins the output of a moment begins that of the end
   begins_ending : OutputGrows → (old new : Option (List ℕ)) (n : ℕ) → AddsPrefix old new (written (mrun code l input n)) → (e : Ending) (output : List ℕ) → MeaningEnds s l input e output → AddsPrefix old new output
@@ -89,7 +122,7 @@ module _ (s : Source) (code : CodeOf) (same : SameRuns s code) (l : Limits) (inp
   pub moment : (old new : Option (List ℕ)) (n : ℕ) → Appends old new (written (mrun code l input n)) → AtAMoment s l input old new
   moment old new n adds =
       let k = same.only l input n in
-      (k.0, subst (λ xs. Appends old new xs) (shows_written (mrun code l input n) ∙ ap (λ (x : Shown). x.output) k.1 ∙ sym (shows_written (run s l input k.0))) adds)
+      (k.0, subst (λ xs. Appends old new xs) (shows_written (mrun code l input n) ∙ ap (λ (x : Shown). x.output) (shown_alike Configuration Machine (mrun code l input n) (run s l input k.0) k.1) ∙ sym (shows_written (run s l input k.0))) adds)
     where
       shows_written : {S : Type 0} (r : Run S) → written r ≡ (shown r).output
       shows_written (Going o p) = refl

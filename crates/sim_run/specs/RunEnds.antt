@@ -11,6 +11,7 @@ use Rattle.sim_ports.specs.Bytes.{AddsPrefix}
 use Rattle.sim_ports.specs.Faults.{Rose, StopsAt}
 use Rattle.sim_scope.specs.Source.{Source}
 use Rattle.codegen.specs.BuiltProgram.{ProgramBuilt}
+use Rattle.standard_calls.specs.Taking.{HasAll}
 use Rattle.object_machine.specs.Running.{WasBroken, WasCut}
 use Rattle.sim_run.specs.declared.running.RunEnd.{RunEnd}
 use Rattle.sim_run.specs.declared.running.RunEnd.TheVariants as end
@@ -61,6 +62,11 @@ pub record CodeRan (code : CodeOf) (l : Limits) (input : List ℕ) (end : RunEnd
   pub is : end_of ending ≡ Some end
   pub ends : mrun code l input steps ≡ Ended world ending
   pub writes : Appends old new world.store.written
+
+-- At no moment has the run taken anything of its input: all of its bytes are left, its end was not met, and the run has not ended at a
+-- line that is longer than the image.
+abbrev pub TakesNothing : Source → Limits → (input : List ℕ) → Type 0
+TakesNothing s l input = (steps : ℕ) → HasAll input (run s l input steps)
 
 -- no run of the code comes to where the machine has no rule
 abbrev pub IsRuled : CodeOf → Limits → Type 0

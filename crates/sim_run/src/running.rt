@@ -2,7 +2,8 @@
 ghost use Rattle.std.specs.Prelude.{◌≡◌, ℕ, List, IfOk, Some};
 ghost use Rattle.sim_code.specs.Running.{AllRun};
 ghost use Rattle.sim_scope.specs.Source.{source_of};
-ghost use Rattle.sim_run.specs.RunEnds.{Broken, CodeBroken, CodeRan, HasEnd, InputAfter, IsRuled, IsRunnable, OutputAfter, Ran};
+ghost use Rattle.object_machine.specs.Taking.{TakesNothing as CodeTakesNothing};
+ghost use Rattle.sim_run.specs.RunEnds.{Broken, CodeBroken, CodeRan, HasEnd, InputAfter, IsRuled, IsRunnable, OutputAfter, Ran, TakesNothing};
 
 use codegen::{Uncompiled, compile};
 use object_machine::run;
@@ -73,6 +74,9 @@ pub fn compile_and_run<I: Source, O: Sink>(
     ensures broken { (bytes : List ℕ) → I.left input.old ≡ Some bytes → Broken (source_of bound.now) limits.now bytes (O.written out.old) (O.written out.new) result }
     ensures output { OutputAfter O.written O.faults out.old out.new result }
     ensures input { InputAfter (I.faults input.old) (I.faults input.new) result }
+
+    // The input is as it was where the run takes nothing of it, however the call ends.
+    ensures takes { (bytes : List ℕ) → I.left input.old ≡ Some bytes → TakesNothing (source_of bound.now) limits.now bytes → input.new ≡ input.old }
 {
     // Code shows what its program means, whose run comes to an end, and what is written stays written.
     compiled_code_runs_as_meant();
@@ -99,6 +103,7 @@ fn run_code<I: Source, O: Sink>(
     ensures broken { (bytes : List ℕ) → I.left input.old ≡ Some bytes → CodeBroken code.now limits.now bytes (O.written out.old) (O.written out.new) result }
     ensures output { OutputAfter O.written O.faults out.old out.new result }
     ensures input { InputAfter (I.faults input.old) (I.faults input.new) result }
+    ensures takes { (bytes : List ℕ) → I.left input.old ≡ Some bytes → CodeTakesNothing code.now limits.now bytes → input.new ≡ input.old }
 {
     match run(alloc, code, limits, input, out) {
         Ending::Normal => Ok(RunEnd::Normal),

@@ -1,4 +1,5 @@
-//! Trees of expressions. Each node has the number of its token: the first one, or the operator's in an item of a list.
+//! Trees of expressions. A leaf has the number of its first token, and an item of an operator list that of its operator. A list has none of
+//! its own: it is named by its first operator, or by the sign in front.
 
 use sim_base::{ByteString, TokenNo};
 

@@ -10,3 +10,5 @@ pub mod InputSteps
 pub mod Images
 pub mod Counts
 pub mod Unread
+pub mod TakesNone
+pub mod Taking

@@ -1,3 +1,4 @@
 pub mod Performed
 pub mod Calls
 pub mod Unread
+pub mod Taking

@@ -8,6 +8,7 @@ ghost use Rattle.sim_values.specs.Texts.{KeepsTexts, at_position};
 ghost use Rattle.basic_io.specs.Image.{IsImage};
 ghost use Rattle.standard_calls.specs.Calls.{CameAs, CameSource, IsScalarCame, KeepsImages, NoValue, reading_name, refused_as, unfit_as, unread_as, words_after};
 ghost use Rattle.standard_calls.specs.Performed.{parts};
+ghost use Rattle.standard_calls.specs.Taking.{CallTakes};
 ghost use Rattle.standard_calls.specs.Unread.{Unread};
 
 use crate::came::{Came, done, value};
@@ -44,7 +45,7 @@ pub fn refused(fault: IoFault) -> Came
 }
 
 /// Reads the input.
-#[tactic(auto, using(crate::proofs::Unread::reads_none))]
+#[tactic(auto, using(crate::proofs::Unread::reads_none, crate::proofs::Taking::takes_none))]
 pub fn of_input<I: Source>(
     function: Reading,
     texts: &mut Texts,
@@ -84,7 +85,7 @@ pub fn of_input<I: Source>(
 }
 
 /// `intext`.
-#[tactic(auto, using(crate::proofs::Unread::reads_none))]
+#[tactic(auto, using(crate::proofs::Unread::reads_none, crate::proofs::Taking::takes_none))]
 pub fn intext<I: Source>(
     n: i64,
     budget: u64,
@@ -97,6 +98,7 @@ pub fn intext<I: Source>(
     ensures came { (image : AnyText) (sink : Option (List ℕ)) (s : List ℕ) → I.left input.old ≡ Some s → (s2 : List ℕ) × (I.left input.new ≡ Some s2)
         × CameAs result budget name.Intext (Integer n ∷ []) (parts texts.old sysin.old s image sink words.old) (parts texts.new sysin.new s2 image sink words.new) }
     ensures unread { Unread name.Intext (Of (Integer n) ∷ []) texts.old sysin.old input.old input.new }
+    ensures takes { (image : AnyText) (sink : Option (List ℕ)) (s : List ℕ) → I.left input.old ≡ Some s → CallTakes budget name.Intext (Integer n ∷ []) (parts texts.old sysin.old s image sink words.old) input.old input.new }
     ensures scalar { IsScalarCame result }
     ensures faults { CameSource result (I.faults input.old) (I.faults input.new) }
     ensures valid { IsImage texts.new sysin.new.image }

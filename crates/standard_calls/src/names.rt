@@ -10,6 +10,7 @@ ghost use Rattle.frame_arena.specs.Arrays.{AllLeadArrays, RegionOf};
 ghost use Rattle.frame_arena.specs.declared.frames.Frame.{Frame};
 ghost use Rattle.frame_arena.specs.Frames.{AllLead};
 ghost use Rattle.frame_arena.specs.Stacks.{values_of};
+ghost use Rattle.standard_calls.specs.Taking.{RowTakes};
 ghost use Rattle.standard_calls.specs.Unread.{Unread};
 ghost use Rattle.standard_calls.specs.Performed.{IfDepth, IfMoved, PerformedAs, PerformedFaults, PerformedStops, held, parts};
 
@@ -56,7 +57,7 @@ pub enum Performed {
 /// Performs a standard name that runs: it takes its operands from the stack, does what it does, and puts its value there, if it has
 /// one. `budget` is the storage budget, and `words` counts those in use. A value that is no text of `texts` is answered by `Memory`, and
 /// so is a budget above 50,000,000 words where a text is made.
-#[tactic(auto, using(crate::proofs::Unread::reads_none))]
+#[tactic(auto, using(crate::proofs::Unread::reads_none, crate::proofs::Taking::takes_none))]
 pub fn perform<I: Source, O: Sink>(
     name: Standard,
     stack: &mut [Slot],
@@ -78,6 +79,9 @@ pub fn perform<I: Source, O: Sink>(
 
     // Nothing is read where what is held of the input is enough for the name on its operands.
     ensures unread { Unread name (values_of depth stack.old) texts.old sysin.old input.old input.new }
+
+    // Nor where its row takes nothing of the input.
+    ensures takes { (s : List ℕ) → I.left input.old ≡ Some s → RowTakes budget name (held depth stack.old) (parts texts.old sysin.old s image.old (O.written out.old) words.old) input.old input.new }
     ensures faults { PerformedFaults result (O.faults out.old) (O.faults out.new) (I.faults input.old) (I.faults input.new) }
     ensures stops { PerformedStops O.written O.faults out.old out.new result }
     ensures still { IfMoved result (Appends (O.written out.old) (O.written out.new) []) }

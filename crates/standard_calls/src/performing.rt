@@ -9,6 +9,7 @@ ghost use Rattle.sim_values.specs.declared.standard.Standard.TheVariants as name
 ghost use Rattle.standard_calls.specs.Calls.{CameAs, CameFaults, CameSink, CameSource, CameStops, GivesValue, HasText, IfCameMoved, IsScalarCame, KeepsImages, QuietCame, character_name, integer_name, integers_name, name_of, nothing_name, operands, text_name};
 ghost use Rattle.sim_code.specs.Machine.{Of};
 ghost use Rattle.standard_calls.specs.Performed.{parts};
+ghost use Rattle.standard_calls.specs.Taking.{CallTakes};
 ghost use Rattle.standard_calls.specs.Unread.{Unread};
 
 use crate::calls::{Call, OfCharacter, OfInteger, OfIntegers, OfNothing, OfText};
@@ -30,7 +31,7 @@ use sim_values::{
 use text_objects::Texts;
 
 // A name of no operands.
-#[tactic(auto, using(crate::proofs::Unread::reads_none))]
+#[tactic(auto, using(crate::proofs::Unread::reads_none, crate::proofs::Taking::takes_none))]
 fn of_nothing<I: Source, O: Sink>(
     function: OfNothing,
     texts: &mut Texts,
@@ -68,7 +69,7 @@ fn of_nothing<I: Source, O: Sink>(
 }
 
 // A name of an integer.
-#[tactic(auto, using(crate::proofs::Unread::reads_none))]
+#[tactic(auto, using(crate::proofs::Unread::reads_none, crate::proofs::Taking::takes_none))]
 fn of_integer<I: Source>(
     function: OfInteger,
     i: i64,
@@ -82,6 +83,7 @@ fn of_integer<I: Source>(
     ensures came { (image : AnyText) (sink : Option (List ℕ)) (s : List ℕ) → I.left input.old ≡ Some s → (s2 : List ℕ) × (I.left input.new ≡ Some s2)
         × CameAs result budget (integer_name function) (Integer i ∷ []) (parts texts.old sysin.old s image sink words.old) (parts texts.new sysin.new s2 image sink words.new) }
     ensures unread { Unread (integer_name function) (Of (Integer i) ∷ []) texts.old sysin.old input.old input.new }
+    ensures takes { (image : AnyText) (sink : Option (List ℕ)) (s : List ℕ) → I.left input.old ≡ Some s → CallTakes budget (integer_name function) (Integer i ∷ []) (parts texts.old sysin.old s image sink words.old) input.old input.new }
     ensures scalar { IsScalarCame result }
     ensures faults { CameSource result (I.faults input.old) (I.faults input.new) }
     ensures valid { IsImage texts.new sysin.new.image }
@@ -237,7 +239,7 @@ fn of_text<O: Sink>(
 }
 
 /// What becomes of a name on its operands.
-#[tactic(auto, using(crate::proofs::Unread::reads_none))]
+#[tactic(auto, using(crate::proofs::Unread::reads_none, crate::proofs::Taking::takes_none))]
 pub fn come<I: Source, O: Sink>(
     call: Call,
     budget: u64,
@@ -256,6 +258,7 @@ pub fn come<I: Source, O: Sink>(
     ensures scalar { IsScalarCame result }
     ensures value { GivesValue call result }
     ensures unread { Unread (name_of call) (map Of (operands call)) texts.old sysin.old input.old input.new }
+    ensures takes { (s : List ℕ) → I.left input.old ≡ Some s → CallTakes budget (name_of call) (operands call) (parts texts.old sysin.old s image.old (O.written out.old) words.old) input.old input.new }
     ensures faults { CameFaults result (O.faults out.old) (O.faults out.new) (I.faults input.old) (I.faults input.new) }
     ensures stops { CameStops O.written O.faults out.old out.new result }
     ensures still { IfCameMoved result (O.written out.new ≡ O.written out.old) }

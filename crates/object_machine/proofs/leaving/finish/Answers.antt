@@ -7,6 +7,7 @@ use Rattle.frame_arena.specs.Arrays.{AllLeadArrays}
 use Rattle.frame_arena.specs.Frames.{AllLead, found_value}
 use Rattle.frame_arena.specs.Stacks.{values_of}
 use Rattle.object_machine.specs.declared.machine.Flow.TheVariants as flow
+use Rattle.object_machine.specs.FrameEnds.{Ends}
 use Rattle.object_machine.specs.Standing.{Leaves, below_of}
 use Rattle.object_machine.proofs.Departures.{becomes_top, last_fits, last_works, no_room, none_below, popped_none, rest_fit, when_off, when_on}
 use Rattle.object_machine.proofs.leaving.finish.Goals as goal
@@ -46,8 +47,9 @@ returns-clause-row c l line b before now o m cells s led =
     let same = c.deref_mut.ensures.value in
     let row : (go : List Value → Run Machine) → pushing_any (length next.stack.items) (values_of next.registers.depth next.stack.items) v o go ≡ go (values_of c.put.new.regs.depth c.put.new.stack) = λ go. when_on c.put.result o _ _ c.if-not-put.false (subst (λ x. pushing_any (length x) (values_of next.registers.depth x) v o go ≡ when c.put.result o (go (values_of c.put.new.regs.depth c.put.new.stack))) same (c.put.ensures.row o go)) in
     let works = last_works l line p p2 b t.registers t.stack.items c.args.below.now.items rest before now o m v s next c.in-Some.ensures.items in
-    subst (λ x. Leaves flow.On l line p2 c.put.new.regs x rest before now (leaving b (below_of c.args.below.now.items) v t.registers.home.stamp o m)) (sym (with_items_is next.stack c.put.new.stack (search (rules, places))))
+    subst (λ e. Leaves flow.On l line p2 e.registers e.stack.items rest before now (leaving b (below_of c.args.below.now.items) v t.registers.home.stamp o m)) (sym c.replace-ended.ensures.after)
+    (subst (λ x. Leaves flow.On l line p2 c.put.new.regs x rest before now (leaving b (below_of c.args.below.now.items) v t.registers.home.stamp o m)) (sym (with_items_is next.stack c.put.new.stack (search (rules, places))))
     (becomes_top l line p p2 b t.registers t.stack.items c.args.below.now.items rest before now o m v s next c.in-Some.ensures.items c.put.new.regs c.put.new.stack
-    (c.give.ensures.row l b before now o m cells s.stores) c.put.ensures.home c.put.ensures.place (subst (λ x. length c.put.new.stack ≡ length x) same c.put.ensures.long)
+    (subst (λ e. Ends l p p2 b e.registers.home.stamp before now o m) c.replace-ended.ensures.value (c.give.ensures.row l b before now o m cells s.stores)) c.put.ensures.home c.put.ensures.place (subst (λ x. length c.put.new.stack ≡ length x) same c.put.ensures.long)
     (c.put.ensures.leads p.frames.items m p.arrays.regions o.arrays (subst (λ x. AllLead p.frames.items m x) (sym same) works.slots) led)
-    (c.put.ensures.leads_arrays p.frames.items m p.arrays.regions o.arrays (subst (λ x. AllLeadArrays p.arrays.regions o.arrays x) (sym same) works.arrays_lead) led) row)
+    (c.put.ensures.leads_arrays p.frames.items m p.arrays.regions o.arrays (subst (λ x. AllLeadArrays p.arrays.regions o.arrays x) (sym same) works.arrays_lead) led) row))

@@ -1,7 +1,6 @@
-use Rattle.std.proofs.Common.{rules, ℕ, ◌≡◌, ◌∙◌, ◌<◌, ◌≤◌, ◌-◌, List, length, ap, sym, subst, of_z, to_z, w64, arith}
+use Rattle.std.proofs.Common.{rules, ℕ, ◌≡◌, ◌∙◌, ◌<◌, ◌≤◌, ◌-◌, length, ap, sym, subst, of_z, to_z, w64}
 use Rattle.sim_values.specs.Standard.{operands_of, row_of}
 use Rattle.sim_code.specs.Rows.{standard_of}
-use Rattle.frame_arena.specs.Arrays.{AllLeadArrays}
 use Rattle.frame_arena.specs.Frames.{AllLead, Holds}
 use Rattle.object_machine.specs.declared.machine.Flow.TheVariants as flow
 use Rattle.object_machine.specs.declared.machine.Storage.{Storage}
@@ -12,6 +11,7 @@ use Rattle.object_machine.specs.Standing.{Obeys, outside}
 use Rattle.object_machine.proofs.Going.{along, none}
 use Rattle.object_machine.proofs.Having.{having_none, having_some}
 use Rattle.object_machine.proofs.NameRows.{few_operands, first_led, flow_ends, input_ends, name_row, name_still, read_row, table_row, unread_operand}
+use Rattle.object_machine.proofs.Taking.{name_takes}
 use Rattle.object_machine.proofs.Whole.{still_same}
 use Rattle.object_machine.proofs.names.standard.Goals as goal
 
@@ -130,3 +130,24 @@ returns-clause-fits g c =
 
 pub returns-clause-valid : goal.returns-clause-valid
 returns-clause-valid g c = c.settle_performed.ensures.valid (record { input = c.perform-performed.ensures.valid_in; output = c.perform-performed.ensures.valid })
+
+pub returns-clause-takes : goal.returns-clause-takes
+returns-clause-takes g c b eb line below =
+    let e : to_z w64 (of_z w64 c.args.operand) ≡ c.args.operand = search rules in
+    let p = c.args.storage.now in
+    let l = c.args.limits.now in
+    let r = c.args.regs.now in
+    let stack = c.args.stack.now in
+    let name = c.in-Some.name in
+    let n : ℕ = length (operands_of (row_of name).function) in
+    let new = c.read_operands.new.stack in
+    name_takes l line p r stack new below (outside (g.O.Sink.written c.args.out.now) b) name c.args.input.now c.perform-performed.new.input c.from-budget.result c.args.operand (sym (c.in-Some.ensures ∙ ap standard_of e)) (sym c.from-budget.ensures) (c.perform-performed.ensures.takes b eb)
+    (λ before o m s.
+    let ef = sym c.deref.ensures.value in
+    let holds : Holds c.deref.result.now c.deref-2.result.now m = subst (λ x. Holds c.deref.result.now x m) (sym c.deref-2.ensures.value) (subst (λ x. Holds x p.cells.items m) ef s.stores.frames) in
+    let lead : AllLead c.deref.result.now m stack = subst (λ x. AllLead x m stack) ef s.top.slots in
+    let count = c.operand_count-count.ensures.count in
+    let deep = subst (λ n. n ≤ r.depth) count c.if-depth-count.false in
+    let read = c.if-not-read_operands.ensures.read o m b holds s.stores.arrays s.stores.world.image lead s.top.arrays_lead in
+    let all : AllRead o m (r.depth - n) r.depth stack new = subst (λ n. AllRead o m (r.depth - n) r.depth stack new) count read in
+    read_row l line name o m r stack new below deep c.requires.fits c.if-not-read_operands.ensures.long all)

@@ -22,7 +22,7 @@ returns-clause-row c l before now o m s up =
     let p = c.args.storage.now in
     let b : BlockOf = record { kind = c.block.inside.kind; level = c.block.inside.level; cells = c.block.inside.cells; temps = c.block.inside.temps; room = c.block.inside.room; entry = c.block.inside.entry; class_free = c.block.inside.class_free; result_type = c.block.inside.result_type; class = c.block.inside.class; types = c.block.inside.types.items; formals = c.block.inside.formals.items } in
     let h1 : Holds c.reserve.new.frames.items c.reserve.new.cells.items m = c.in_ok-place.ensures.holds m s.frames in
-    let h0 : Holds c.deref.result.now c.deref_mut-2.result.now m = subst (λ f. Holds f c.deref_mut-2.result.now m) (sym c.deref.ensures.value) (subst (λ x. Holds c.reserve.new.frames.items x m) (sym c.deref_mut-2.ensures.value) h1) in
+    let h0 : Holds c.deref.result.now c.deref_mut-3.result.now m = subst (λ f. Holds f c.deref_mut-3.result.now m) (sym c.deref.ensures.value) (subst (λ x. Holds c.reserve.new.frames.items x m) (sym c.deref_mut-3.ensures.value) h1) in
     let h2 : Holds c.reserve.new.frames.items c.fill_first.new.cells m = subst (λ f. Holds f c.fill_first.new.cells m) c.deref.ensures.value (c.fill_first.ensures.holds m h0) in
     let n : c.in-Ok.count ≡ length c.block.inside.types.items = search rules in
     let e0 = c.fill_first.ensures.cells m h0 in
@@ -30,21 +30,21 @@ returns-clause-row c l before now o m s up =
     let e2 = subst (λ ts. cells_at c.fill_first.new.cells (frame_at c.reserve.new.frames.items c.in_ok-place.place).base (length ts) ≡ map first_value ts) c.deref-2.ensures.value e1 in
     let e : cells_at c.fill_first.new.cells (frame_at c.reserve.new.frames.items c.in_ok-place.place).base (frame_at c.reserve.new.frames.items c.in_ok-place.place).cells ≡ first_cells b =
     ap (λ k. cells_at c.fill_first.new.cells (frame_at c.reserve.new.frames.items c.in_ok-place.place).base k) (c.in_ok-place.ensures.cells ∙ n) ∙ e2 in
-    let up1 : (r : FrameRef) → c.args.parent ≡ Some r → Leads c.deref_mut-3.result.now m r = λ r is. subst (λ f. Leads f m r) (sym c.deref_mut-3.ensures.value) (c.in_ok-place.ensures.leads m r (up r is)) in
+    let up1 : (r : FrameRef) → c.args.parent ≡ Some r → Leads c.deref_mut-4.result.now m r = λ r is. subst (λ f. Leads f m r) (sym c.deref_mut-4.ensures.value) (c.in_ok-place.ensures.leads m r (up r is)) in
     let h3 : Holds c.enter.new.frames c.fill_first.new.cells (opened m c.args.number b c.args.parent) =
     subst (λ cs. Holds c.enter.new.frames c.fill_first.new.cells (entered m (record { text = c.args.number; level = b.level; encloser = number_in c.args.parent; cells = cs; passing = b.class_free; kept = false; given_back = false }) (NoObject None))) e
-    (subst (λ f. Holds c.enter.new.frames c.fill_first.new.cells (entered m (record { text = c.args.number; level = b.level; encloser = number_in c.args.parent; cells = cells_at c.fill_first.new.cells (frame_at f c.in_ok-place.place).base (frame_at f c.in_ok-place.place).cells; passing = b.class_free; kept = false; given_back = false }) (NoObject None))) c.deref_mut-3.ensures.value
-    (c.enter.ensures.holds c.fill_first.new.cells m (NoObject None) (subst (λ f. Holds f c.fill_first.new.cells m) (sym c.deref_mut-3.ensures.value) h2) s.entered up1)) in
+    (subst (λ f. Holds c.enter.new.frames c.fill_first.new.cells (entered m (record { text = c.args.number; level = b.level; encloser = number_in c.args.parent; cells = cells_at c.fill_first.new.cells (frame_at f c.in_ok-place.place).base (frame_at f c.in_ok-place.place).cells; passing = b.class_free; kept = false; given_back = false }) (NoObject None))) c.deref_mut-4.ensures.value
+    (c.enter.ensures.holds c.fill_first.new.cells m (NoObject None) (subst (λ f. Holds f c.fill_first.new.cells m) (sym c.deref_mut-4.ensures.value) h2) s.entered up1)) in
     let later : (r : FrameRef) → Leads p.frames.items m r → Leads c.enter.new.frames (opened m c.args.number b c.args.parent) r =
-    λ r leads. c.enter.ensures.leads m _ (NoObject None) r (subst (λ f. Leads f m r) (sym c.deref_mut-3.ensures.value) (c.in_ok-place.ensures.leads m r leads)) in
+    λ r leads. c.enter.ensures.leads m _ (NoObject None) r (subst (λ f. Leads f m r) (sym c.deref_mut-4.ensures.value) (c.in_ok-place.ensures.leads m r leads)) in
     let here : Has c.enter.new.frames c.in-Ok-try_from.region p.entered = subst (λ k. Has c.enter.new.frames k p.entered) (let q : c.in_ok-place.place ≡ c.in-Ok-try_from.region = search rules in q) c.enter.ensures.here in
-    let room : c.in_ok-stack.stack.items ≡ replicate c.block.inside.room empty_slot = c.in_ok-stack.ensures.items_if_clones_equal (λ y e. e) in
-    let p2 : Storage = record { frames = with_items c.reserve.new.frames c.enter.new.frames; cells = with_items c.reserve.new.cells c.fill_first.new.cells; operands = c.reserve.new.operands; heads = with_items p.heads c.reserve.new.heads; entered = p.entered + 1; arrays = p.arrays; texts = p.texts; image = p.image; ticks = p.ticks; words = p.words; wanted = p.wanted } in
+    let room : c.in_ok-stack.stack.items ≡ replicate c.block.inside.room empty_slot = c.in_ok-stack.ensures in
+    let p2 : Storage = record { frames = with_items c.reserve.new.frames c.enter.new.frames; cells = with_items c.reserve.new.cells c.fill_first.new.cells; spares = with_items c.reserve.new.spares c.take_stack.new.spares; heads = with_items p.heads c.reserve.new.heads; entered = p.entered + 1; arrays = p.arrays; texts = p.texts; image = p.image; ticks = p.ticks; words = p.words; wanted = p.wanted } in
     let t : working.Activation = record { registers = record { home = record { frame = c.in-Ok-try_from.region; stamp = p.entered }; pc = c.block.inside.entry; depth = 0 }; stack = c.in_ok-stack.stack } in
     for_block l p p2 c.args.number b c.args.block.now c.args.parent t before now o m c.block.view_is
     (opens_from l p p2 c.args.number b c.args.parent t before now o m s c.enter.new.frames c.fill_first.new.cells
     (with_items_is c.reserve.new.frames c.enter.new.frames (search (rules, places))) (with_items_is c.reserve.new.cells c.fill_first.new.cells (search (rules, places))) refl refl refl refl refl refl h3 later
-    (c.fill_first.ensures.arrays p.arrays.regions o.arrays (subst (λ x. AllLeadArrays p.arrays.regions o.arrays x) (sym c.deref_mut-2.ensures.value) (c.in_ok-place.ensures.arrays p.arrays.regions o.arrays s.cells)))
+    (c.fill_first.ensures.arrays p.arrays.regions o.arrays (subst (λ x. AllLeadArrays p.arrays.regions o.arrays x) (sym c.deref_mut-3.ensures.value) (c.in_ok-place.ensures.arrays p.arrays.regions o.arrays s.cells)))
     (has_leads c.enter.new.frames c.fill_first.new.cells (opened m c.args.number b c.args.parent) (record { frame = c.in-Ok-try_from.region; stamp = p.entered }) h3 here)
     (subst (λ x. AllLead c.enter.new.frames (opened m c.args.number b c.args.parent) x) (sym room) (empty_leads c.block.inside.room c.enter.new.frames (opened m c.args.number b c.args.parent)))
     (subst (λ x. AllLeadArrays p.arrays.regions o.arrays x) (sym room) (empty_leads_arrays c.block.inside.room p.arrays.regions o.arrays))

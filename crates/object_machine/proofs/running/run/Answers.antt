@@ -7,7 +7,9 @@ use Rattle.object_machine.specs.declared.machine.Registers.{Registers}
 use Rattle.object_machine.specs.Running.{RanAs, Stops, state_of}
 use Rattle.object_machine.specs.Standing.{Stands, Stores, outside}
 use Rattle.object_machine.specs.Named.{InputEnds}
+use Rattle.object_machine.specs.Taking.{NeverTakes}
 use Rattle.object_machine.proofs.Closings.{broken_write}
+use Rattle.object_machine.proofs.Taking.{later}
 use Rattle.object_machine.proofs.Whole.{ends_after, first_going, input_still, steady_of, stops_first, stops_later}
 use Rattle.object_machine.proofs.Written.{append_nothing}
 use Rattle.object_machine.proofs.running.run.Goals as goal
@@ -97,6 +99,26 @@ returns g c = record {
   faults = ends_after g.O.Sink.written g.O.Sink.faults c.args.out.now c.steps-stop.new.out c.answer-in_default-flow.new.out c.answer-in_default-flow.result
       (steady_of g.O.Sink.written g.O.Sink.faults c.args.out.now c.steps-stop.new.out c.steps-stop.result.flow c.in_default-flow.not-WriteFault c.steps-stop.ensures.ends) c.answer-in_default-flow.ensures.ends;
   input_faults = c.answer-in_default-flow.ensures.input _ _ c.steps-stop.ensures.read;
+  takes = λ input told never.
+      let code = c.args.code.now in
+      let l = c.args.limits.now in
+      let b0 = g.O.Sink.written c.args.out.now in
+      let w = outside b0 input in
+      let et : c.deref.result.now ≡ code.texts = c.deref.ensures.value ∙ ap (λ k. k.texts) c.code.view_is in
+      let eb : code.blocks ≡ c.deref-2.result.now = ap (λ k. k.blocks) (sym c.code.view_is) ∙ sym c.deref-2.ensures.value in
+      let ei : code.instrs ≡ c.deref-3.result.now = ap (λ k. k.instrs) (sym c.code.view_is) ∙ sym c.deref-3.ensures.value in
+      let s : Stores l c.in-Ok.storage b0 w (first_world code.texts l input) empty_memory = subst (λ t. Stores l c.in-Ok.storage b0 w (first_world t l input) empty_memory) et (c.in-Ok.ensures.row b0 input) in
+      let eb2 : code.blocks ≡ c.deref-in-Started.result.now = ap (λ k. k.blocks) (sym c.code.view_is) ∙ sym c.deref-in-Started.ensures.value in
+      let ei2 : code.instrs ≡ c.deref-in-Started-2.result.now = ap (λ k. k.instrs) (sym c.code.view_is) ∙ sym c.deref-in-Started-2.ensures.value in
+      let ek2 : code.texts ≡ c.deref-in-Started-3.result.now = ap (λ k. k.texts) (sym c.code.view_is) ∙ sym c.deref-in-Started-3.ensures.value in
+      let p = c.begin-begun.new.storage in
+      let r = c.in-Started.top.registers in
+      let stack = c.in-Started.top.stack.items in
+      let k = first_going code l input p r stack b0 w 0 (c.in-Started.ensures.row code b0 w (first_world code.texts l input) eb ei s) in
+      let none : c.new-below.result.items ≡ [] = search rules in
+      let stands : Stands l p r stack c.new-below.result.items b0 w k.world k.memory = subst (λ b. Stands l p r stack b b0 w k.world k.memory) (sym none) k.stands in
+      let still : NeverTakes code l input (Going k.world (state_of r stack c.new-below.result.items k.memory)) = subst (λ b. NeverTakes code l input (Going k.world (state_of r stack b k.memory))) (sym none) (later code l input _ k.is never) in
+      c.steps-stop.ensures.takes input told code b0 k.world k.memory input eb2 ei2 ek2 stands still;
 }
 
 pub returns-in-Stopped-clause-input_faults : goal.returns-in-Stopped-clause-input_faults
@@ -104,3 +126,25 @@ returns-in-Stopped-clause-input_faults g c = c.answer.ensures.input (g.I.Source.
 
 pub returns-in-WriteFault-clause-input_faults : goal.returns-in-WriteFault-clause-input_faults
 returns-in-WriteFault-clause-input_faults g c = subst (λ f. InputEnds (g.I.Source.faults c.args.input.now) (g.I.Source.faults c.steps-stop.new.input) f) c.in-WriteFault.is c.steps-stop.ensures.read
+
+pub returns-in-WriteFault-clause-takes : goal.returns-in-WriteFault-clause-takes
+returns-in-WriteFault-clause-takes g c input told never =
+    let code = c.args.code.now in
+    let l = c.args.limits.now in
+    let b0 = g.O.Sink.written c.args.out.now in
+    let w = outside b0 input in
+    let et : c.deref.result.now ≡ code.texts = c.deref.ensures.value ∙ ap (λ k. k.texts) c.code.view_is in
+    let eb : code.blocks ≡ c.deref-2.result.now = ap (λ k. k.blocks) (sym c.code.view_is) ∙ sym c.deref-2.ensures.value in
+    let ei : code.instrs ≡ c.deref-3.result.now = ap (λ k. k.instrs) (sym c.code.view_is) ∙ sym c.deref-3.ensures.value in
+    let s : Stores l c.in-Ok.storage b0 w (first_world code.texts l input) empty_memory = subst (λ t. Stores l c.in-Ok.storage b0 w (first_world t l input) empty_memory) et (c.in-Ok.ensures.row b0 input) in
+    let eb2 : code.blocks ≡ c.deref-in-Started.result.now = ap (λ k. k.blocks) (sym c.code.view_is) ∙ sym c.deref-in-Started.ensures.value in
+    let ei2 : code.instrs ≡ c.deref-in-Started-2.result.now = ap (λ k. k.instrs) (sym c.code.view_is) ∙ sym c.deref-in-Started-2.ensures.value in
+    let ek2 : code.texts ≡ c.deref-in-Started-3.result.now = ap (λ k. k.texts) (sym c.code.view_is) ∙ sym c.deref-in-Started-3.ensures.value in
+    let p = c.begin-begun.new.storage in
+    let r = c.in-Started.top.registers in
+    let stack = c.in-Started.top.stack.items in
+    let k = first_going code l input p r stack b0 w 0 (c.in-Started.ensures.row code b0 w (first_world code.texts l input) eb ei s) in
+    let none : c.new-below.result.items ≡ [] = search rules in
+    let stands : Stands l p r stack c.new-below.result.items b0 w k.world k.memory = subst (λ b. Stands l p r stack b b0 w k.world k.memory) (sym none) k.stands in
+    let still : NeverTakes code l input (Going k.world (state_of r stack c.new-below.result.items k.memory)) = subst (λ b. NeverTakes code l input (Going k.world (state_of r stack b k.memory))) (sym none) (later code l input _ k.is never) in
+    c.steps-stop.ensures.takes input told code b0 k.world k.memory input eb2 ei2 ek2 stands still

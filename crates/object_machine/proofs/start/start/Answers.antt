@@ -39,7 +39,7 @@ returns-clause-row c before input =
       budget = omega arith;
       frames = holds_empty c.new-3.result.items c.new-4.result.items none none2;
       entered = refl;
-      arrays = c.new-7.ensures.holds;
-      cells = leads_empty c.new-7.result.regions [] c.new-4.result.items none2;
-      elements = elements_empty c.new-3.result.items empty_memory c.new-7.result c.new-7.ensures.none;
+      arrays = c.new-6.ensures.holds;
+      cells = leads_empty c.new-6.result.regions [] c.new-4.result.items none2;
+      elements = elements_empty c.new-3.result.items empty_memory c.new-6.result c.new-6.ensures.none;
     }

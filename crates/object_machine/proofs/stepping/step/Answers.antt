@@ -3,6 +3,7 @@ use Rattle.std.proofs.lemmas.List.{with_items_is, places}
 use Rattle.sim_code.specs.declared.instr.Instr.TheVariants as i
 use Rattle.object_machine.specs.Standing.{outside}
 use Rattle.object_machine.proofs.Going.{for_instr_in, obeys_stacks}
+use Rattle.object_machine.proofs.Taking.{std_takes, step_unread}
 use Rattle.object_machine.proofs.Whole.{flow_still, input_still, still_same}
 use Rattle.object_machine.proofs.stepping.step.Goals as goal
 
@@ -21,6 +22,12 @@ returns-in-Std-clause-row g c s e =
             (w.2.1 line c.args.below.now.items)),
       ),
     )
+
+pub returns-in-Std-clause-takes : goal.returns-in-Std-clause-takes
+returns-in-Std-clause-takes g c s e code line =
+    let ename : to_z w64 (of_z w64 c.in-Std.name) ≡ c.in-Std.name = search rules in
+    std_takes code c.args.limits.now line _ _ _ c.args.top.now.stack.items c.args.below.now.items _ c.args.instr (to_z w64 (of_z w64 c.in-Std.name)) c.args.input.now c.standard.new.input (c.in-Std.is ∙ ap i.Std (sym ename)) c.deref_mut.ensures.value
+    (c.standard.ensures.takes s e line c.args.below.now.items)
 
 pub returns-in-AssignT-clause-valid : goal.returns-in-AssignT-clause-valid
 returns-in-AssignT-clause-valid g c = record { input = c.assign-flow.ensures.images _ c.requires.images.input; output = c.assign-flow.ensures.images _ c.requires.images.output }
@@ -114,6 +121,7 @@ returns-in_default g c =
       valid = c.obey-flow.ensures.valid;
       ends = flow_still g.O.Sink.written g.O.Sink.faults c.args.out.now _ c.without_ports-in_default.ensures.other;
       read = input_still (g.I.Source.faults c.args.input.now) _ c.without_ports-in_default.ensures.read;
+      takes = λ s e code line. step_unread l _ _ _ _ _ _ c.args.input.now;
       row = λ s e. (
         s,
         e,

@@ -1,5 +1,5 @@
 use Rattle.std.proofs.Common.{◌≡◌, take}
-use Rattle.sim_driver.proofs.Limits.{answer_from, answer_to, cut_from, rejected_to}
+use Rattle.sim_driver.proofs.Limits.{answer_from, answer_to, cut_from, rejected_to, runnable_to}
 use Rattle.sim_driver.proofs.command.answer_request.Goals as goal
 
 pub returns-in-Ok-clause-answered : goal.returns-in-Ok-clause-answered
@@ -26,3 +26,8 @@ pub returns-in-Ok-clause-untouched : goal.returns-in-Ok-clause-untouched
 returns-in-Ok-clause-untouched g c source rule line told compiles =
     let same : c.in-Ok.source.items ≡ take 1048577 source = c.in-Ok.ensures.bytes source told in
     c.answer_source.ensures.untouched rule line (rw c.deref.ensures.value (rejected_to source c.in-Ok.source.items rule line same compiles))
+
+pub returns-in-Ok-clause-takes : goal.returns-in-Ok-clause-takes
+returns-in-Ok-clause-takes g c source given s told tells compiles never =
+    let same : c.in-Ok.source.items ≡ take 1048577 source = c.in-Ok.ensures.bytes source told in
+    c.answer_source.ensures.takes given s tells (rw c.deref.ensures.value (runnable_to source c.in-Ok.source.items s same compiles)) never

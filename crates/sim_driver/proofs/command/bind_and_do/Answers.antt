@@ -1,6 +1,6 @@
 use Rattle.sim_scope.specs.Source.{source_of}
 use Rattle.sim_driver.specs.declared.failure.RunFailure.TheVariants.{Input}
-use Rattle.sim_driver.proofs.Meant.{binds_ok, cut_by, means_bound, rejected_does, rejected_means, untouched_by}
+use Rattle.sim_driver.proofs.Meant.{binds_ok, cut_by, means_bound, rejected_does, rejected_means, takes_by, untouched_by}
 use Rattle.sim_driver.proofs.command.bind_and_do.Goals as goal
 
 pub returns-in-Ok-clause-known : goal.returns-in-Ok-clause-known
@@ -28,3 +28,7 @@ returns-in-Ok-clause-only_run g c idle = (c.do_bound.ensures.only_run idle).1
 pub returns-in-Ok-clause-untouched : goal.returns-in-Ok-clause-untouched
 returns-in-Ok-clause-untouched g c rule line compiles =
     untouched_by c.args.command c.args.source.now (source_of c.in-Ok.bound) rule line c.in-Ok.ensures.0 (λ idle. (c.do_bound.ensures.only_run idle).1) compiles
+
+pub returns-in-Ok-clause-takes : goal.returns-in-Ok-clause-takes
+returns-in-Ok-clause-takes g c given s told compiles never =
+    takes_by c.args.command c.args.source.now given s (source_of c.in-Ok.bound) c.in-Ok.ensures.0 (λ idle. (c.do_bound.ensures.only_run idle).1) (c.do_bound.ensures.takes given told) compiles never

@@ -27,3 +27,15 @@ pub returns-in-Err-Output-clause-does : goal.returns-in-Err-Output-clause-does
 returns-in-Err-Output-clause-does g c given meaning told =
     failed_begins (source_of c.args.bound.now) given _ _
     (broken_by (source_of c.args.bound.now) c.default_limits.result given _ _ c.in-Err-Output.field-0 Output c.in-Err-Output.field-0-is c.default_limits.ensures (c.in-Err-Output.ensures.broken given told)) meaning
+
+pub returns-in-Ok-clause-takes : goal.returns-in-Ok-clause-takes
+returns-in-Ok-clause-takes g c given told never = c.in-Ok.ensures.takes given told (rw c.default_limits.ensures never)
+
+pub returns-in-Err-Memory-clause-takes : goal.returns-in-Err-Memory-clause-takes
+returns-in-Err-Memory-clause-takes g c given told never = c.in-Err-Memory.ensures.takes given told (rw c.default_limits.ensures never)
+
+pub returns-in-Err-Input-clause-takes : goal.returns-in-Err-Input-clause-takes
+returns-in-Err-Input-clause-takes g c given told never = c.in-Err-Input.ensures.takes given told (rw c.default_limits.ensures never)
+
+pub returns-in-Err-Output-clause-takes : goal.returns-in-Err-Output-clause-takes
+returns-in-Err-Output-clause-takes g c given told never = c.in-Err-Output.ensures.takes given told (rw c.default_limits.ensures never)

@@ -22,3 +22,9 @@ returns-in-Some-clause-untouched g c source rule line tells compiles =
     let words = texts c.args.words.now in
     let request : Request = record { command = c.in-Some.field-0.command; file = c.in-Some.field-0.file.now } in
     c.answer_request.ensures.untouched source rule line (tells_file (g.F.Files.content c.args.files.now) words source request c.in-Some.ensures tells) compiles
+
+pub returns-in-Some-clause-takes : goal.returns-in-Some-clause-takes
+returns-in-Some-clause-takes g c source given s tells told compiles never =
+    let words = texts c.args.words.now in
+    let request : Request = record { command = c.in-Some.field-0.command; file = c.in-Some.field-0.file.now } in
+    c.answer_request.ensures.takes source given s (tells_file (g.F.Files.content c.args.files.now) words source request c.in-Some.ensures tells) told compiles never

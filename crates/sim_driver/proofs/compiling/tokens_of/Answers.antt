@@ -1,14 +1,15 @@
 use Rattle.std.proofs.Common.{ℕ, arith, subst, sym}
-use Rattle.sim_lexer.specs.Spelling.{Broken}
+use Rattle.sim_lexer.specs.Spelling.{Broken, Reads}
+use Rattle.sim_lexer.proofs.Lines.{placed-reading}
 use Rattle.sim_driver.specs.Compiling.{SourceRejects}
 use Rattle.sim_driver.proofs.Known.{broken_source}
-use Rattle.sim_driver.proofs.Places.{read_places}
 use Rattle.sim_driver.proofs.Whole.{whole_source}
 use Rattle.sim_driver.proofs.compiling.tokens_of.Goals as goal
 
 pub line_of-requires-clause-within : goal.line_of-requires-clause-within
 line_of-requires-clause-within c =
-    read_places c.args.source.now (Broken c.in-Err-Broken.rule c.in-Err-Broken.place) (rw c.in-Err-Broken.field-0-is at c.in-Err-Broken.ensures.sound)
+    let reads : Reads c.args.source.now (Broken c.in-Err-Broken.rule c.in-Err-Broken.place) = rw c.in-Err-Broken.field-0-is at c.in-Err-Broken.ensures.sound in
+    placed-reading reads
 
 pub returns-in-Ok-clause-whole : goal.returns-in-Ok-clause-whole
 returns-in-Ok-clause-whole c = whole_source c.in-Ok.tokens.items c.in-Ok.ensures.ended (omega (arith, c.in-Ok.ensures.few, c.requires))

@@ -1,6 +1,6 @@
 use Rattle.std.proofs.Common.{◌≡◌, ◌+◌, ◌≤◌, drop}
 use Rattle.std.specs.List.{fold}
-use Rattle.sim_lexer.specs.Spelling.{past_byte}
+use Rattle.sim_lexer.specs.Scanning.{past_byte}
 use Rattle.sim_lexer.proofs.position.past.Given as goal
 
 abbrev pub invariant-loop-byte : goal.invariant-loop-byte

@@ -1,16 +1,16 @@
-use Rattle.std.proofs.Common.{◌≡◌, List, length, ap, ◌∙◌, take, sym, subst, refl, arith}
+use Rattle.std.proofs.Common.{◌≡◌, List, [], length, ap, ◌∙◌, take, sym, subst, refl, arith, rules}
 use Rattle.std.specs.List.{All}
 use Rattle.std.proofs.lemmas.List.Elements.{All-nil}
 use Rattle.sim_base.specs.declared.token.Token.{Token}
 use Rattle.sim_base.specs.declared.token.TokenKind.TheVariants as k
-use Rattle.sim_lexer.specs.Items.{front_item}
-use Rattle.sim_lexer.specs.Spelling.{Reads, Spelled, past, token, with_next}
-use Rattle.sim_lexer.specs.Within.{IsWithin}
+use Rattle.sim_lexer.specs.Pieces.{piece}
+use Rattle.sim_lexer.specs.Scanning.{IsItem, past, token_at}
+use Rattle.sim_lexer.specs.Spelling.{Reads, Spelled, with_next}
 use Rattle.sim_lexer.specs.declared.item.Item.{Item}
-use Rattle.sim_lexer.specs.declared.item.Item.TheVariants.{Finish, Passed, Lexeme, Fault}
-use Rattle.sim_lexer.proofs.Following.{follows-start, follows-passes, follows-gives, follows-ends, follows-breaks, follows-same, behind-same}
+use Rattle.sim_lexer.specs.declared.item.Item.TheVariants.{Skipped, Lexeme, Fault}
+use Rattle.sim_lexer.proofs.Following.{follows-start, follows-passes, follows-gives, follows-ends, follows-breaks, follows-same, given-inside, given-some, none_left, passed-some}
 use Rattle.sim_lexer.proofs.JoiningLemmas.{end_behind, few}
-use Rattle.sim_lexer.proofs.NoEnd.{GivesNoEnd, IsInside, inside-next, no_end-front}
+use Rattle.sim_lexer.proofs.NoEnd.{IsInside, inside-next}
 use Rattle.sim_lexer.proofs.spelling.read.Goals as goal
 
 pub items-init : goal.items-init
@@ -22,59 +22,96 @@ items-init c = record {
   few = omega (arith, ap length c.new-tokens.ensures.items);
 }
 
-pub returns-in-Finish : goal.returns-in-Finish
-returns-in-Finish c =
-    let front : front_item c.items.at.is_fresh c.items.at.is_behind_end c.items.rest.now ≡ Finish = sym c.in_ok-front_item.ensures.item ∙ c.in-Finish.is in
-    let tokens : c.add.new.tokens.items ≡ with_next c.items.tokens.items (token c.items.at k.EndOfSource) =
-    c.in_ok-add-in-Finish.ensures.tokens ∙ ap (with_next c.items.tokens.items) c.token.ensures.token in
+-- the source ends
+pub returns-in_default : goal.returns-in_default
+returns-in_default c =
+    let at = c.items.at in
+    let tokens : c.add.new.tokens.items ≡ with_next c.items.tokens.items (token_at at k.EndOfSource) =
+    c.in_ok-add.ensures.tokens ∙ ap (with_next c.items.tokens.items) c.token.ensures.token in
+    let none : c.items.rest.now ≡ [] = none_left c.items.rest.now (search rules) in
     record {
-      sound = subst (λ (ts : List Token). Reads c.args.source.now (Spelled ts)) (sym tokens) (follows-ends c.items.invariant.follows front);
+      sound = subst (λ (ts : List Token). Reads c.args.source.now (Spelled ts)) (sym tokens) (follows-ends c.items.invariant.follows none);
       ended = record {
         before = c.items.tokens.items;
-        last = token c.items.at k.EndOfSource;
-        split = tokens ∙ end_behind c.items.tokens.items (token c.items.at k.EndOfSource) refl;
+        last = token_at at k.EndOfSource;
+        split = tokens ∙ end_behind c.items.tokens.items (token_at at k.EndOfSource) refl;
         end = refl;
         only = c.items.invariant.inside;
       };
-      few = omega (arith, ap length tokens, few c.items.tokens.items (token c.items.at k.EndOfSource), c.items.invariant.few);
+      few = omega (arith, ap length tokens, few c.items.tokens.items (token_at at k.EndOfSource), c.items.invariant.few);
     }
 
-pub items-preserved-in-Passed : goal.items-preserved-in-Passed
-items-preserved-in-Passed c =
-    let front : front_item c.items.at.is_fresh c.items.at.is_behind_end c.items.rest.now ≡ Passed c.in-Passed.size = sym c.in_ok-front_item.ensures.item ∙ c.in-Passed.is in
-    let within = subst (λ (item : Item). IsWithin item c.items.rest.now) c.in-Passed.is c.in_ok-front_item.ensures.within in
-    let at : c.past-at.result ≡ past c.items.at (take c.in-Passed.size c.items.rest.now) = c.past-at.ensures.position ∙ ap (past c.items.at) c.split_at.ensures.front in
+pub split_at-requires : goal.split_at-requires
+split_at-requires c =
+    let at = c.items.at in
+    let rest = c.items.rest.now in
+    let found : IsItem (piece at.begins_line rest) rest (Skipped c.in-Skipped.size) = subst (λ (i : Item). IsItem (piece at.begins_line rest) rest i) c.in-Skipped.is c.in_ok-size.ensures.item in
+    (follows-passes c.items.invariant.follows c.in-Skipped.size found).1
+
+pub split_at-requires-in-Lexeme : goal.split_at-requires-in-Lexeme
+split_at-requires-in-Lexeme c =
+    let at = c.items.at in
+    let rest = c.items.rest.now in
+    let found : IsItem (piece at.begins_line rest) rest (Lexeme c.in-Lexeme.kind c.in-Lexeme.size) = subst (λ (i : Item). IsItem (piece at.begins_line rest) rest i) c.in-Lexeme.is c.in_ok-size.ensures.item in
+    (follows-gives c.items.invariant.follows c.in-Lexeme.kind c.in-Lexeme.size found).1
+
+pub items-smaller-in-Skipped : goal.items-smaller-in-Skipped
+items-smaller-in-Skipped c =
+    let at = c.items.at in
+    let rest = c.items.rest.now in
+    let size = c.in-Skipped.size in
+    let found : IsItem (piece at.begins_line rest) rest (Skipped size) = subst (λ (i : Item). IsItem (piece at.begins_line rest) rest i) c.in-Skipped.is c.in_ok-size.ensures.item in
+    omega (arith, c.split_at.ensures.back_len, passed-some at.begins_line rest size found, (follows-passes c.items.invariant.follows size found).1)
+
+pub items-smaller : goal.items-smaller
+items-smaller c =
+    let at = c.items.at in
+    let rest = c.items.rest.now in
+    let kind = c.in-Lexeme.kind in
+    let size = c.in-Lexeme.size in
+    let found : IsItem (piece at.begins_line rest) rest (Lexeme kind size) = subst (λ (i : Item). IsItem (piece at.begins_line rest) rest i) c.in-Lexeme.is c.in_ok-size.ensures.item in
+    omega (arith, c.split_at-in-Lexeme.ensures.back_len, given-some at.begins_line rest kind size found, (follows-gives c.items.invariant.follows kind size found).1)
+
+-- a separator is passed over
+pub items-preserved-in-Skipped : goal.items-preserved-in-Skipped
+items-preserved-in-Skipped c =
+    let at = c.items.at in
+    let rest = c.items.rest.now in
+    let size = c.in-Skipped.size in
+    let found : IsItem (piece at.begins_line rest) rest (Skipped size) = subst (λ (i : Item). IsItem (piece at.begins_line rest) rest i) c.in-Skipped.is c.in_ok-size.ensures.item in
+    let follows = follows-passes c.items.invariant.follows size found in
+    let next : c.past-at.result ≡ past at (take size rest) = c.past-at.ensures.position ∙ ap (past at) c.split_at.ensures.front in
     record {
-      follows = follows-same (follows-passes c.items.invariant.follows c.in-Passed.size within.within front) refl at c.split_at.ensures.back;
-      place = omega (arith, c.past-at.ensures.place, c.split_at.ensures.front_len, c.split_at.ensures.back_len, c.items.invariant.place);
+      follows = follows-same follows.0 refl next c.split_at.ensures.back;
+      place = omega (arith, c.past-at.ensures.place, c.split_at.ensures.front_len, c.split_at.ensures.back_len, c.items.invariant.place, follows.1);
       line = c.past-at.ensures.line;
       inside = c.items.invariant.inside;
       few = omega (arith, c.split_at.ensures.back_len, c.items.invariant.few);
     }
 
+-- a lexeme gives a token
 pub items-preserved : goal.items-preserved
 items-preserved c =
-    let front : front_item c.items.at.is_fresh c.items.at.is_behind_end c.items.rest.now ≡ Lexeme c.in-Lexeme.kind c.in-Lexeme.size = sym c.in_ok-front_item.ensures.item ∙ c.in-Lexeme.is in
-    let within = subst (λ (item : Item). IsWithin item c.items.rest.now) c.in-Lexeme.is c.in_ok-front_item.ensures.within in
-    let at : c.past.result ≡ past c.items.at (take c.in-Lexeme.size c.items.rest.now) = c.past.ensures.position ∙ ap (past c.items.at) c.split_at-in-Lexeme.ensures.front in
-    let tokens : c.add-in-Lexeme.new.tokens.items ≡ with_next c.items.tokens.items (token c.items.at c.in-Lexeme.kind) =
-    c.in_ok-add-in-Lexeme.ensures.tokens ∙ ap (with_next c.items.tokens.items) c.token-in-Lexeme.ensures.token in
+    let at = c.items.at in
+    let rest = c.items.rest.now in
+    let kind = c.in-Lexeme.kind in
+    let size = c.in-Lexeme.size in
+    let before = c.items.tokens.items in
+    let found : IsItem (piece at.begins_line rest) rest (Lexeme kind size) = subst (λ (i : Item). IsItem (piece at.begins_line rest) rest i) c.in-Lexeme.is c.in_ok-size.ensures.item in
+    let follows = follows-gives c.items.invariant.follows kind size found in
+    let next : c.past-at-in-Lexeme.result ≡ past at (take size rest) = c.past-at-in-Lexeme.ensures.position ∙ ap (past at) c.split_at-in-Lexeme.ensures.front in
+    let tokens : c.add-in-Lexeme.new.tokens.items ≡ with_next before (token_at at kind) = c.in_ok-add-in-Lexeme.ensures.tokens ∙ ap (with_next before) c.token-in-Lexeme.ensures.token in
     record {
-      follows =
-          follows-same (follows-gives c.items.invariant.follows c.in-Lexeme.kind c.in-Lexeme.size within.within front) tokens
-          (behind-same c.in-Lexeme.kind c.is_end-is_behind_end.result c.past.result (past c.items.at (take c.in-Lexeme.size c.items.rest.now)) at c.is_end-is_behind_end.ensures.answer)
-          c.split_at-in-Lexeme.ensures.back;
-      place = omega (arith, c.past.ensures.place, c.split_at-in-Lexeme.ensures.front_len, c.split_at-in-Lexeme.ensures.back_len, c.items.invariant.place);
-      line = c.past.ensures.line;
-      inside =
-          subst (All IsInside) (sym tokens)
-          (inside-next c.items.tokens.items (token c.items.at c.in-Lexeme.kind) c.items.invariant.inside
-          (subst GivesNoEnd front (no_end-front c.items.at.is_fresh c.items.at.is_behind_end c.items.rest.now)));
-      few =
-          omega (arith, c.split_at-in-Lexeme.ensures.back_len, c.items.invariant.few, within.some, within.within, ap length tokens, few c.items.tokens.items (token c.items.at c.in-Lexeme.kind));
+      follows = follows-same follows.0 tokens next c.split_at-in-Lexeme.ensures.back;
+      place = omega (arith, c.past-at-in-Lexeme.ensures.place, c.split_at-in-Lexeme.ensures.front_len, c.split_at-in-Lexeme.ensures.back_len, c.items.invariant.place, follows.1);
+      line = c.past-at-in-Lexeme.ensures.line;
+      inside = subst (All IsInside) (sym tokens) (inside-next before (token_at at kind) c.items.invariant.inside (given-inside at.begins_line rest kind size found));
+      few = omega (arith, c.split_at-in-Lexeme.ensures.back_len, c.items.invariant.few, given-some at.begins_line rest kind size found, follows.1, ap length tokens, few before (token_at at kind));
     }
 
 pub returns-in-Fault : goal.returns-in-Fault
 returns-in-Fault c =
-    let front : front_item c.items.at.is_fresh c.items.at.is_behind_end c.items.rest.now ≡ Fault c.in-Fault.rule = sym c.in_ok-front_item.ensures.item ∙ c.in-Fault.is in
-    record { sound = follows-breaks c.items.invariant.follows c.in-Fault.rule front; ended = tt; few = tt }
+    let at = c.items.at in
+    let rest = c.items.rest.now in
+    let found : IsItem (piece at.begins_line rest) rest (Fault c.in-Fault.rule) = subst (λ (i : Item). IsItem (piece at.begins_line rest) rest i) c.in-Fault.is c.in_ok-size.ensures.item in
+    record { sound = follows-breaks c.items.invariant.follows c.in-Fault.rule found; ended = tt; few = tt }

@@ -1,23 +1,44 @@
-use Rattle.std.proofs.Common.{ℕ, ◌+◌, List, [], ◌∷◌, ◌++◌, ap, ◌∙◌, sym, arith}
-use Rattle.sim_lexer.specs.Texts.{text_from}
-use Rattle.sim_lexer.proofs.TextLemmas.{behind_bytes, one_piece}
+use Rattle.std.proofs.Common.{◌≡◌, ℕ, ◌+◌, List, [], ◌++◌, ap, ◌∙◌, sym, subst, refl, arith, drop, append-nil}
+use Rattle.std.proofs.lemmas.List.{drop-drop}
+use Rattle.sim_lexer.specs.Scanning.{closed, unclosed}
+use Rattle.sim_lexer.specs.Texts.{Content}
+use Rattle.sim_lexer.proofs.TextLemmas.{known_piece, of_piece, read-more, read-none, read-same}
 use Rattle.sim_lexer.proofs.texts.text_item.Goals as goal
 
--- what the piece means is behind the bytes so far
+pub pieces-init : goal.pieces-init
+pieces-init c = record {
+  are_read = read-same (read-none (drop 1 c.args.rest.now)) c.new-bytes.ensures.items c.split_at.ensures.back;
+  place = c.split_at.ensures.back;
+  whole = omega (arith, c.split_at.ensures.back_len, c.requires.some);
+}
+
 pub pieces-preserved : goal.pieces-preserved
 pieces-preserved c =
     let behind = c.pieces.behind.now in
-    let bytes = c.pieces.bytes.items in
-    let byte = c.in-Means.byte in
     let size = c.in-Means.size in
-    let read = c.pieces.read in
     let within = c.in-Means.ensures.within in
-    let moved = one_piece bytes read behind byte size (sym c.in-Means.ensures.piece) within.some within.within in
     record {
-      same =
-          ap (λ (bs : List ℕ). behind_bytes bs (read + size) (text_from 0 c.split_at-in-Means.result.1.now)) c.in_ok-push-in-Means.ensures.items
-          ∙ ap (λ (bs : List ℕ). behind_bytes (bytes ++ byte ∷ []) (read + size) (text_from 0 bs)) c.split_at-in-Means.ensures.back
-          ∙ sym moved
-          ∙ c.pieces.invariant.same;
-      whole = omega (arith, c.split_at-in-Means.ensures.back_len, c.pieces.invariant.whole);
+      are_read = read-same (read-more c.pieces.invariant.are_read (sym c.in-Means.ensures.piece)) c.in_ok-push-in-Means.ensures.items c.split_at-in-Means.ensures.back;
+      place =
+          c.split_at-in-Means.ensures.back ∙ ap (drop size) c.pieces.invariant.place ∙ drop-drop size (1 + c.pieces.read) c.args.rest.now
+          ∙ ap (λ (n : ℕ). drop n c.args.rest.now) (omega arith);
+      whole = omega (arith, c.split_at-in-Means.ensures.back_len, within.1, c.pieces.invariant.whole);
     }
+
+-- what stands behind the closing quote
+pub returns-in-Closing : goal.returns-in-Closing
+returns-in-Closing c =
+    let all = c.args.rest.now in
+    let behind = c.pieces.behind.now in
+    let bytes = c.pieces.bytes.items in
+    let content : Content (drop 1 all) (bytes ++ []) (drop 1 behind) = c.pieces.invariant.are_read.there [] (drop 1 behind) (of_piece (sym c.in-Closing.ensures.piece) (refl, refl)) in
+    let meant : Content (drop 1 all) c.new.result (drop 1 behind) = subst (λ (bs : List ℕ). Content (drop 1 all) bs (drop 1 behind)) (append-nil bytes ∙ sym c.new.ensures.same) content in
+    let left : drop 1 behind ≡ drop (c.pieces.read + 2) all =
+    ap (drop 1) c.pieces.invariant.place ∙ drop-drop 1 (1 + c.pieces.read) all ∙ ap (λ (n : ℕ). drop n all) (omega arith) in
+    record {
+      text = closed c.new.result (c.pieces.read + 2) (omega (arith, c.pieces.invariant.whole, c.in-Closing.ensures.within)) (subst (λ (r : List ℕ). Content (drop 1 all) c.new.result r) left meant);
+    }
+
+pub returns-in-Bad : goal.returns-in-Bad
+returns-in-Bad c =
+    record { text = unclosed (λ bytes rest content. let before = c.pieces.invariant.are_read.back bytes rest content in known_piece (sym c.in-Bad.ensures.piece) before.2) }

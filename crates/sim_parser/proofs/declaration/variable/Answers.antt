@@ -1,14 +1,14 @@
 use Rattle.std.proofs.Common.{[], ◌∷◌, true, false, refl}
 use Rattle.sim_tree.specs.declared.terminal.Terminal.TheVariants as t
 use Rattle.sim_tree.specs.Grammar as g
-use Rattle.sim_tree.specs.Grammar.{Of, Once, Maybe, Kept, Mark, just}
+use Rattle.sim_tree.specs.Grammar.{Of, Maybe, just}
 use Rattle.sim_tree.specs.Reading.{terminal_at, done, node}
 use Rattle.sim_tree.specs.Shown.{identifier}
 use Rattle.sim_tree.specs.ShownProgram.{constant_shown, variable_shown}
 use Rattle.sim_expr_parser.proofs.Tables.{one_row, just_is}
 use Rattle.sim_expr_parser.proofs.Steps.{exit, opened, to, gone, once, maybe, skipped, marked, stops, stops-in, once-stops}
 use Rattle.sim_parser.specs.Parsing.{GivesPart}
-use Rattle.sim_parser.proofs.DeclarationLists.{first-stops, opened-past}
+use Rattle.sim_parser.proofs.DeclarationSteps.{first-stops, opened-past}
 use Rattle.sim_parser.proofs.DeclarationTables.{value_symbols}
 use Rattle.sim_parser.proofs.declaration.variable.Goals as goal
 
@@ -17,7 +17,7 @@ returns-in_err-name c = λ d.
     let e = c.in_err-name.field-0.0 in
     let r = c.from_residual in
     exit (λ r. GivesPart c.args.source.now d g.Variable c.args.at variable_shown r) r.result e r.ensures.1
-    (first-stops c.args.source.now d c.args.at g.Variable (just t.Identifier) (Of Maybe g.Value ∷ []) refl refl c.requires.within e (c.in_err-name.ensures d))
+    (first-stops c.args.source.now d c.args.at g.Variable (just t.Identifier) (Of Maybe g.Value ∷ []) refl refl c.requires.within e (c.in_err-name.ensures d (Of Maybe g.Value ∷ [])))
 
 pub eat-requires-clause-within : goal.eat-requires-clause-within
 eat-requires-clause-within c = (c.in_ok-name.ensures 0).within

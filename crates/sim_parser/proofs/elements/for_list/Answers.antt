@@ -1,31 +1,23 @@
-use Rattle.std.proofs.Common.{[], refl}
+use Rattle.std.proofs.Common.{refl}
 use Rattle.sim_base.specs.declared.token.TokenKind.TheVariants as k
 use Rattle.sim_tree.specs.declared.terminal.Terminal.TheVariants as t
 use Rattle.sim_tree.specs.Grammar as g
-use Rattle.sim_tree.specs.Grammar.{Of, Once, Maybe, Many, Kept, Mark, just}
 use Rattle.sim_tree.specs.Reading.{terminal_at}
 use Rattle.sim_expr_parser.proofs.Tables.{by_test}
 use Rattle.sim_expr_parser.proofs.Terminals.{took_one}
-use Rattle.sim_expr_parser.proofs.Steps.{exit, opened, to, kept, stops-at}
+use Rattle.sim_expr_parser.proofs.Steps.{exit, opened, to, kept}
 use Rattle.sim_parser.specs.Parsing.{GivesPart}
 use Rattle.sim_parser.specs.Elements.{for_list_shown}
-use Rattle.sim_parser.proofs.DeclarationLists.{gone-all, unexpected}
+use Rattle.sim_parser.proofs.Exits.{out_part, past_kept, rest}
+use Rattle.sim_parser.proofs.DeclarationSteps.{gone-all, unexpected}
 use Rattle.sim_parser.proofs.ElementsTables.{values_symbols, references_symbols, values_row, references_row, no_list}
 use Rattle.sim_parser.proofs.elements.for_list.Goals as goal
 
 pub returns-in_err-elements : goal.returns-in_err-elements
 returns-in_err-elements c =
-    let ws = c.args.source.now in
-    let d = c.args.depth in
-    let i = c.args.at in
-    let w = c.in-Some.ensures in
-    let n = c.token_no-sign.result in
-    let w0 = opened ws d i g.ForList values_symbols refl (by_test g.ForList (terminal_at ws i) t.Assign values_symbols w.0 values_row) c.requires.within in
-    let w1 = to w0 (kept n.0 c.token_no-sign.ensures (took_one ws i c.in-Some.next k.Assign refl w)) in
-    let e = c.in_err-elements.field-0.0 in
     let r = c.from_residual in
-    exit (λ r. GivesPart ws d g.ForList i for_list_shown r) r.result e r.ensures.1
-    (stops-at Once w1 e c.in_err-elements.ensures [])
+    out_part c.args.source.now c.args.depth c.args.at g.ForList values_symbols refl (by_test g.ForList (terminal_at c.args.source.now c.args.at) t.Assign values_symbols c.in-Some.ensures.0 values_row) c.requires.within for_list_shown r.result c.in_err-elements.field-0.0 r.ensures.1
+    (past_kept c.in-Some.ensures (rest c.in_err-elements.ensures))
 
 pub returns-in-Some : goal.returns-in-Some
 returns-in-Some c =
@@ -50,17 +42,9 @@ returns-in_err-next c =
 
 pub returns-in_err-elements-2 : goal.returns-in_err-elements-2
 returns-in_err-elements-2 c =
-    let ws = c.args.source.now in
-    let d = c.args.depth in
-    let i = c.args.at in
-    let w = c.in_ok-next.ensures in
-    let n = c.token_no-sign.result in
-    let w0 = opened ws d i g.ForList references_symbols refl (by_test g.ForList (terminal_at ws i) t.AssignReference references_symbols w.0 references_row) c.requires.within in
-    let w1 = to w0 (kept n.0 c.token_no-sign.ensures (took_one ws i c.in_ok-next.next k.AssignReference refl w)) in
-    let e = c.in_err-elements-2.field-0.0 in
     let r = c.from_residual-in_err-elements-2 in
-    exit (λ r. GivesPart ws d g.ForList i for_list_shown r) r.result e r.ensures.1
-    (stops-at Once w1 e c.in_err-elements-2.ensures [])
+    out_part c.args.source.now c.args.depth c.args.at g.ForList references_symbols refl (by_test g.ForList (terminal_at c.args.source.now c.args.at) t.AssignReference references_symbols c.in_ok-next.ensures.0 references_row) c.requires.within for_list_shown r.result c.in_err-elements-2.field-0.0 r.ensures.1
+    (past_kept c.in_ok-next.ensures (rest c.in_err-elements-2.ensures))
 
 pub returns : goal.returns
 returns c =

@@ -1,40 +1,19 @@
-use Rattle.std.proofs.Common.{◌≡◌, List, [], ◌∷◌, refl}
+use Rattle.std.proofs.Common.{◌≡◌, List, [], ◌∷◌, refl, rules}
 use Rattle.sim_tree.specs.declared.stmt.ReferenceElement.{ReferenceElement}
 use Rattle.sim_tree.specs.Grammar as g
-use Rattle.sim_tree.specs.Grammar.{Of, Once, Many}
-use Rattle.sim_tree.specs.Reading.{done}
+use Rattle.sim_tree.specs.Grammar.{Of, Once}
+use Rattle.sim_tree.specs.Reading.{done, node}
 use Rattle.sim_tree.specs.ShownProgram.{reference_element_shown, reference_elements}
-use Rattle.sim_expr_parser.proofs.Steps.{exit, once-stops}
-use Rattle.sim_parser.specs.Parsing.{GivesAll}
-use Rattle.sim_parser.proofs.DeclarationLists.{listing, list-first, list-more, list-stops, list-all}
+use Rattle.sim_parser.specs.CommaLists.{listed_with}
+use Rattle.sim_parser.proofs.ListSteps.{item-part, items-all}
 use Rattle.sim_parser.proofs.elements.reference_elements.Goals as goal
 
-same : (xs : List ReferenceElement) → listing g.ReferenceElement g.NextReferenceElement reference_element_shown xs done ≡ reference_elements xs
+same : (xs : List ReferenceElement) → listed_with (λ x. node g.ReferenceElement (reference_element_shown x)) g.NextReferenceElement xs done ≡ reference_elements xs
 same [] = refl
 same (x ∷ xs) = refl
 
-pub returns-in_err-first : goal.returns-in_err-first
-returns-in_err-first c =
-    let e = c.in_err-first.field-0.0 in
-    let r = c.from_residual in
-    exit (λ r. GivesAll c.args.source.now c.args.depth (Of Once g.ReferenceElement ∷ Of Many g.NextReferenceElement ∷ []) c.args.start (λ v. reference_elements v.items) r) r.result e r.ensures.1
-    (once-stops c.args.source.now c.args.depth c.args.start g.ReferenceElement e c.in_err-first.ensures (Of Many g.NextReferenceElement ∷ []))
-
-pub loop-next-init : goal.loop-next-init
-loop-next-init c =
-    list-first reference_element_shown c.new-list.result.items c.add.new.list.items c.in_ok-first.first c.in_ok-first.ensures c.new-list.ensures.items c.in_ok-add.ensures
-
-pub returns-in_err-element : goal.returns-in_err-element
-returns-in_err-element c =
-    let e = c.in_err-element.field-0.0 in
-    let r = c.from_residual-in_err-element in
-    exit (λ r. GivesAll c.args.source.now c.args.depth (Of Once g.ReferenceElement ∷ Of Many g.NextReferenceElement ∷ []) c.args.start (λ v. reference_elements v.items) r) r.result e r.ensures.1
-    (list-stops reference_element_shown c.loop-next.list.items (refl, refl) c.loop-next.invariant c.in-Some.ensures e c.in_err-element.ensures [])
-
-pub loop-next-preserved : goal.loop-next-preserved
-loop-next-preserved c =
-    list-more reference_element_shown c.loop-next.list.items c.add-in-Some.new.list.items c.in_ok-element.element (refl, refl) c.loop-next.invariant c.in-Some.ensures c.in_ok-element.ensures c.in_ok-add-2.ensures
-
 pub returns : goal.returns
 returns c =
-    list-all reference_element_shown c.loop-next.list.items (reference_elements c.loop-next.list.items) (refl, refl) c.loop-next.invariant c.in_default.ensures (same c.loop-next.list.items)
+    let ws = c.args.source.now in
+    items-all ws c.args.depth c.args.start (Of Once g.ReferenceElement) g.NextReferenceElement (λ x. node g.ReferenceElement (reference_element_shown x)) (λ v. reference_elements v.items) (λ v. same v.items) c.comma_list.result
+    (c.comma_list.ensures c.args.depth (Of Once g.ReferenceElement) g.NextReferenceElement (λ x. node g.ReferenceElement (reference_element_shown x)) (refl, refl) (λ j r h p. item-part ws c.args.depth j g.ReferenceElement reference_element_shown r (search rules)))

@@ -2,7 +2,7 @@ use Rattle.std.proofs.Common.{refl}
 use Rattle.sim_base.specs.declared.token.TokenKind.TheVariants as k
 use Rattle.sim_tree.specs.declared.terminal.Terminal.TheVariants as t
 use Rattle.sim_tree.specs.Grammar as g
-use Rattle.sim_tree.specs.Grammar.{is, just, right_side}
+use Rattle.sim_tree.specs.Grammar.{is, right_side}
 use Rattle.sim_tree.specs.Reading.{terminal_at, leaf, done}
 use Rattle.sim_tree.specs.Shown.{identifier}
 use Rattle.sim_tree.specs.ShownProgram.{type_shown}

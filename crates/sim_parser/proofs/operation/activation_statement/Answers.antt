@@ -1,11 +1,11 @@
 use Rattle.std.proofs.Common.{◌∙◌, sym, ap}
-use Rattle.sim_tree.specs.Grammar as g
 use Rattle.sim_tree.specs.Reading.{leaf}
 use Rattle.sim_tree.specs.ShownProgram.{activation_kind, expr, stmt_shown, timing_shown}
 use Rattle.sim_tree.proofs.StatementLemmas.{shown-Activation}
-use Rattle.sim_expr_parser.proofs.Steps.{exit, once, once-stops}
+use Rattle.sim_expr_parser.proofs.Steps.{exit, once}
 use Rattle.sim_parser.specs.Parsing.{GivesAll, activation_row}
-use Rattle.sim_parser.proofs.Along.{along, past, left, along-stops, along-ends}
+use Rattle.sim_parser.proofs.Exits.{here_part, out, past_part, past_to, rest}
+use Rattle.sim_parser.proofs.Along.{along, past, left, along-stops}
 use Rattle.sim_parser.proofs.operation.activation_statement.Goals as goal
 
 pub returns-in_err-activation : goal.returns-in_err-activation
@@ -23,25 +23,15 @@ expression-requires-clause-within c = (c.in_ok-activation.ensures c.args.depth).
 
 pub returns-in_err-process : goal.returns-in_err-process
 returns-in_err-process c =
-    let ws = c.args.source.now in
-    let d = c.args.depth in
-    let at = c.args.at in
-    let w1 = past (along d at activation_row c.requires.within) (c.in_ok-activation.ensures d) in
-    let e = c.in_err-process.field-0.0 in
     let r = c.from_residual-in_err-process in
-    exit (λ r. GivesAll ws d activation_row at stmt_shown r) r.result e r.ensures.1
-    (along-stops w1 e (once-stops ws d c.in_ok-activation.next g.Expression e c.in_err-process.ensures))
+    out c.args.source.now c.args.depth activation_row c.args.at stmt_shown r.result c.in_err-process.field-0.0 r.ensures.1
+    (past_to (c.in_ok-activation.ensures c.args.depth) (here_part c.in_err-process.ensures))
 
 pub returns-in_err-timing : goal.returns-in_err-timing
 returns-in_err-timing c =
-    let ws = c.args.source.now in
-    let d = c.args.depth in
-    let at = c.args.at in
-    let w2 = past (past (along d at activation_row c.requires.within) (c.in_ok-activation.ensures d)) (once c.in_ok-process.ensures.1) in
-    let e = c.in_err-timing.field-0.0 in
     let r = c.from_residual-in_err-timing in
-    exit (λ r. GivesAll ws d activation_row at stmt_shown r) r.result e r.ensures.1
-    (along-ends w2 e c.in_err-timing.ensures)
+    out c.args.source.now c.args.depth activation_row c.args.at stmt_shown r.result c.in_err-timing.field-0.0 r.ensures.1
+    (past_to (c.in_ok-activation.ensures c.args.depth) (past_part c.in_ok-process.ensures.1 (rest c.in_err-timing.ensures)))
 
 pub returns : goal.returns
 returns c =

@@ -2,11 +2,12 @@ use Rattle.std.proofs.Common.{◌≡◌, length, true, false, [], ◌∷◌, Som
 use Rattle.std.proofs.lemmas.Bool.{false≢true}
 use Rattle.sim_base.specs.declared.token.TokenKind.TheVariants as k
 use Rattle.sim_expr_parser.proofs.Shapes.{some-mapped}
-use Rattle.sim_expr_parser.proofs.Steps.{exit, gone, kept, kept-stops, mark-stops, marked, maybe, once, once-stops, opened, passed, skipped, stops-at, stops-in, to, leads-stops, row-end, row-more, row-start, row-stops, stops}
+use Rattle.sim_expr_parser.proofs.Steps.{exit, gone, kept, marked, maybe, once, once-stops, opened, passed, skipped, stops-at, stops-in, to, leads-stops, row-end, row-more, row-start, row-stops, stops}
 use Rattle.sim_expr_parser.proofs.Tables.{by_test, just_is, under-limit, one_row, only}
 use Rattle.sim_expr_parser.proofs.Terminals.{made_is, took_one}
 use Rattle.sim_expr_parser.specs.Parsing.{ReadsTo, Stops}
 use Rattle.sim_expr_parser.specs.declared.refusal.Stop.TheVariants as stop
+use Rattle.sim_parser.proofs.Exits.{here, here_kept, here_mark, here_part, out, out_part, past_kept, past_mark, past_part, past_to, rest}
 use Rattle.sim_parser.proofs.Along.{all, along, along-ends, along-stops, closed-by, left, past}
 use Rattle.sim_parser.proofs.BlockShapes.{contents_declared, inspect_shown, inspect_when_shown, statements-more}
 use Rattle.sim_parser.proofs.BlockSteps.{at_place, declares_more, declares_none, kept_one, many_of_one, many_reads, many_stops, part_ahead, sequence_reads, sequence_stops, to_closed, type_stops, unexpected}
@@ -21,7 +22,7 @@ use Rattle.sim_tree.proofs.StatementLemmas.{shown-Block, shown-Empty, shown-Pref
 use Rattle.sim_tree.proofs.Steps.{leads-as, past-one, start}
 use Rattle.sim_tree.specs.Claim.{one}
 use Rattle.sim_tree.specs.Grammar as g
-use Rattle.sim_tree.specs.Grammar.{Once, Maybe, Many, Of, Kept, Mark, Symbol, is, just, one_of, right_side, begins_statement}
+use Rattle.sim_tree.specs.Grammar.{Once, Maybe, Many, Of, Kept, Mark, is, just, one_of, right_side, begins_statement}
 use Rattle.sim_tree.specs.Reading.{done, leaf, node, place, terminal_at, Unexpected, reads-done, reads-skip, after-skip, fails-kept, fails-part}
 use Rattle.sim_tree.specs.Shown.{Shown, arguments, identifier, raise, row, selector_shown, shown}
 use Rattle.sim_tree.specs.ShownProgram.{acted, assigned_shown, block_shown, stmt_shown, class_shown, decl_shown, heading_shown, next_statement, procedure_shown, protection_shown, segments_shown, statements as statements_shown, type_shown, variables_shown, virtuals_shown, when_shown}
@@ -50,68 +51,33 @@ block_statement-returns u c =
 
 pub if_statement-returns-in_err-next : goal.if_statement-returns-in_err-next
 if_statement-returns-in_err-next u c =
-    let ws = c.args.source.now in
-    let d = c.args.depth in
-    let i = c.args.at in
-    let w0 = along d i if_row c.requires.within in
-    let e = c.in_err-next.field-0.0 in
     let r = c.from_residual in
-    exit (λ r. GivesAll ws d if_row i stmt_shown r) r.result e r.ensures.1
-    (along-stops w0 e (kept-stops ws d i (just t.If) e (just_is _ _ _ c.in_err-next.ensures.0) c.in_err-next.ensures.1))
+    out c.args.source.now c.args.depth if_row c.args.at stmt_shown r.result c.in_err-next.field-0.0 r.ensures.1
+    (here_kept c.in_err-next.ensures)
 
 pub if_statement-returns-in_err-condition : goal.if_statement-returns-in_err-condition
 if_statement-returns-in_err-condition u c =
-    let ws = c.args.source.now in
-    let d = c.args.depth in
-    let i = c.args.at in
-    let w0 = along d i if_row c.requires.within in
-    let w1 = past w0 (kept i refl (took_one ws i c.in_ok-next.next k.If refl c.in_ok-next.ensures)) in
-    let e = c.in_err-condition.field-0.0 in
     let r = c.from_residual-in_err-condition in
-    exit (λ r. GivesAll ws d if_row i stmt_shown r) r.result e r.ensures.1
-    (along-stops w1 e (once-stops ws d c.in_ok-next.next g.Expression e c.in_err-condition.ensures))
+    out c.args.source.now c.args.depth if_row c.args.at stmt_shown r.result c.in_err-condition.field-0.0 r.ensures.1
+    (past_kept c.in_ok-next.ensures (here_part c.in_err-condition.ensures))
 
 pub if_statement-returns-in_err-next-2 : goal.if_statement-returns-in_err-next-2
 if_statement-returns-in_err-next-2 u c =
-    let ws = c.args.source.now in
-    let d = c.args.depth in
-    let i = c.args.at in
-    let w0 = along d i if_row c.requires.within in
-    let w1 = past w0 (kept i refl (took_one ws i c.in_ok-next.next k.If refl c.in_ok-next.ensures)) in
-    let w2 = past w1 (once c.in_ok-condition.ensures.1) in
-    let e = c.in_err-next-2.field-0.0 in
     let r = c.from_residual-in_err-next-2 in
-    exit (λ r. GivesAll ws d if_row i stmt_shown r) r.result e r.ensures.1
-    (along-stops w2 e (mark-stops ws d c.in_ok-condition.next t.Then e c.in_err-next-2.ensures))
+    out c.args.source.now c.args.depth if_row c.args.at stmt_shown r.result c.in_err-next-2.field-0.0 r.ensures.1
+    (past_kept c.in_ok-next.ensures (past_part c.in_ok-condition.ensures.1 (here_mark c.in_err-next-2.ensures)))
 
 pub if_statement-returns-in_err-first : goal.if_statement-returns-in_err-first
 if_statement-returns-in_err-first u c =
-    let ws = c.args.source.now in
-    let d = c.args.depth in
-    let i = c.args.at in
-    let w0 = along d i if_row c.requires.within in
-    let w1 = past w0 (kept i refl (took_one ws i c.in_ok-next.next k.If refl c.in_ok-next.ensures)) in
-    let w2 = past w1 (once c.in_ok-condition.ensures.1) in
-    let w3 = past w2 (marked c.in_ok-next-2.ensures) in
-    let e = c.in_err-first.field-0.0 in
     let r = c.from_residual-in_err-first in
-    exit (λ r. GivesAll ws d if_row i stmt_shown r) r.result e r.ensures.1
-    (along-stops w3 e (once-stops ws d c.in_ok-next-2.next g.Statement e c.in_err-first.ensures))
+    out c.args.source.now c.args.depth if_row c.args.at stmt_shown r.result c.in_err-first.field-0.0 r.ensures.1
+    (past_kept c.in_ok-next.ensures (past_part c.in_ok-condition.ensures.1 (past_mark c.in_ok-next-2.ensures (here_part c.in_err-first.ensures))))
 
 pub if_statement-returns-in_err-else_branch : goal.if_statement-returns-in_err-else_branch
 if_statement-returns-in_err-else_branch u c =
-    let ws = c.args.source.now in
-    let d = c.args.depth in
-    let i = c.args.at in
-    let w0 = along d i if_row c.requires.within in
-    let w1 = past w0 (kept i refl (took_one ws i c.in_ok-next.next k.If refl c.in_ok-next.ensures)) in
-    let w2 = past w1 (once c.in_ok-condition.ensures.1) in
-    let w3 = past w2 (marked c.in_ok-next-2.ensures) in
-    let w4 = past w3 (once c.in_ok-first.ensures) in
-    let e = c.in_err-else_branch.field-0.0 in
     let r = c.from_residual-in_err-else_branch in
-    exit (λ r. GivesAll ws d if_row i stmt_shown r) r.result e r.ensures.1
-    (along-ends w4 e c.in_err-else_branch.ensures)
+    out c.args.source.now c.args.depth if_row c.args.at stmt_shown r.result c.in_err-else_branch.field-0.0 r.ensures.1
+    (past_kept c.in_ok-next.ensures (past_part c.in_ok-condition.ensures.1 (past_mark c.in_ok-next-2.ensures (past_part c.in_ok-first.ensures (rest c.in_err-else_branch.ensures)))))
 
 pub if_statement-returns : goal.if_statement-returns
 if_statement-returns u c =
@@ -174,39 +140,21 @@ optional_branch-returns u c =
 
 pub while_statement-returns-in_err-next : goal.while_statement-returns-in_err-next
 while_statement-returns-in_err-next u c =
-    let ws = c.args.source.now in
-    let d = c.args.depth in
-    let i = c.args.at in
-    let w0 = along d i while_row c.requires.within in
-    let e = c.in_err-next.field-0.0 in
     let r = c.from_residual in
-    exit (λ r. GivesAll ws d while_row i stmt_shown r) r.result e r.ensures.1
-    (along-stops w0 e (kept-stops ws d i (just t.While) e (just_is _ _ _ c.in_err-next.ensures.0) c.in_err-next.ensures.1))
+    out c.args.source.now c.args.depth while_row c.args.at stmt_shown r.result c.in_err-next.field-0.0 r.ensures.1
+    (here_kept c.in_err-next.ensures)
 
 pub while_statement-returns-in_err-condition : goal.while_statement-returns-in_err-condition
 while_statement-returns-in_err-condition u c =
-    let ws = c.args.source.now in
-    let d = c.args.depth in
-    let i = c.args.at in
-    let w0 = along d i while_row c.requires.within in
-    let w1 = past w0 (kept i refl (took_one ws i c.in_ok-next.next k.While refl c.in_ok-next.ensures)) in
-    let e = c.in_err-condition.field-0.0 in
     let r = c.from_residual-in_err-condition in
-    exit (λ r. GivesAll ws d while_row i stmt_shown r) r.result e r.ensures.1
-    (along-stops w1 e (once-stops ws d c.in_ok-next.next g.Expression e c.in_err-condition.ensures))
+    out c.args.source.now c.args.depth while_row c.args.at stmt_shown r.result c.in_err-condition.field-0.0 r.ensures.1
+    (past_kept c.in_ok-next.ensures (here_part c.in_err-condition.ensures))
 
 pub while_statement-returns-in_err-body : goal.while_statement-returns-in_err-body
 while_statement-returns-in_err-body u c =
-    let ws = c.args.source.now in
-    let d = c.args.depth in
-    let i = c.args.at in
-    let w0 = along d i while_row c.requires.within in
-    let w1 = past w0 (kept i refl (took_one ws i c.in_ok-next.next k.While refl c.in_ok-next.ensures)) in
-    let w2 = past w1 (once c.in_ok-condition.ensures.1) in
-    let e = c.in_err-body.field-0.0 in
     let r = c.from_residual-in_err-body in
-    exit (λ r. GivesAll ws d while_row i stmt_shown r) r.result e r.ensures.1
-    (along-ends w2 e c.in_err-body.ensures)
+    out c.args.source.now c.args.depth while_row c.args.at stmt_shown r.result c.in_err-body.field-0.0 r.ensures.1
+    (past_kept c.in_ok-next.ensures (past_part c.in_ok-condition.ensures.1 (rest c.in_err-body.ensures)))
 
 pub while_statement-returns : goal.while_statement-returns
 while_statement-returns u c =
@@ -223,14 +171,9 @@ while_statement-returns u c =
 
 pub body-returns-in_err-next : goal.body-returns-in_err-next
 body-returns-in_err-next u c =
-    let ws = c.args.source.now in
-    let d = c.args.depth in
-    let i = c.args.at in
-    let w0 = along d i body_row c.requires.within in
-    let e = c.in_err-next.field-0.0 in
     let r = c.from_residual in
-    exit (λ r. GivesAll ws d body_row i (λ x. node g.Statement (stmt_shown x) done) r) r.result e r.ensures.1
-    (along-stops w0 e (mark-stops ws d i t.Do e c.in_err-next.ensures))
+    out c.args.source.now c.args.depth body_row c.args.at (λ x. node g.Statement (stmt_shown x) done) r.result c.in_err-next.field-0.0 r.ensures.1
+    (here_mark c.in_err-next.ensures)
 
 pub body-returns : goal.body-returns
 body-returns u c =
@@ -244,76 +187,39 @@ body-returns u c =
 
 pub for_statement-returns-in_err-next : goal.for_statement-returns-in_err-next
 for_statement-returns-in_err-next u c =
-    let ws = c.args.source.now in
-    let d = c.args.depth in
-    let i = c.args.at in
-    let w0 = along d i for_row c.requires.within in
-    let e = c.in_err-next.field-0.0 in
     let r = c.from_residual in
-    exit (λ r. GivesAll ws d for_row i stmt_shown r) r.result e r.ensures.1
-    (along-stops w0 e (kept-stops ws d i (just t.For) e (just_is _ _ _ c.in_err-next.ensures.0) c.in_err-next.ensures.1))
+    out c.args.source.now c.args.depth for_row c.args.at stmt_shown r.result c.in_err-next.field-0.0 r.ensures.1
+    (here_kept c.in_err-next.ensures)
 
 pub for_statement-returns-in_err-variable : goal.for_statement-returns-in_err-variable
 for_statement-returns-in_err-variable u c =
-    let ws = c.args.source.now in
-    let d = c.args.depth in
-    let i = c.args.at in
-    let w0 = along d i for_row c.requires.within in
-    let w1 = past w0 (kept i refl (took_one ws i c.in_ok-next.next k.For refl c.in_ok-next.ensures)) in
-    let e = c.in_err-variable.field-0.0 in
     let r = c.from_residual-in_err-variable in
-    exit (λ r. GivesAll ws d for_row i stmt_shown r) r.result e r.ensures.1
-    (along-stops w1 e (c.in_err-variable.ensures d))
+    out c.args.source.now c.args.depth for_row c.args.at stmt_shown r.result c.in_err-variable.field-0.0 r.ensures.1
+    (past_kept c.in_ok-next.ensures (here (c.in_err-variable.ensures c.args.depth)))
 
 pub for_statement-returns-in_err-list : goal.for_statement-returns-in_err-list
 for_statement-returns-in_err-list u c =
-    let ws = c.args.source.now in
-    let d = c.args.depth in
-    let i = c.args.at in
-    let w0 = along d i for_row c.requires.within in
-    let w1 = past w0 (kept i refl (took_one ws i c.in_ok-next.next k.For refl c.in_ok-next.ensures)) in
-    let w2 = past w1 (c.in_ok-variable.ensures d) in
-    let e = c.in_err-list.field-0.0 in
     let r = c.from_residual-in_err-list in
-    exit (λ r. GivesAll ws d for_row i stmt_shown r) r.result e r.ensures.1
-    (along-stops w2 e (once-stops ws d c.in_ok-variable.next g.ForList e c.in_err-list.ensures))
+    out c.args.source.now c.args.depth for_row c.args.at stmt_shown r.result c.in_err-list.field-0.0 r.ensures.1
+    (past_kept c.in_ok-next.ensures (past_to (c.in_ok-variable.ensures c.args.depth) (here_part c.in_err-list.ensures)))
 
 pub for_statement-returns-in_err-body : goal.for_statement-returns-in_err-body
 for_statement-returns-in_err-body u c =
-    let ws = c.args.source.now in
-    let d = c.args.depth in
-    let i = c.args.at in
-    let w0 = along d i for_row c.requires.within in
-    let w1 = past w0 (kept i refl (took_one ws i c.in_ok-next.next k.For refl c.in_ok-next.ensures)) in
-    let w2 = past w1 (c.in_ok-variable.ensures d) in
-    let w3 = past w2 (once c.in_ok-list.ensures) in
-    let e = c.in_err-body.field-0.0 in
     let r = c.from_residual-in_err-body in
-    exit (λ r. GivesAll ws d for_row i stmt_shown r) r.result e r.ensures.1
-    (along-ends w3 e c.in_err-body.ensures)
+    out c.args.source.now c.args.depth for_row c.args.at stmt_shown r.result c.in_err-body.field-0.0 r.ensures.1
+    (past_kept c.in_ok-next.ensures (past_to (c.in_ok-variable.ensures c.args.depth) (past_part c.in_ok-list.ensures (rest c.in_err-body.ensures))))
 
 pub identified_statement-returns-in_err-name : goal.identified_statement-returns-in_err-name
 identified_statement-returns-in_err-name u c =
-    let ws = c.args.source.now in
-    let d = c.args.depth in
-    let i = c.args.at in
-    let w0 = along d i identified_row c.requires.within in
-    let e = c.in_err-name.field-0.0 in
     let r = c.from_residual in
-    exit (λ r. GivesAll ws d identified_row i stmt_shown r) r.result e r.ensures.1
-    (along-stops w0 e (c.in_err-name.ensures d))
+    out c.args.source.now c.args.depth identified_row c.args.at stmt_shown r.result c.in_err-name.field-0.0 r.ensures.1
+    (here (c.in_err-name.ensures c.args.depth))
 
 pub identified_statement-returns-in_err-arguments : goal.identified_statement-returns-in_err-arguments
 identified_statement-returns-in_err-arguments u c =
-    let ws = c.args.source.now in
-    let d = c.args.depth in
-    let i = c.args.at in
-    let w0 = along d i identified_row c.requires.within in
-    let w1 = past w0 (c.in_ok-name.ensures d) in
-    let e = c.in_err-arguments.field-0.0 in
     let r = c.from_residual-in_err-arguments in
-    exit (λ r. GivesAll ws d identified_row i stmt_shown r) r.result e r.ensures.1
-    (along-stops w1 e c.in_err-arguments.ensures)
+    out c.args.source.now c.args.depth identified_row c.args.at stmt_shown r.result c.in_err-arguments.field-0.0 r.ensures.1
+    (past_to (c.in_ok-name.ensures c.args.depth) (here c.in_err-arguments.ensures))
 
 pub identified_statement-returns-in_err-block : goal.identified_statement-returns-in_err-block
 identified_statement-returns-in_err-block u c =
@@ -504,26 +410,15 @@ identified_statement-compound-requires u c =
 
 pub inspect_statement-returns-in_err-next : goal.inspect_statement-returns-in_err-next
 inspect_statement-returns-in_err-next u c =
-    let ws = c.args.source.now in
-    let d = c.args.depth in
-    let i = c.args.at in
-    let w0 = along d i inspect_row c.requires.within in
-    let e = c.in_err-next.field-0.0 in
     let r = c.from_residual in
-    exit (λ r. GivesAll ws d inspect_row i stmt_shown r) r.result e r.ensures.1
-    (along-stops w0 e (kept-stops ws d i (just t.Inspect) e (just_is _ _ _ c.in_err-next.ensures.0) c.in_err-next.ensures.1))
+    out c.args.source.now c.args.depth inspect_row c.args.at stmt_shown r.result c.in_err-next.field-0.0 r.ensures.1
+    (here_kept c.in_err-next.ensures)
 
 pub inspect_statement-returns-in_err-object : goal.inspect_statement-returns-in_err-object
 inspect_statement-returns-in_err-object u c =
-    let ws = c.args.source.now in
-    let d = c.args.depth in
-    let i = c.args.at in
-    let w0 = along d i inspect_row c.requires.within in
-    let w1 = past w0 (kept i refl (took_one ws i c.in_ok-next.next k.Inspect refl c.in_ok-next.ensures)) in
-    let e = c.in_err-object.field-0.0 in
     let r = c.from_residual-in_err-object in
-    exit (λ r. GivesAll ws d inspect_row i stmt_shown r) r.result e r.ensures.1
-    (along-stops w1 e (once-stops ws d c.in_ok-next.next g.Expression e c.in_err-object.ensures))
+    out c.args.source.now c.args.depth inspect_row c.args.at stmt_shown r.result c.in_err-object.field-0.0 r.ensures.1
+    (past_kept c.in_ok-next.ensures (here_part c.in_err-object.ensures))
 
 pub inspect_statement-returns-in_err-connection : goal.inspect_statement-returns-in_err-connection
 inspect_statement-returns-in_err-connection u c =
@@ -579,30 +474,15 @@ inspect_statement-returns-then-eq u c =
 
 pub inspect_statement-returns-in_err-arms : goal.inspect_statement-returns-in_err-arms
 inspect_statement-returns-in_err-arms u c =
-    let ws = c.args.source.now in
-    let d = c.args.depth in
-    let i = c.args.at in
-    let w0 = along d i inspect_row c.requires.within in
-    let w1 = past w0 (kept i refl (took_one ws i c.in_ok-next.next k.Inspect refl c.in_ok-next.ensures)) in
-    let w2 = past w1 (once c.in_ok-object.ensures.1) in
-    let e = c.in_err-arms.field-0.0 in
     let r = c.from_residual-in_err-arms in
-    exit (λ r. GivesAll ws d inspect_row i stmt_shown r) r.result e r.ensures.1
-    (along-stops w2 e (once-stops ws d c.in_ok-object.next g.Arms e c.in_err-arms.ensures))
+    out c.args.source.now c.args.depth inspect_row c.args.at stmt_shown r.result c.in_err-arms.field-0.0 r.ensures.1
+    (past_kept c.in_ok-next.ensures (past_part c.in_ok-object.ensures.1 (here_part c.in_err-arms.ensures)))
 
 pub inspect_statement-returns-in_err-otherwise-2 : goal.inspect_statement-returns-in_err-otherwise-2
 inspect_statement-returns-in_err-otherwise-2 u c =
-    let ws = c.args.source.now in
-    let d = c.args.depth in
-    let i = c.args.at in
-    let w0 = along d i inspect_row c.requires.within in
-    let w1 = past w0 (kept i refl (took_one ws i c.in_ok-next.next k.Inspect refl c.in_ok-next.ensures)) in
-    let w2 = past w1 (once c.in_ok-object.ensures.1) in
-    let w3 = past w2 (once c.in_ok-arms.ensures) in
-    let e = c.in_err-otherwise-2.field-0.0 in
     let r = c.from_residual-in_err-otherwise-2 in
-    exit (λ r. GivesAll ws d inspect_row i stmt_shown r) r.result e r.ensures.1
-    (along-ends w3 e c.in_err-otherwise-2.ensures)
+    out c.args.source.now c.args.depth inspect_row c.args.at stmt_shown r.result c.in_err-otherwise-2.field-0.0 r.ensures.1
+    (past_kept c.in_ok-next.ensures (past_part c.in_ok-object.ensures.1 (past_part c.in_ok-arms.ensures (rest c.in_err-otherwise-2.ensures))))
 
 pub inspect_statement-returns : goal.inspect_statement-returns
 inspect_statement-returns u c =
@@ -643,16 +523,12 @@ when_arms-loop-arms-init u c =
 pub when_arms-returns-in_err-arm : goal.when_arms-returns-in_err-arm
 when_arms-returns-in_err-arm u c =
     let ws = c.args.source.now in
-    let d = c.args.depth in
-    let i = c.args.start in
     let l = c.loop-arms in
-    let h = c.in_ok-expect.ensures.0 in
     let at = ap (λ z. is z t.When) (sym c.terminal_at.ensures) ∙ made_is _ _ true c.loop-arms-test.ensures in
-    let w0 = opened ws d i g.Arms arms_row refl (by_test g.Arms (terminal_at ws i) t.When arms_row h arms_when) c.requires.within in
     let e = c.in_err-arm.field-0.0 in
     let r = c.from_residual-in_err-arm in
-    exit (λ r. GivesPart ws d g.Arms i (λ v. row g.WhenArm (map when_shown v.items) done) r) r.result e r.ensures.1
-    (stops-at Once w0 e (many_stops ws d i g.WhenArm arm_row [] (one_row g.WhenArm (just t.When) arm_row (terminal_at ws i) true refl (just_is _ _ _ h)) e (row-stops ws d i l.at g.WhenArm _ l.invariant.goes e (many_of_one ws d l.at g.WhenArm arm_row (one_row g.WhenArm (just t.When) arm_row (terminal_at ws l.at) true refl (just_is _ _ _ at)) e c.in_err-arm.ensures) [])) [])
+    out_part ws c.args.depth c.args.start g.Arms arms_row refl (by_test g.Arms (terminal_at ws c.args.start) t.When arms_row c.in_ok-expect.ensures.0 arms_when) c.requires.within (λ v. row g.WhenArm (map when_shown v.items) done) r.result e r.ensures.1
+    (rest (many_stops ws c.args.depth c.args.start g.WhenArm arm_row [] (one_row g.WhenArm (just t.When) arm_row (terminal_at ws c.args.start) true refl (just_is _ _ _ c.in_ok-expect.ensures.0)) e (row-stops ws c.args.depth c.args.start l.at g.WhenArm _ l.invariant.goes e (many_of_one ws c.args.depth l.at g.WhenArm arm_row (one_row g.WhenArm (just t.When) arm_row (terminal_at ws l.at) true refl (just_is _ _ _ at)) e c.in_err-arm.ensures) [])))
 
 pub when_arms-loop-arms-preserved : goal.when_arms-loop-arms-preserved
 when_arms-loop-arms-preserved u c =
@@ -693,28 +569,15 @@ when_arm-returns-in_err-next u c =
 
 pub when_arm-returns-in_err-class : goal.when_arm-returns-in_err-class
 when_arm-returns-in_err-class u c =
-    let ws = c.args.source.now in
-    let d = c.args.depth in
-    let i = c.args.at in
-    let m0 = opened ws d i g.WhenArm arm_row refl (one_row g.WhenArm (just t.When) arm_row (terminal_at ws i) true refl (just_is _ _ _ c.in_ok-next.ensures.0)) c.requires.within in
-    let m1 = to m0 (kept i refl (took_one ws i c.in_ok-next.next k.When refl c.in_ok-next.ensures)) in
-    let e = c.in_err-class.field-0.0 in
     let r = c.from_residual-in_err-class in
-    exit (λ r. GivesPart ws d g.WhenArm i when_shown r) r.result e r.ensures.1
-    (stops m1 e (c.in_err-class.ensures d))
+    out_part c.args.source.now c.args.depth c.args.at g.WhenArm arm_row refl (one_row g.WhenArm (just t.When) arm_row (terminal_at c.args.source.now c.args.at) true refl (just_is _ _ _ c.in_ok-next.ensures.0)) c.requires.within when_shown r.result c.in_err-class.field-0.0 r.ensures.1
+    (past_kept c.in_ok-next.ensures (here (c.in_err-class.ensures c.args.depth)))
 
 pub when_arm-returns-in_err-connection : goal.when_arm-returns-in_err-connection
 when_arm-returns-in_err-connection u c =
-    let ws = c.args.source.now in
-    let d = c.args.depth in
-    let i = c.args.at in
-    let m0 = opened ws d i g.WhenArm arm_row refl (one_row g.WhenArm (just t.When) arm_row (terminal_at ws i) true refl (just_is _ _ _ c.in_ok-next.ensures.0)) c.requires.within in
-    let m1 = to m0 (kept i refl (took_one ws i c.in_ok-next.next k.When refl c.in_ok-next.ensures)) in
-    let m2 = to m1 (c.in_ok-class.ensures d) in
-    let e = c.in_err-connection.field-0.0 in
     let r = c.from_residual-in_err-connection in
-    exit (λ r. GivesPart ws d g.WhenArm i when_shown r) r.result e r.ensures.1
-    (stops-at Once m2 e c.in_err-connection.ensures [])
+    out_part c.args.source.now c.args.depth c.args.at g.WhenArm arm_row refl (one_row g.WhenArm (just t.When) arm_row (terminal_at c.args.source.now c.args.at) true refl (just_is _ _ _ c.in_ok-next.ensures.0)) c.requires.within when_shown r.result c.in_err-connection.field-0.0 r.ensures.1
+    (past_kept c.in_ok-next.ensures (past_to (c.in_ok-class.ensures c.args.depth) (rest c.in_err-connection.ensures)))
 
 pub when_arm-returns : goal.when_arm-returns
 when_arm-returns u c =
@@ -730,26 +593,15 @@ when_arm-returns u c =
 
 pub connected_at-returns-in_err-next : goal.connected_at-returns-in_err-next
 connected_at-returns-in_err-next u c =
-    let ws = c.args.source.now in
-    let d = c.args.depth in
-    let i = c.args.at in
-    let w0 = along d i connection_row c.requires.within in
-    let e = c.in_err-next.field-0.0 in
     let r = c.from_residual in
-    exit (λ r. GivesAll ws d connection_row i connection_shown r) r.result e r.ensures.1
-    (along-stops w0 e (kept-stops ws d i (just t.Do) e (just_is _ _ _ c.in_err-next.ensures.0) c.in_err-next.ensures.1))
+    out c.args.source.now c.args.depth connection_row c.args.at connection_shown r.result c.in_err-next.field-0.0 r.ensures.1
+    (here_kept c.in_err-next.ensures)
 
 pub connected_at-returns-in_err-body : goal.connected_at-returns-in_err-body
 connected_at-returns-in_err-body u c =
-    let ws = c.args.source.now in
-    let d = c.args.depth in
-    let i = c.args.at in
-    let w0 = along d i connection_row c.requires.within in
-    let w1 = past w0 (kept i refl (took_one ws i c.in_ok-next.next k.Do refl c.in_ok-next.ensures)) in
-    let e = c.in_err-body.field-0.0 in
     let r = c.from_residual-in_err-body in
-    exit (λ r. GivesAll ws d connection_row i connection_shown r) r.result e r.ensures.1
-    (along-stops w1 e (once-stops ws d c.in_ok-next.next g.Statement e c.in_err-body.ensures))
+    out c.args.source.now c.args.depth connection_row c.args.at connection_shown r.result c.in_err-body.field-0.0 r.ensures.1
+    (past_kept c.in_ok-next.ensures (here_part c.in_err-body.ensures))
 
 pub connected_at-returns : goal.connected_at-returns
 connected_at-returns u c =
@@ -775,29 +627,15 @@ compound-returns-in_err-next u c =
 
 pub compound-returns-in_err-declarations : goal.compound-returns-in_err-declarations
 compound-returns-in_err-declarations u c =
-    let ws = c.args.source.now in
-    let d = c.args.depth in
-    let i = c.args.at in
-    let w0 = opened ws d i g.Compound compound_row refl (one_row g.Compound (just t.Begin) compound_row (terminal_at ws i) true refl (just_is _ _ _ c.in_ok-next.ensures.0)) c.requires.within in
-    let w1 = to w0 (kept i refl (took_one ws i c.in_ok-next.next k.Begin refl c.in_ok-next.ensures)) in
-    let w2 = to w1 (c.past_semicolons-next.ensures d) in
-    let e = c.in_err-declarations.field-0.0 in
     let r = c.from_residual-in_err-declarations in
-    exit (λ r. GivesPart ws d g.Compound i block_shown r) r.result e r.ensures.1
-    (stops w2 e (once-stops ws d c.past_semicolons-next.result g.Block e c.in_err-declarations.ensures))
+    out_part c.args.source.now c.args.depth c.args.at g.Compound compound_row refl (one_row g.Compound (just t.Begin) compound_row (terminal_at c.args.source.now c.args.at) true refl (just_is _ _ _ c.in_ok-next.ensures.0)) c.requires.within block_shown r.result c.in_err-declarations.field-0.0 r.ensures.1
+    (past_kept c.in_ok-next.ensures (past_to (c.past_semicolons-next.ensures c.args.depth) (here_part c.in_err-declarations.ensures)))
 
 pub compound-returns-in_err-sequence : goal.compound-returns-in_err-sequence
 compound-returns-in_err-sequence u c =
-    let ws = c.args.source.now in
-    let d = c.args.depth in
-    let i = c.args.at in
-    let w0 = opened ws d i g.Compound compound_row refl (one_row g.Compound (just t.Begin) compound_row (terminal_at ws i) true refl (just_is _ _ _ c.in_ok-next.ensures.0)) c.requires.within in
-    let w1 = to w0 (kept i refl (took_one ws i c.in_ok-next.next k.Begin refl c.in_ok-next.ensures)) in
-    let w2 = to w1 (c.past_semicolons-next.ensures d) in
-    let e = c.in_err-sequence.field-0.0 in
     let r = c.from_residual-in_err-sequence in
-    exit (λ r. GivesPart ws d g.Compound i block_shown r) r.result e r.ensures.1
-    (stops w2 e (once-stops ws d c.past_semicolons-next.result g.Block e (c.in_ok-declarations.ensures.0.fails e c.in_err-sequence.ensures)))
+    out_part c.args.source.now c.args.depth c.args.at g.Compound compound_row refl (one_row g.Compound (just t.Begin) compound_row (terminal_at c.args.source.now c.args.at) true refl (just_is _ _ _ c.in_ok-next.ensures.0)) c.requires.within block_shown r.result c.in_err-sequence.field-0.0 r.ensures.1
+    (past_kept c.in_ok-next.ensures (past_to (c.past_semicolons-next.ensures c.args.depth) (here_part (c.in_ok-declarations.ensures.0.fails c.in_err-sequence.field-0.0 c.in_err-sequence.ensures))))
 
 pub compound-returns : goal.compound-returns
 compound-returns u c =
@@ -1144,39 +982,21 @@ typed_declaration-returns u c =
 
 pub procedure-returns-in_err-name : goal.procedure-returns-in_err-name
 procedure-returns-in_err-name u c =
-    let ws = c.args.source.now in
-    let d = c.args.depth in
-    let i = c.args.at in
-    let w0 = opened ws d i g.Procedure proc_row refl (only g.Procedure proc_row (terminal_at ws i) refl) c.requires.within in
-    let e = c.in_err-name.field-0.0 in
     let r = c.from_residual in
-    exit (λ r. GivesPart ws d g.Procedure i procedure_shown r) r.result e r.ensures.1
-    (stops w0 e (c.in_err-name.ensures d))
+    out_part c.args.source.now c.args.depth c.args.at g.Procedure proc_row refl (only g.Procedure proc_row (terminal_at c.args.source.now c.args.at) refl) c.requires.within procedure_shown r.result c.in_err-name.field-0.0 r.ensures.1
+    (here (c.in_err-name.ensures c.args.depth))
 
 pub procedure-returns-in_err-heading : goal.procedure-returns-in_err-heading
 procedure-returns-in_err-heading u c =
-    let ws = c.args.source.now in
-    let d = c.args.depth in
-    let i = c.args.at in
-    let w0 = opened ws d i g.Procedure proc_row refl (only g.Procedure proc_row (terminal_at ws i) refl) c.requires.within in
-    let w1 = to w0 (c.in_ok-name.ensures d) in
-    let e = c.in_err-heading.field-0.0 in
     let r = c.from_residual-in_err-heading in
-    exit (λ r. GivesPart ws d g.Procedure i procedure_shown r) r.result e r.ensures.1
-    (stops w1 e (once-stops ws d c.in_ok-name.next g.Heading e (c.in_err-heading.ensures d)))
+    out_part c.args.source.now c.args.depth c.args.at g.Procedure proc_row refl (only g.Procedure proc_row (terminal_at c.args.source.now c.args.at) refl) c.requires.within procedure_shown r.result c.in_err-heading.field-0.0 r.ensures.1
+    (past_to (c.in_ok-name.ensures c.args.depth) (here_part (c.in_err-heading.ensures c.args.depth)))
 
 pub procedure-returns-in_err-body : goal.procedure-returns-in_err-body
 procedure-returns-in_err-body u c =
-    let ws = c.args.source.now in
-    let d = c.args.depth in
-    let i = c.args.at in
-    let w0 = opened ws d i g.Procedure proc_row refl (only g.Procedure proc_row (terminal_at ws i) refl) c.requires.within in
-    let w1 = to w0 (c.in_ok-name.ensures d) in
-    let w2 = to w1 (once (c.in_ok-heading.ensures d)) in
-    let e = c.in_err-body.field-0.0 in
     let r = c.from_residual-in_err-body in
-    exit (λ r. GivesPart ws d g.Procedure i procedure_shown r) r.result e r.ensures.1
-    (stops w2 e (once-stops ws d c.in_ok-heading.next g.Statement e c.in_err-body.ensures))
+    out_part c.args.source.now c.args.depth c.args.at g.Procedure proc_row refl (only g.Procedure proc_row (terminal_at c.args.source.now c.args.at) refl) c.requires.within procedure_shown r.result c.in_err-body.field-0.0 r.ensures.1
+    (past_to (c.in_ok-name.ensures c.args.depth) (past_part (c.in_ok-heading.ensures c.args.depth) (here_part c.in_err-body.ensures)))
 
 pub procedure-returns : goal.procedure-returns
 procedure-returns u c =
@@ -1197,68 +1017,33 @@ procedure-returns u c =
 
 pub class-returns-in_err-name : goal.class-returns-in_err-name
 class-returns-in_err-name u c =
-    let ws = c.args.source.now in
-    let d = c.args.depth in
-    let i = c.args.at in
-    let w0 = opened ws d i g.Class cls_row refl (only g.Class cls_row (terminal_at ws i) refl) c.requires.within in
-    let e = c.in_err-name.field-0.0 in
     let r = c.from_residual in
-    exit (λ r. GivesPart ws d g.Class i class_shown r) r.result e r.ensures.1
-    (stops w0 e (c.in_err-name.ensures d))
+    out_part c.args.source.now c.args.depth c.args.at g.Class cls_row refl (only g.Class cls_row (terminal_at c.args.source.now c.args.at) refl) c.requires.within class_shown r.result c.in_err-name.field-0.0 r.ensures.1
+    (here (c.in_err-name.ensures c.args.depth))
 
 pub class-returns-in_err-heading : goal.class-returns-in_err-heading
 class-returns-in_err-heading u c =
-    let ws = c.args.source.now in
-    let d = c.args.depth in
-    let i = c.args.at in
-    let w0 = opened ws d i g.Class cls_row refl (only g.Class cls_row (terminal_at ws i) refl) c.requires.within in
-    let w1 = to w0 (c.in_ok-name.ensures d) in
-    let e = c.in_err-heading.field-0.0 in
     let r = c.from_residual-in_err-heading in
-    exit (λ r. GivesPart ws d g.Class i class_shown r) r.result e r.ensures.1
-    (stops w1 e (once-stops ws d c.in_ok-name.next g.Heading e (c.in_err-heading.ensures d)))
+    out_part c.args.source.now c.args.depth c.args.at g.Class cls_row refl (only g.Class cls_row (terminal_at c.args.source.now c.args.at) refl) c.requires.within class_shown r.result c.in_err-heading.field-0.0 r.ensures.1
+    (past_to (c.in_ok-name.ensures c.args.depth) (here_part (c.in_err-heading.ensures c.args.depth)))
 
 pub class-returns-in_err-protections : goal.class-returns-in_err-protections
 class-returns-in_err-protections u c =
-    let ws = c.args.source.now in
-    let d = c.args.depth in
-    let i = c.args.at in
-    let w0 = opened ws d i g.Class cls_row refl (only g.Class cls_row (terminal_at ws i) refl) c.requires.within in
-    let w1 = to w0 (c.in_ok-name.ensures d) in
-    let w2 = to w1 (once (c.in_ok-heading.ensures d)) in
-    let e = c.in_err-protections.field-0.0 in
     let r = c.from_residual-in_err-protections in
-    exit (λ r. GivesPart ws d g.Class i class_shown r) r.result e r.ensures.1
-    (stops w2 e (c.in_err-protections.ensures d))
+    out_part c.args.source.now c.args.depth c.args.at g.Class cls_row refl (only g.Class cls_row (terminal_at c.args.source.now c.args.at) refl) c.requires.within class_shown r.result c.in_err-protections.field-0.0 r.ensures.1
+    (past_to (c.in_ok-name.ensures c.args.depth) (past_part (c.in_ok-heading.ensures c.args.depth) (here (c.in_err-protections.ensures c.args.depth))))
 
 pub class-returns-in_err-virtuals : goal.class-returns-in_err-virtuals
 class-returns-in_err-virtuals u c =
-    let ws = c.args.source.now in
-    let d = c.args.depth in
-    let i = c.args.at in
-    let w0 = opened ws d i g.Class cls_row refl (only g.Class cls_row (terminal_at ws i) refl) c.requires.within in
-    let w1 = to w0 (c.in_ok-name.ensures d) in
-    let w2 = to w1 (once (c.in_ok-heading.ensures d)) in
-    let w3 = to w2 (c.in_ok-protections.ensures d) in
-    let e = c.in_err-virtuals.field-0.0 in
     let r = c.from_residual-in_err-virtuals in
-    exit (λ r. GivesPart ws d g.Class i class_shown r) r.result e r.ensures.1
-    (stops w3 e (c.in_err-virtuals.ensures d))
+    out_part c.args.source.now c.args.depth c.args.at g.Class cls_row refl (only g.Class cls_row (terminal_at c.args.source.now c.args.at) refl) c.requires.within class_shown r.result c.in_err-virtuals.field-0.0 r.ensures.1
+    (past_to (c.in_ok-name.ensures c.args.depth) (past_part (c.in_ok-heading.ensures c.args.depth) (past_to (c.in_ok-protections.ensures c.args.depth) (here (c.in_err-virtuals.ensures c.args.depth)))))
 
 pub class-returns-in_err-body : goal.class-returns-in_err-body
 class-returns-in_err-body u c =
-    let ws = c.args.source.now in
-    let d = c.args.depth in
-    let i = c.args.at in
-    let w0 = opened ws d i g.Class cls_row refl (only g.Class cls_row (terminal_at ws i) refl) c.requires.within in
-    let w1 = to w0 (c.in_ok-name.ensures d) in
-    let w2 = to w1 (once (c.in_ok-heading.ensures d)) in
-    let w3 = to w2 (c.in_ok-protections.ensures d) in
-    let w4 = to w3 (c.in_ok-virtuals.ensures d) in
-    let e = c.in_err-body.field-0.0 in
     let r = c.from_residual-in_err-body in
-    exit (λ r. GivesPart ws d g.Class i class_shown r) r.result e r.ensures.1
-    (stops w4 e (once-stops ws d c.in_ok-virtuals.next g.Statement e c.in_err-body.ensures))
+    out_part c.args.source.now c.args.depth c.args.at g.Class cls_row refl (only g.Class cls_row (terminal_at c.args.source.now c.args.at) refl) c.requires.within class_shown r.result c.in_err-body.field-0.0 r.ensures.1
+    (past_to (c.in_ok-name.ensures c.args.depth) (past_part (c.in_ok-heading.ensures c.args.depth) (past_to (c.in_ok-protections.ensures c.args.depth) (past_to (c.in_ok-virtuals.ensures c.args.depth) (here_part c.in_err-body.ensures)))))
 
 pub class-returns : goal.class-returns
 class-returns u c =

@@ -1,7 +1,7 @@
 use Rattle.sim_scope.specs.Source.{source_of}
 use Rattle.sim_run.proofs.OneEnd.{has_end}
 use Rattle.sim_run.proofs.Ran.{broken_of, ran_of}
-use Rattle.sim_run.proofs.Showing.{is_ruled}
+use Rattle.sim_run.proofs.Showing.{code_takes, is_ruled}
 use Rattle.sim_run.proofs.running.compile_and_run.Goals as goal
 
 pub run_code-requires-clause-ruled : goal.run_code-requires-clause-ruled
@@ -21,3 +21,7 @@ returns-in-Ok-clause-ends g c bytes = has_end (source_of c.args.bound.now) c.arg
 
 pub returns-in-Err-Memory-clause-ends : goal.returns-in-Err-Memory-clause-ends
 returns-in-Err-Memory-clause-ends g c bytes = has_end (source_of c.args.bound.now) c.args.limits.now bytes c.requires (c.every_run_ends.ensures (source_of c.args.bound.now) c.args.limits.now bytes)
+
+pub returns-in-Ok-clause-takes : goal.returns-in-Ok-clause-takes
+returns-in-Ok-clause-takes g c bytes told never =
+    c.run_code.ensures.takes bytes told (code_takes (source_of c.args.bound.now) c.in-Ok.code (c.compiled_code_runs_as_meant.ensures (source_of c.args.bound.now) c.in-Ok.code c.in-Ok.ensures.0) c.args.limits.now bytes never)

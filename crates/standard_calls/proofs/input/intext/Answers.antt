@@ -9,6 +9,8 @@ use Rattle.standard_calls.specs.Calls.{CameAs}
 use Rattle.standard_calls.specs.Performed.{parts}
 use Rattle.standard_calls.proofs.Images.{images_kept_both}
 use Rattle.standard_calls.proofs.InputSteps.{intext_done, intext_negative, intext_refused}
+use Rattle.standard_calls.proofs.Taking.{text_done, text_refused}
+use Rattle.standard_calls.specs.Taking.{CallTakes}
 use Rattle.standard_calls.proofs.input.intext.Goals as goal
 
 pub returns-then-n-lt0-clause-came : goal.returns-then-n-lt0-clause-came
@@ -42,3 +44,22 @@ returns-in-Ok-clause-images g c = images_kept_both c.args.texts.now c.intext.new
 
 pub returns-in-Err-clause-images : goal.returns-in-Err-clause-images
 returns-in-Err-clause-images g c = images_kept_both c.args.texts.now c.intext.new.texts c.args.sysin.now.image c.intext.new.self.image c.requires.image c.intext.ensures.valid c.intext.ensures.same c.intext.ensures.others
+
+pub returns-in-Ok-clause-takes : goal.returns-in-Ok-clause-takes
+returns-in-Ok-clause-takes g c =
+    let e : to_z w64 (of_z w64 c.args.n) ≡ c.args.n = search rules in
+    let n2 = to_z w64 (of_z w64 c.args.n) in
+    let r = c.in-Some.ensures.room in
+    λ image sink s told.
+    subst (λ n. CallTakes c.args.budget name.Intext (Integer n ∷ []) (parts c.args.texts.now c.args.sysin.now s image sink c.args.words.now) c.args.input.now c.intext.new.input) e
+    (text_done c.args.budget c.args.words.now c.in-Some.room n2 c.args.texts.now c.intext.new.texts c.args.sysin.now c.intext.new.self image sink (g.I.Source.left c.args.input.now) (g.I.Source.left c.intext.new.input) r.0 r.1 c.args.input.now c.intext.new.input c.intext.ensures.unread c.in-Ok.text c.in-Ok.ensures.outcome s told)
+
+pub returns-in-Err-clause-takes : goal.returns-in-Err-clause-takes
+returns-in-Err-clause-takes g c =
+    let e : to_z w64 (of_z w64 c.args.n) ≡ c.args.n = search rules in
+    let n2 = to_z w64 (of_z w64 c.args.n) in
+    let r = c.in-Some.ensures.room in
+    λ image sink s told.
+    subst (λ n. CallTakes c.args.budget name.Intext (Integer n ∷ []) (parts c.args.texts.now c.args.sysin.now s image sink c.args.words.now) c.args.input.now c.intext.new.input) e
+    (text_refused c.args.budget c.args.words.now c.in-Some.room n2 c.args.texts.now c.intext.new.texts c.args.sysin.now c.intext.new.self image sink (g.I.Source.left c.args.input.now) (g.I.Source.left c.intext.new.input) r.0 r.1 c.args.input.now c.intext.new.input c.intext.ensures.unread c.in-Err.fault c.in-Err.ensures.outcome
+    (λ y is. (c.in-Err.ensures.untouched y is).2) s told)
