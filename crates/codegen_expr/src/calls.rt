@@ -38,8 +38,7 @@ pub fn emit_element(
     let inside = deeper(depth)?;
     emit_cell(bound, cells, spot, draft, depth, declaration)?;
     emit_list(bound, cells, spot, draft, inside, subscripts)?;
-    draft.put(element_instr(subscripts.len())?, line_at(bound, token))?;
-    Ok(())
+    draft.put(element_instr(subscripts.len())?, line_at(bound, token))
 }
 
 /// An actual parameter. The token is that of the procedure's identifier.
@@ -61,14 +60,8 @@ fn emit_actual(
     emit_expr(bound, cells, spot, draft, depth, expr)?;
     match passed_of(formal) {
         Passed::Plain => Ok(()),
-        Passed::Copied => {
-            draft.put(Instr::CopyArr, line_at(bound, token))?;
-            Ok(())
-        }
-        Passed::CopiedText => {
-            draft.push(depth, standard_instr(15), line_at(bound, token))?;
-            Ok(())
-        }
+        Passed::Copied => draft.put(Instr::CopyArr, line_at(bound, token)),
+        Passed::CopiedText => draft.push(depth, standard_instr(15), line_at(bound, token)),
         Passed::Other => {
             draft.give_up();
             Ok(())
@@ -135,8 +128,7 @@ fn emit_call(
     let formals = formals_of_block(bound, cells, block);
     emit_actuals(bound, cells, spot, draft, inside, token, list, formals)?;
     let number = block_number(bound, cells, block);
-    draft.put(call_instr(number, list.len())?, line_at(bound, token))?;
-    Ok(())
+    draft.put(call_instr(number, list.len())?, line_at(bound, token))
 }
 
 /// A declared identifier with its operands, as it is seen. The token is that of the identifier.
@@ -159,28 +151,24 @@ fn emit_seen(
     match seen {
         Seen::Variable => {
             if list.len() == 0 {
-                emit_cell(bound, cells, spot, draft, depth, declaration)?;
-                return Ok(());
+                return emit_cell(bound, cells, spot, draft, depth, declaration);
             }
             draft.give_up();
             Ok(())
         }
         Seen::Constant => {
             if list.len() == 0 {
-                emit_constant(bound, cells, spot, draft, depth, declaration)?;
-                return Ok(());
+                return emit_constant(bound, cells, spot, draft, depth, declaration);
             }
             draft.give_up();
             Ok(())
         }
         Seen::Array => {
             if list.len() == 0 {
-                emit_cell(bound, cells, spot, draft, depth, declaration)?;
-                return Ok(());
+                return emit_cell(bound, cells, spot, draft, depth, declaration);
             }
             emit_element(bound, cells, spot, draft, depth, token, declaration, list)?;
-            draft.put(Instr::Fetch, Line(0))?;
-            Ok(())
+            draft.put(Instr::Fetch, Line(0))
         }
         Seen::Call(block) => {
             emit_call(
@@ -193,8 +181,7 @@ fn emit_seen(
                 declaration,
                 block,
                 list,
-            )?;
-            Ok(())
+            )
         }
         Seen::Nothing => {
             draft.give_up();
@@ -233,12 +220,10 @@ pub fn emit_named(
                 declaration,
                 seen,
                 list,
-            )?;
-            Ok(())
+            )
         }
         Some(Denotation::Standard(standard)) => {
-            emit_standard(bound, cells, spot, draft, depth, 1, token, standard, list)?;
-            Ok(())
+            emit_standard(bound, cells, spot, draft, depth, 1, token, standard, list)
         }
         None => {
             draft.give_up();
@@ -264,8 +249,7 @@ pub(crate) fn emit_operand_named(
 {
     let denoted = denoted(bound, name.token);
     if gives(bound, denoted) {
-        emit_named(bound, cells, spot, draft, depth, name.token, denoted, list)?;
-        return Ok(());
+        return emit_named(bound, cells, spot, draft, depth, name.token, denoted, list);
     }
     draft.give_up();
     Ok(())

@@ -56,37 +56,30 @@ pub fn emit_expr(
         }
         Expr::OrElse { first, rest } => {
             emit_expr(bound, cells, spot, draft, depth, first)?;
-            emit_operands(bound, cells, spot, draft, depth, Operator::OrElse, rest)?;
-            Ok(())
+            emit_operands(bound, cells, spot, draft, depth, Operator::OrElse, rest)
         }
         Expr::AndThen { first, rest } => {
             emit_expr(bound, cells, spot, draft, depth, first)?;
-            emit_operands(bound, cells, spot, draft, depth, Operator::AndThen, rest)?;
-            Ok(())
+            emit_operands(bound, cells, spot, draft, depth, Operator::AndThen, rest)
         }
         Expr::Eqv { first, rest } => {
             emit_expr(bound, cells, spot, draft, depth, first)?;
-            emit_operands(bound, cells, spot, draft, depth, Operator::Equivalent, rest)?;
-            Ok(())
+            emit_operands(bound, cells, spot, draft, depth, Operator::Equivalent, rest)
         }
         Expr::Imp { first, rest } => {
             emit_expr(bound, cells, spot, draft, depth, first)?;
-            emit_operands(bound, cells, spot, draft, depth, Operator::Implies, rest)?;
-            Ok(())
+            emit_operands(bound, cells, spot, draft, depth, Operator::Implies, rest)
         }
         Expr::Or { first, rest } => {
             emit_expr(bound, cells, spot, draft, depth, first)?;
-            emit_operands(bound, cells, spot, draft, depth, Operator::Or, rest)?;
-            Ok(())
+            emit_operands(bound, cells, spot, draft, depth, Operator::Or, rest)
         }
         Expr::And { first, rest } => {
             emit_expr(bound, cells, spot, draft, depth, first)?;
-            emit_operands(bound, cells, spot, draft, depth, Operator::And, rest)?;
-            Ok(())
+            emit_operands(bound, cells, spot, draft, depth, Operator::And, rest)
         }
         Expr::Not { tokens, operand } => {
-            emit_not(bound, cells, spot, draft, depth, tokens, operand)?;
-            Ok(())
+            emit_not(bound, cells, spot, draft, depth, tokens, operand)
         }
         Expr::Related {
             left,
@@ -106,8 +99,7 @@ pub fn emit_expr(
                 Operator::Relate(*relation),
                 *token,
                 right,
-            )?;
-            Ok(())
+            )
         }
         Expr::Concatenation { first, rest } => {
             emit_expr(bound, cells, spot, draft, depth, first)?;
@@ -119,83 +111,54 @@ pub fn emit_expr(
                 depth,
                 Operator::Concatenate,
                 rest,
-            )?;
-            Ok(())
+            )
         }
         Expr::Sum { sign, first, rest } => match sign {
             Some(sign) => {
                 emit_expr(bound, cells, spot, draft, depth, first)?;
                 emit_sign(bound, cells, spot, draft, depth, sign.sign, sign.token)?;
-                emit_terms(bound, cells, spot, draft, depth, rest)?;
-                Ok(())
+                emit_terms(bound, cells, spot, draft, depth, rest)
             }
             None => {
                 emit_expr(bound, cells, spot, draft, depth, first)?;
-                emit_terms(bound, cells, spot, draft, depth, rest)?;
-                Ok(())
+                emit_terms(bound, cells, spot, draft, depth, rest)
             }
         },
         Expr::Product { first, rest } => {
             emit_expr(bound, cells, spot, draft, depth, first)?;
-            emit_factors(bound, cells, spot, draft, depth, rest)?;
-            Ok(())
+            emit_factors(bound, cells, spot, draft, depth, rest)
         }
         Expr::Power { first, rest } => {
             emit_expr(bound, cells, spot, draft, depth, first)?;
-            emit_operands(bound, cells, spot, draft, depth, Operator::Power, rest)?;
-            Ok(())
+            emit_operands(bound, cells, spot, draft, depth, Operator::Power, rest)
         }
         Expr::Postfix { primary, rest } => {
             if rest.len() == 0 {
-                emit_expr(bound, cells, spot, draft, depth, primary)?;
-                return Ok(());
+                return emit_expr(bound, cells, spot, draft, depth, primary);
             }
             let moves = moves_at(bound, rest, 0);
             let object = emit_start(bound, cells, spot, draft, depth, moves, primary)?;
             let taken = emit_steps(bound, cells, spot, draft, depth, object, rest)?;
-            emit_end(bound, cells, spot, draft, depth, taken, rest)?;
-            Ok(())
+            emit_end(bound, cells, spot, draft, depth, taken, rest)
         }
-        Expr::Integer { value, .. } => {
-            draft.push(depth, Instr::Int(*value), Line(0))?;
-            Ok(())
-        }
-        Expr::Character { value, .. } => {
-            draft.push(depth, character_instr(*value), Line(0))?;
-            Ok(())
-        }
-        Expr::True { .. } => {
-            draft.push(depth, Instr::Bool(1), Line(0))?;
-            Ok(())
-        }
-        Expr::False { .. } => {
-            draft.push(depth, Instr::Bool(0), Line(0))?;
-            Ok(())
-        }
+        Expr::Integer { value, .. } => draft.push(depth, Instr::Int(*value), Line(0)),
+        Expr::Character { value, .. } => draft.push(depth, character_instr(*value), Line(0)),
+        Expr::True { .. } => draft.push(depth, Instr::Bool(1), Line(0)),
+        Expr::False { .. } => draft.push(depth, Instr::Bool(0), Line(0)),
         Expr::Named { name, arguments } => {
-            emit_operand_named(bound, cells, spot, draft, depth, name, arguments)?;
-            Ok(())
+            emit_operand_named(bound, cells, spot, draft, depth, name, arguments)
         }
-        Expr::Parentheses { inner, .. } => {
-            emit_expr(bound, cells, spot, draft, depth, inner)?;
-            Ok(())
-        }
+        Expr::Parentheses { inner, .. } => emit_expr(bound, cells, spot, draft, depth, inner),
         Expr::Member { .. } => {
             draft.give_up();
             Ok(())
         }
-        Expr::Text { token, .. } => {
-            emit_text(bound, cells, spot, draft, depth, *token)?;
-            Ok(())
-        }
+        Expr::Text { token, .. } => emit_text(bound, cells, spot, draft, depth, *token),
         Expr::NoObject { .. } => {
             draft.give_up();
             Ok(())
         }
-        Expr::Notext { .. } => {
-            draft.push(depth, Instr::NoText, Line(0))?;
-            Ok(())
-        }
+        Expr::Notext { .. } => draft.push(depth, Instr::NoText, Line(0)),
         Expr::This { .. } => {
             draft.give_up();
             Ok(())

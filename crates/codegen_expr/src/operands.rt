@@ -38,15 +38,13 @@ pub(crate) fn emit_operand(
         Sorted::Plain(instr) => {
             let inside = deeper(depth)?;
             emit_expr(bound, cells, spot, draft, inside, operand)?;
-            draft.put(instr, line_at(bound, token))?;
-            Ok(())
+            draft.put(instr, line_at(bound, token))
         }
         Sorted::Negated(instr) => {
             let inside = deeper(depth)?;
             emit_expr(bound, cells, spot, draft, inside, operand)?;
             draft.put(instr, line_at(bound, token))?;
-            draft.put(Instr::Not, line_at(bound, token))?;
-            Ok(())
+            draft.put(Instr::Not, line_at(bound, token))
         }
         Sorted::OrElse => {
             let jump = draft.here();
@@ -77,8 +75,7 @@ pub(crate) fn emit_operand(
         Sorted::Joined => {
             let inside = deeper(depth)?;
             emit_expr(bound, cells, spot, draft, inside, operand)?;
-            emit_join(bound, spot, draft, depth, token)?;
-            Ok(())
+            emit_join(bound, spot, draft, depth, token)
         }
     }
 }

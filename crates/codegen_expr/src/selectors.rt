@@ -64,20 +64,17 @@ pub fn emit_dot(
             Object::Stream(image) => {
                 emit_standard(
                     bound, cells, spot, draft, depth, image, name.token, standard, operands,
-                )?;
-                Ok(())
+                )
             }
             Object::Place => {
                 emit_behind(
                     bound, cells, spot, draft, depth, name.token, standard, operands,
-                )?;
-                Ok(())
+                )
             }
             Object::Value => {
                 emit_behind(
                     bound, cells, spot, draft, depth, name.token, standard, operands,
-                )?;
-                Ok(())
+                )
             }
         },
         Some(Denotation::Declared(_)) => {
@@ -113,8 +110,7 @@ fn emit_last(
             ..
         } => {
             if gives(bound, denoted(bound, name.token)) {
-                emit_dot(bound, cells, spot, draft, depth, object, name, arguments)?;
-                return Ok(());
+                return emit_dot(bound, cells, spot, draft, depth, object, name, arguments);
             }
             draft.give_up();
             Ok(())
@@ -191,8 +187,7 @@ pub(crate) fn emit_end(
     ensures { OnOk result (WritesEnd bound.now spot depth draft.old draft.new object rest.now) }
 {
     let last = &rest[rest.len() - 1];
-    emit_last(bound, cells, spot, draft, depth, object, last)?;
-    Ok(())
+    emit_last(bound, cells, spot, draft, depth, object, last)
 }
 
 /// An operand and what is taken of it but the last thing.
@@ -212,6 +207,5 @@ pub fn emit_before(
 {
     let moves = moves_at(bound, rest, 0);
     let object = emit_start(bound, cells, spot, draft, depth, moves, primary)?;
-    let taken = emit_steps(bound, cells, spot, draft, depth, object, rest)?;
-    Ok(taken)
+    emit_steps(bound, cells, spot, draft, depth, object, rest)
 }

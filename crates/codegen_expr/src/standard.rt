@@ -39,21 +39,16 @@ pub fn emit_standard(
         OnImage::Itself => {
             if operands.len() == 0 {
                 emit_image(spot, draft, depth, image)?;
-                draft.put(Instr::Fetch, Line(0))?;
-                return Ok(());
+                return draft.put(Instr::Fetch, Line(0));
             }
             draft.give_up();
             Ok(())
         }
         OnImage::OfText(other) => {
             emit_image(spot, draft, depth, image)?;
-            emit_behind(bound, cells, spot, draft, depth, token, other, operands)?;
-            Ok(())
+            emit_behind(bound, cells, spot, draft, depth, token, other, operands)
         }
-        OnImage::Nothing => {
-            emit_alone(bound, cells, spot, draft, depth, token, name, operands)?;
-            Ok(())
-        }
+        OnImage::Nothing => emit_alone(bound, cells, spot, draft, depth, token, name, operands),
     }
 }
 
@@ -82,8 +77,7 @@ fn emit_alone(
         return Ok(());
     }
     emit_list(bound, cells, spot, draft, depth, operands)?;
-    draft.push(depth, standard_instr(row.number), line_at(bound, token))?;
-    Ok(())
+    draft.push(depth, standard_instr(row.number), line_at(bound, token))
 }
 
 /// A name of texts behind its text, which is on the stack, with its further operands. The token is that of the identifier.
@@ -116,6 +110,5 @@ pub(crate) fn emit_behind(
     }
     let inside = deeper(depth)?;
     emit_list(bound, cells, spot, draft, inside, operands)?;
-    draft.push(depth, standard_instr(row.number), line_at(bound, token))?;
-    Ok(())
+    draft.push(depth, standard_instr(row.number), line_at(bound, token))
 }

@@ -36,8 +36,7 @@ fn emit_seen_place(
     match seen {
         Seen::Variable => {
             if subscripts.len() == 0 {
-                emit_cell_place(bound, cells, spot, draft, depth, declaration)?;
-                return Ok(());
+                return emit_cell_place(bound, cells, spot, draft, depth, declaration);
             }
             draft.give_up();
             Ok(())
@@ -56,8 +55,7 @@ fn emit_seen_place(
                 token,
                 declaration,
                 subscripts,
-            )?;
-            Ok(())
+            )
         }
         Seen::Constant => {
             draft.give_up();
@@ -102,17 +100,10 @@ fn emit_named_place(
                 declaration,
                 seen,
                 subscripts,
-            )?;
-            Ok(())
+            )
         }
-        Some(Denotation::Standard(_)) => {
-            emit_image(spot, draft, depth, 1)?;
-            Ok(())
-        }
-        None => {
-            emit_image(spot, draft, depth, 1)?;
-            Ok(())
-        }
+        Some(Denotation::Standard(_)) => emit_image(spot, draft, depth, 1),
+        None => emit_image(spot, draft, depth, 1),
     }
 }
 
@@ -132,8 +123,7 @@ pub(crate) fn emit_place(
 {
     match expr {
         Expr::Named { name, arguments } => {
-            emit_named_place(bound, cells, spot, draft, depth, name, arguments)?;
-            Ok(())
+            emit_named_place(bound, cells, spot, draft, depth, name, arguments)
         }
         Expr::Parentheses { .. } => {
             draft.give_up();
@@ -141,61 +131,46 @@ pub(crate) fn emit_place(
         }
         Expr::Postfix { primary, rest } => {
             if rest.len() == 0 {
-                emit_place(bound, cells, spot, draft, depth, primary)?;
-                return Ok(());
+                return emit_place(bound, cells, spot, draft, depth, primary);
             }
-            emit_image_taken(bound, spot, draft, depth, primary, rest)?;
-            Ok(())
+            emit_image_taken(bound, spot, draft, depth, primary, rest)
         }
         Expr::OrElse { first, rest } => {
-            emit_place_alone(bound, cells, spot, draft, depth, rest.len(), first)?;
-            Ok(())
+            emit_place_alone(bound, cells, spot, draft, depth, rest.len(), first)
         }
         Expr::AndThen { first, rest } => {
-            emit_place_alone(bound, cells, spot, draft, depth, rest.len(), first)?;
-            Ok(())
+            emit_place_alone(bound, cells, spot, draft, depth, rest.len(), first)
         }
         Expr::Eqv { first, rest } => {
-            emit_place_alone(bound, cells, spot, draft, depth, rest.len(), first)?;
-            Ok(())
+            emit_place_alone(bound, cells, spot, draft, depth, rest.len(), first)
         }
         Expr::Imp { first, rest } => {
-            emit_place_alone(bound, cells, spot, draft, depth, rest.len(), first)?;
-            Ok(())
+            emit_place_alone(bound, cells, spot, draft, depth, rest.len(), first)
         }
         Expr::Or { first, rest } => {
-            emit_place_alone(bound, cells, spot, draft, depth, rest.len(), first)?;
-            Ok(())
+            emit_place_alone(bound, cells, spot, draft, depth, rest.len(), first)
         }
         Expr::And { first, rest } => {
-            emit_place_alone(bound, cells, spot, draft, depth, rest.len(), first)?;
-            Ok(())
+            emit_place_alone(bound, cells, spot, draft, depth, rest.len(), first)
         }
         Expr::Not { tokens, operand } => {
-            emit_place_alone(bound, cells, spot, draft, depth, tokens.len(), operand)?;
-            Ok(())
+            emit_place_alone(bound, cells, spot, draft, depth, tokens.len(), operand)
         }
         Expr::Concatenation { first, rest } => {
-            emit_place_alone(bound, cells, spot, draft, depth, rest.len(), first)?;
-            Ok(())
+            emit_place_alone(bound, cells, spot, draft, depth, rest.len(), first)
         }
         Expr::Sum { sign, first, rest } => match sign {
             Some(_) => {
                 draft.give_up();
                 Ok(())
             }
-            None => {
-                emit_place_alone(bound, cells, spot, draft, depth, rest.len(), first)?;
-                Ok(())
-            }
+            None => emit_place_alone(bound, cells, spot, draft, depth, rest.len(), first),
         },
         Expr::Product { first, rest } => {
-            emit_place_alone(bound, cells, spot, draft, depth, rest.len(), first)?;
-            Ok(())
+            emit_place_alone(bound, cells, spot, draft, depth, rest.len(), first)
         }
         Expr::Power { first, rest } => {
-            emit_place_alone(bound, cells, spot, draft, depth, rest.len(), first)?;
-            Ok(())
+            emit_place_alone(bound, cells, spot, draft, depth, rest.len(), first)
         }
         Expr::If { .. } => {
             draft.give_up();
@@ -264,8 +239,7 @@ fn emit_place_alone(
     ensures { OnOk result (WritesPlaceAlone bound.now spot depth draft.old draft.new others operand.now) }
 {
     if others == 0 {
-        emit_place(bound, cells, spot, draft, depth, operand)?;
-        return Ok(());
+        return emit_place(bound, cells, spot, draft, depth, operand);
     }
     draft.give_up();
     Ok(())

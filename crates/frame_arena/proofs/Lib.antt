@@ -14,3 +14,4 @@ pub mod Giving
 pub mod Subscripts
 pub mod Finding
 pub mod Budgets
+pub mod Spans

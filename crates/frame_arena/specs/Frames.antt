@@ -6,6 +6,7 @@ use Rattle.sim_code.specs.Instances.{Instance, is_live, no_instances}
 use Rattle.sim_code.specs.Machine.{Cells, Frames, Value}
 use Rattle.frame_arena.specs.declared.slot.Slot.{Slot}
 use Rattle.frame_arena.specs.declared.frames.Frame.{Frame}
+use Rattle.frame_arena.specs.declared.frames.Span.{Span}
 use Rattle.frame_arena.specs.declared.slot.SlotKind.{SlotKind}
 use Rattle.frame_arena.specs.declared.slot.SlotKind.TheVariants as kind
 use Rattle.frame_arena.specs.Slots.{value_of, cell_value, count_of}
@@ -34,6 +35,23 @@ instance_of cells f =
 -- the frame of a number lies at a place
 abbrev pub Has : List Frame → (place number : ℕ) → Type 0
 Has frames place number = (place < length frames) × ((frame_at frames place).live ≡ true) × ((frame_at frames place).number ≡ number)
+
+-- the number of the frame in a region
+abbrev pub number_there : List Frame → Option ℕ → Option ℕ
+number_there frames None = None
+number_there frames (Some place) = Some (frame_at frames place).number
+
+-- the number, level and cells are those of some frame
+pub record IsSpan (frames : List Frame) (s : Span) : Type 0 where
+  pub place : ℕ
+  pub has : Has frames place s.number
+  pub level : (frame_at frames place).level ≡ s.level
+  pub base : (frame_at frames place).base ≡ s.base
+  pub cells : (frame_at frames place).cells ≡ s.cells
+
+abbrev pub span_number : Option Span → Option ℕ
+span_number None = None
+span_number (Some s) = Some s.number
 
 -- a reference to a frame that was entered says where it lies, as long as it is not given back
 abbrev pub Leads : List Frame → Frames → FrameRef → Type 0

@@ -6,13 +6,13 @@ ghost use Rattle.sim_chains.specs.Components.{Standing};
 ghost use Rattle.sim_code.specs.Instances.{Instance, at_level as frame_of_level, entered, given, is_given_at_end as ends_for_good, is_live, with_instance};
 ghost use Rattle.sim_code.specs.Machine.{Activation, Cells, Frames, Value, joined, cell as cell_of_frame, cell_set};
 ghost use Rattle.frame_arena.specs.declared.slot.Slot.{Slot};
-ghost use Rattle.frame_arena.specs.Frames.{Has, Holds, HoldsAfter, Leads, LeadsAfter, SlotLeads, cells_at, found_value, frame_at, instance_of, number_in, rooms};
+ghost use Rattle.frame_arena.specs.Frames.{Has, Holds, HoldsAfter, IsSpan, Leads, LeadsAfter, SlotLeads, cells_at, found_value, frame_at, instance_of, number_in, number_there, rooms, span_number};
 ghost use Rattle.frame_arena.specs.Slots.{cell_value, value_of};
 ghost use Rattle.frame_arena.specs.Stacks.{slot_at};
 ghost use Rattle.sim_code.specs.Outcome.{ArrayOf};
 ghost use Rattle.frame_arena.specs.Arrays.{AllLeadArrays, RegionOf, SlotLeadsArray};
 
-use crate::slot::{Slot, SlotKind};
+use crate::slot::{NOTHING, Slot, SlotKind};
 use sim_values::FrameRef;
 
 /// A frame in its region.
@@ -92,10 +92,42 @@ pub fn cell(frames: &[Frame], cells: &[Slot], at: FrameRef, cell: usize) -> Opti
     slot_in(cells, frames[place].base, frames[place].cells, cell)
 }
 
-/// The frame of a level among a frame and its textual enclosers.
-pub fn at_level(frames: &[Frame], home: FrameRef, level: usize) -> Option<FrameRef>
-    ensures there { IfSome result (λ f. Has frames.now f.frame f.stamp) }
-    ensures level { (cells : List Slot) (m : Frames) → Holds frames.now cells m → Leads frames.now m home → number_in result ≡ frame_of_level m level home.stamp }
+/// Where the cells of a frame lie, and its number and level.
+#[derive(Clone, Copy, Debug)]
+pub struct Span {
+    /// The number of the frame in the order of entry.
+    pub number: u64,
+    /// Its level.
+    pub level: u32,
+    /// Where its cells begin.
+    pub base: u32,
+    /// How many cells it has.
+    pub cells: u32,
+}
+
+/// That of the frame in a region.
+#[inline(always)]
+pub fn span_at(frames: &[Frame], place: usize) -> Span
+    requires there { place < length frames.now }
+    requires live { (frame_at frames.now place).live ≡ true }
+    ensures span { IsSpan frames.now result }
+    ensures number { result.number ≡ (frame_at frames.now place).number }
+{
+    let frame = &frames[place];
+    Span {
+        number: frame.number,
+        level: frame.level,
+        base: frame.base,
+        cells: frame.cells,
+    }
+}
+
+/// The region of the frame of a level among a frame and its textual enclosers.
+#[inline(never)]
+pub fn region_at_level(frames: &[Frame], home: FrameRef, level: usize) -> Option<u32>
+    ensures there { IfSome result (λ place. place < length frames.now) }
+    ensures live { IfSome result (λ place. (frame_at frames.now place).live ≡ true) }
+    ensures level { (cells : List Slot) (m : Frames) → Holds frames.now cells m → Leads frames.now m home → number_there frames.now result ≡ frame_of_level m level home.stamp }
 {
     let mut at = home;
     for _ in 0..=home.stamp {
@@ -104,7 +136,7 @@ pub fn at_level(frames: &[Frame], home: FrameRef, level: usize) -> Option<FrameR
         };
         let frame = &frames[place];
         if frame.level as usize == level {
-            return Some(at);
+            return Some(at.frame);
         }
         match frame.parent {
             Some(parent) => at = parent,
@@ -112,6 +144,68 @@ pub fn at_level(frames: &[Frame], home: FrameRef, level: usize) -> Option<FrameR
         }
     }
     None
+}
+
+/// The frame of a level among a frame and its textual enclosers.
+pub fn at_level(frames: &[Frame], home: FrameRef, level: usize) -> Option<FrameRef>
+    ensures there { IfSome result (λ f. Has frames.now f.frame f.stamp) }
+    ensures level { (cells : List Slot) (m : Frames) → Holds frames.now cells m → Leads frames.now m home → number_in result ≡ frame_of_level m level home.stamp }
+{
+    let Some(region) = region_at_level(frames, home, level) else {
+        return None;
+    };
+    Some(FrameRef {
+        frame: region,
+        stamp: frames[region as usize].number,
+    })
+}
+
+/// The span of the frame of a level among a frame and its textual enclosers. `own` is that of some frame: where this is the one, it is
+/// not looked for.
+#[inline(always)]
+pub fn span_at_level(frames: &[Frame], own: Span, home: FrameRef, level: usize) -> Option<Span>
+    requires own { IsSpan frames.now own }
+    ensures span { IfSome result (λ s. IsSpan frames.now s) }
+    ensures level { (cells : List Slot) (m : Frames) → Holds frames.now cells m → Leads frames.now m home → span_number result ≡ frame_of_level m level home.stamp }
+{
+    if own.number == home.stamp && own.level as usize == level {
+        return Some(own);
+    }
+    let Some(region) = region_at_level(frames, home, level) else {
+        return None;
+    };
+    Some(span_at(frames, region as usize))
+}
+
+/// The value of a cell of a frame, where it has such a cell, and there is a value in it.
+#[inline(always)]
+pub fn cell_in(cells: &[Slot], span: Span, cell: usize) -> Option<Slot>
+    ensures value { (frames : List Frame) (m : Frames) → Holds frames cells.now m → IsSpan frames span → found_value result ≡ cell_of_frame m span.number cell }
+    ensures lies { IfSome result (λ s. (k : ℕ) × (s ≡ slot_at cells.now k)) }
+{
+    slot_in(cells, span.base, span.cells, cell)
+}
+
+/// Puts a value into a cell of a frame as one that a cell may hold, where it has such a cell.
+#[inline(always)]
+pub fn hold_in(cells: &mut [Slot], span: Span, cell: usize, slot: &Slot) -> bool
+    ensures holds { (frames : List Frame) (m : Frames) → Holds frames cells.old m → IsSpan frames span → SlotLeads frames m slot.now →
+        HoldsAfter result frames cells.new (cell_set m span.number cell (value_of slot.now)) }
+    ensures leads { (frames : List Frame) (m : Frames) (v : Value) (r : FrameRef) → Leads frames m r → LeadsAfter frames (cell_set m span.number cell v) r }
+    ensures arrays { (regions : List RegionOf) (arrays : List ArrayOf) → AllLeadArrays regions arrays cells.old → SlotLeadsArray regions arrays slot.now → AllLeadArrays regions arrays cells.new }
+{
+    if cell >= span.cells as usize {
+        return false;
+    }
+    let k = span.base as usize + cell;
+    if k >= cells.len() {
+        return false;
+    }
+    match slot.kind {
+        SlotKind::Empty => cells[k] = NOTHING,
+        _ => cells[k] = *slot,
+    }
+    true
 }
 
 /// Whether the frame in a region is given back at its end.

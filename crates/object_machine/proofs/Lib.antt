@@ -27,3 +27,4 @@ pub mod Handovers
 pub mod Supplied
 pub mod Calls
 pub mod Taking
+pub mod Passing

@@ -1,6 +1,7 @@
 pub mod Standing
 pub mod Entering
 pub mod Running
+pub mod Stretching
 pub mod FrameEnds
 pub mod Placing
 pub mod Settled

@@ -225,11 +225,13 @@ pub fn copy_array(
 }
 
 /// Puts a value where an address below it leads.
+#[inline(always)]
 pub fn put(storage: &mut Storage, stack: &[Slot], regs: &mut Registers) -> Flow
     requires fits { regs.old.depth ≤ length stack.now }
     requires short { regs.old.pc + 1 < 2 ^ 64 }
     ensures fits { regs.new.depth ≤ length stack.now }
     ensures valid { HasImages storage.old.texts storage.old.image → HasImages storage.new.texts storage.new.image }
+    ensures frames { storage.new.frames ≡ storage.old.frames }
     ensures row { (l : LimitsOf) (line : ℕ) (below : List Activation) (now : Outside) →
         Obeys result l line (λ o m a b. popping a.stack o (λ v st. popping st o (λ address st. having (place_in address) o (λ place. putting place v o m (λ o m. on o m a st b))))) storage.old storage.new regs.old regs.new stack.now stack.now below below now now }
 {

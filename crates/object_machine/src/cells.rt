@@ -7,7 +7,7 @@ ghost use Rattle.sim_code.specs.Outcome.{Run, World};
 ghost use Rattle.sim_code.specs.Code.{CodeOf};
 ghost use Rattle.sim_code.specs.declared.instr.Instr.{Instr};
 ghost use Rattle.sim_code.specs.Rows.{no_class, pushed, row};
-ghost use Rattle.frame_arena.specs.Frames.{Has, Holds, Leads, number_in};
+ghost use Rattle.frame_arena.specs.Frames.{Has, Holds, IsSpan, Leads, number_in, span_number};
 ghost use Rattle.frame_arena.specs.Slots.{cell_value, value_of};
 ghost use Rattle.frame_arena.specs.Stacks.{slot_at};
 ghost use Rattle.frame_arena.specs.Arrays.{AllLeadArrays, RegionOf, SlotLeadsArray};
@@ -19,7 +19,7 @@ ghost use Rattle.object_machine.specs.Standing.{Obeys, Outside, SameBut};
 use crate::constants::index;
 use crate::machine::{Activation, Flow, Registers, Storage};
 use crate::operands::push;
-use frame_arena::frames::{self, Frame};
+use frame_arena::frames::{self, Frame, Span};
 use frame_arena::{NOTHING, Slot, SlotKind, stack};
 use sim_base::Limits;
 use sim_values::FrameRef;
@@ -55,29 +55,45 @@ pub fn link(frames: &[Frame], stack: &mut [Slot], regs: &mut Registers, level: i
     push(stack, regs, Slot::link(frame))
 }
 
-/// Pushes the value of a cell.
+/// The span of the frame of a level. `own` is that of some frame.
+#[inline(always)]
+fn level_span(frames: &[Frame], own: Span, home: FrameRef, operand: i64) -> Option<Span>
+    requires own { IsSpan frames.now own }
+    ensures span { IfSome result (λ s. IsSpan frames.now s) }
+    ensures row { (cells : List Slot) (m : Frames) (a : ActivationOf) (o : World) (go : ℕ → Run Machine) → Holds frames.now cells m → Leads frames.now m home → a.home ≡ home.stamp →
+        at_level_of m a operand o go ≡ having (span_number result) o go }
+{
+    let Some(level) = index(operand) else {
+        return None;
+    };
+    frames::span_at_level(frames, own, home, level)
+}
+
+/// Pushes the value of a cell. `own` is the span of some frame.
 #[inline(always)]
 pub fn load(
     frames: &[Frame],
     cells: &[Slot],
+    own: Span,
     stack: &mut [Slot],
     regs: &mut Registers,
     level: i64,
     cell: i64,
 ) -> Flow
+    requires own { IsSpan frames.now own }
     requires fits { regs.old.depth ≤ length stack.old }
     requires short { regs.old.pc + 1 < 2 ^ 64 }
     ensures fits { regs.new.depth ≤ length stack.new }
     ensures row { (l : Limits) (line : ℕ) (p : Storage) (below : List Activation) (now : Outside) → p.frames.items ≡ frames.now → p.cells.items ≡ cells.now →
         Obeys result l line (λ o m a b. cell_at m a level cell o (λ j c. having (cell_value_of m j c) o (λ v. pushed o m a b v))) p p regs.old regs.new stack.old stack.new below below now now }
 {
-    let Some(frame) = level_frame(frames, regs.home, level) else {
+    let Some(span) = level_span(frames, own, regs.home, level) else {
         return Flow::NoRule;
     };
     let Some(number) = index(cell) else {
         return Flow::NoRule;
     };
-    let Some(slot) = frames::cell(frames, cells, frame, number) else {
+    let Some(slot) = frames::cell_in(cells, span, number) else {
         return Flow::NoRule;
     };
     push(stack, regs, slot)
@@ -97,16 +113,18 @@ pub fn held(slot: Slot) -> Slot
     }
 }
 
-/// Pops a value into a cell.
+/// Pops a value into a cell. `own` is the span of some frame.
 #[inline(always)]
 pub fn store(
     frames: &[Frame],
     cells: &mut [Slot],
+    own: Span,
     stack: &[Slot],
     regs: &mut Registers,
     level: i64,
     cell: i64,
 ) -> Flow
+    requires own { IsSpan frames.now own }
     requires fits { regs.old.depth ≤ length stack.now }
     requires short { regs.old.pc + 1 < 2 ^ 64 }
     ensures fits { regs.new.depth ≤ length stack.now }
@@ -116,14 +134,13 @@ pub fn store(
     let Some(at) = stack::pop(stack, regs.depth) else {
         return Flow::NoRule;
     };
-    let Some(frame) = level_frame(frames, regs.home, level) else {
+    let Some(span) = level_span(frames, own, regs.home, level) else {
         return Flow::NoRule;
     };
     let Some(number) = index(cell) else {
         return Flow::NoRule;
     };
-    let slot = held(stack[at]);
-    if frames::set_cell(frames, cells, frame, number, slot) {
+    if frames::hold_in(cells, span, number, &stack[at]) {
         regs.depth = at;
         regs.pc += 1;
         return Flow::On;
@@ -153,6 +170,7 @@ pub fn end_level(frames: &[Frame], regs: &Registers, operand: i64) -> Flow
 }
 
 /// Pushes the address of a cell. It stops as for want of memory where the cell's number is 2^32 or more: no frame has such a cell.
+#[inline(always)]
 pub fn address(
     frames: &[Frame],
     stack: &mut [Slot],
@@ -186,6 +204,7 @@ pub fn address(
 }
 
 // Whether no class is named.
+#[inline(always)]
 fn unqualified(class: i64) -> bool
     ensures { result ≡ is_unqualified class }
 {

@@ -19,6 +19,7 @@ pub fn tick(limits: &Limits, storage: &mut Storage, regs: &mut Registers) -> Flo
     ensures depth { regs.new.depth ≡ regs.old.depth }
     ensures texts { storage.new.texts ≡ storage.old.texts }
     ensures image { storage.new.image ≡ storage.old.image }
+    ensures frames { storage.new.frames ≡ storage.old.frames }
     ensures row { (line : ℕ) (stack : List Slot) (below : List Activation) (now : Outside) →
         Obeys result limits.now line (λ o m a b. ticking limits.now o (λ p. on p m a a.stack b)) storage.old storage.new regs.old regs.new stack stack below below now now }
 {

@@ -27,6 +27,7 @@ mod running;
 mod start;
 mod stepping;
 mod steps;
+mod stretching;
 mod texts;
 
 pub use running::run;

@@ -33,6 +33,7 @@ fn name_of(operand: i64) -> Option<Standard>
 }
 
 // Goes on with what a standard name came to, of which the first operand had this address, if any.
+#[inline(always)]
 fn settle_performed(
     storage: &mut Storage,
     regs: &mut Registers,
@@ -67,6 +68,7 @@ fn settle_performed(
 }
 
 // Goes on with so many values, where a text was put back.
+#[inline(always)]
 fn follow(regs: &mut Registers, placing: Placing, depth: usize) -> Flow
     requires short { regs.old.pc + 1 < 2 ^ 64 }
     ensures fits { (room : ℕ) → regs.old.depth ≤ room → depth ≤ room → regs.new.depth ≤ room }

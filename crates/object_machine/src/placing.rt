@@ -84,6 +84,7 @@ fn place_in_element(arrays: &mut Arrays, address: Slot, value: Slot) -> Placing
 }
 
 // Moves an image to the position of a text that is that image.
+#[inline(always)]
 fn place_in_image(images: &mut Images, address: Slot, value: Slot) -> Placing
     requires kind { address.kind ≡ SlotKind.Image }
     ensures valid { (texts : List TextFrame) → HasImages texts images.old → HasImages texts images.new }
@@ -117,8 +118,10 @@ fn place_in_image(images: &mut Images, address: Slot, value: Slot) -> Placing
 }
 
 /// Puts a value where an address leads.
+#[inline(always)]
 pub fn place(storage: &mut Storage, address: Slot, value: Slot) -> Placing
     ensures texts { storage.new.texts ≡ storage.old.texts }
+    ensures frames { storage.new.frames ≡ storage.old.frames }
     ensures valid { HasImages storage.old.texts storage.old.image → HasImages storage.new.texts storage.new.image }
     ensures row { (l : Limits) (r : Registers) (stack : List SlotOf) (below : List Activation) (before : Option (List ℕ)) (now : Outside) (o : World) (m : Frames) →
         Stands l storage.old r stack below before now o m → LeadsFrom storage.old o m address → LeadsFrom storage.old o m value → Places result l storage.new r stack below before now o m address value }
@@ -132,6 +135,7 @@ pub fn place(storage: &mut Storage, address: Slot, value: Slot) -> Placing
 }
 
 /// Puts a text with another position back where its address leads, if it came from one.
+#[inline(always)]
 pub fn put_back(storage: &mut Storage, address: Slot, text: TextVal) -> Placing
     ensures valid { HasImages storage.old.texts storage.old.image → HasImages storage.new.texts storage.new.image }
     ensures row { (l : Limits) (r : Registers) (stack : List SlotOf) (below : List Activation) (before : Option (List ℕ)) (now : Outside) (o : World) (m : Frames) →

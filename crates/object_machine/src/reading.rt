@@ -61,6 +61,7 @@ pub fn value_at(
 }
 
 // The same value, if it is a text.
+#[inline(always)]
 fn text_alone(slot: Slot) -> Option<Slot>
     ensures read { read_as result ≡ only_text (plain (value_of slot)) }
     ensures alone { IfSome result (λ s. (names_frame s.kind ≡ false) × (names_array s.kind ≡ false)) }
@@ -84,6 +85,7 @@ fn plain_alone(slot: Slot) -> Option<Slot>
 }
 
 // The text at an address, if there is one.
+#[inline(always)]
 fn text_at(
     frames: &[Frame],
     cells: &[Slot],

@@ -1,12 +1,13 @@
 //! The table: what each instruction does.
-ghost use Rattle.std.specs.Prelude.{◌≡◌, ℕ, ◌+◌, ◌<◌, ◌≤◌, ◌^◌, List, Option, length};
+ghost use Rattle.std.specs.Prelude.{◌≡◌, ℕ, ◌+◌, ◌<◌, ◌≤◌, ◌^◌, List, Option, IfSome, length};
 ghost use Rattle.sim_base.specs.declared.limits.Limits.{Limits as LimitsOf};
 ghost use Rattle.sim_code.specs.Code.{CodeOf};
 ghost use Rattle.sim_code.specs.Events.{no_rule as no_rule_of, stopping};
 ghost use Rattle.sim_code.specs.Outcome.{Normal};
 ghost use Rattle.sim_code.specs.Rows.{row};
 ghost use Rattle.frame_arena.specs.declared.slot.Slot.{Slot as SlotOf};
-ghost use Rattle.object_machine.specs.Standing.{HasImages, Obeys, Outside, Row};
+ghost use Rattle.frame_arena.specs.Frames.{IsSpan};
+ghost use Rattle.object_machine.specs.Standing.{HasImages, Obeys, Outside, Row, Untouched};
 
 use crate::arrays::{array, copy_array, elem, fetch, keep, put};
 use crate::cells::{address, end_level, link, load, store};
@@ -19,6 +20,7 @@ use crate::operands::{
 use crate::pairs::{relate, relation_of_texts};
 use crate::texts::{image_address, notext};
 use frame_arena::Slot;
+use frame_arena::frames::Span;
 use sim_base::Limits;
 use sim_code::{Instr, Lined};
 use sim_values::{Calculation, Connective, Dyadic, Monadic};
@@ -50,10 +52,101 @@ fn not_built() -> Flow
     Flow::Memory
 }
 
-/// Does an instruction that leaves the frame on top where it is.
+/// Does an instruction that works on the frame at work, on its textual enclosers and on elements of arrays, and leaves all frames where
+/// they are. At any other one it does nothing. `own` is the span of some frame.
 #[inline(always)]
 pub fn obey(
     instrs: &[Lined],
+    limits: &Limits,
+    storage: &mut Storage,
+    own: Span,
+    stack: &mut [Slot],
+    regs: &mut Registers,
+    instr: Instr,
+) -> Option<Flow>
+    requires own { IsSpan storage.old.frames.items own }
+    requires fits { regs.old.depth ≤ length stack.old }
+    requires short { regs.old.pc + 1 < 2 ^ 64 }
+    requires images { HasImages storage.old.texts storage.old.image }
+    ensures fits { regs.new.depth ≤ length stack.new }
+    ensures valid { HasImages storage.new.texts storage.new.image }
+    ensures frames { storage.new.frames ≡ storage.old.frames }
+    ensures other { Untouched result storage.old storage.new regs.old regs.new stack.old stack.new }
+    ensures row { IfSome result (λ f. (code : CodeOf) (line : ℕ) (below : List Activation) (now : Outside) → code.instrs ≡ instrs.now →
+        Obeys f limits.now line (λ o m a b. row code limits.now o m a b line instr) storage.old storage.new regs.old regs.new stack.old stack.new below below now now) }
+{
+    match instr {
+        Instr::Halt => Some(halt()),
+        Instr::Int(value) => Some(push_integer(stack, regs, value)),
+        Instr::Bool(value) => Some(push_truth(stack, regs, value)),
+        Instr::Char(value) => Some(push_character(stack, regs, value)),
+        Instr::None => Some(push_none(stack, regs)),
+        Instr::Load { level, cell } => Some(load(
+            &storage.frames,
+            &storage.cells,
+            own,
+            stack,
+            regs,
+            level,
+            cell,
+        )),
+        Instr::Store { level, cell } => Some(store(
+            &storage.frames,
+            &mut storage.cells,
+            own,
+            stack,
+            regs,
+            level,
+            cell,
+        )),
+        Instr::Link(level) => Some(link(&storage.frames, stack, regs, level)),
+        Instr::Addr { level, cell, class } => Some(address(
+            &storage.frames,
+            stack,
+            regs,
+            level,
+            cell,
+            class,
+        )),
+        Instr::Elem { subscripts, class } => {
+            Some(elem(&storage.arrays, stack, regs, subscripts, class))
+        }
+        Instr::Fetch => Some(fetch(
+            &storage.frames,
+            &storage.cells,
+            &storage.arrays,
+            &storage.image,
+            stack,
+            regs,
+        )),
+        Instr::Put => Some(put(storage, stack, regs)),
+        Instr::Dup => Some(dup(stack, regs)),
+        Instr::Pop => Some(drop_top(stack, regs)),
+        Instr::Swap => Some(swap(stack, regs)),
+        Instr::Neg => Some(one(stack, regs, Monadic::Negate)),
+        Instr::Add => Some(two(stack, regs, Dyadic::Calculate(Calculation::Add))),
+        Instr::Sub => Some(two(stack, regs, Dyadic::Calculate(Calculation::Subtract))),
+        Instr::Mul => Some(two(stack, regs, Dyadic::Calculate(Calculation::Multiply))),
+        Instr::Div => Some(two(stack, regs, Dyadic::Calculate(Calculation::Divide))),
+        Instr::Pow => Some(two(stack, regs, Dyadic::Calculate(Calculation::Power))),
+        Instr::Rel(operand) => Some(relation(stack, regs, operand)),
+        Instr::Same => Some(two(stack, regs, Dyadic::SameObject)),
+        Instr::Not => Some(one(stack, regs, Monadic::Not)),
+        Instr::And => Some(two(stack, regs, Dyadic::Connect(Connective::And))),
+        Instr::Or => Some(two(stack, regs, Dyadic::Connect(Connective::Or))),
+        Instr::Imp => Some(two(stack, regs, Dyadic::Connect(Connective::Implies))),
+        Instr::Eqv => Some(two(stack, regs, Dyadic::Connect(Connective::Equivalent))),
+        Instr::Jump(to) => Some(jump(instrs, regs, to)),
+        Instr::JumpF(to) => Some(jump_if_false(instrs, stack, regs, to)),
+        Instr::Tick => Some(tick(limits, storage, regs)),
+        Instr::StepTest => Some(step_test(stack, regs)),
+        _ => None,
+    }
+}
+
+/// Does an instruction that leaves the frame on top where it is, of those that `obey` does not do; at one that it does the machine
+/// stops as for want of memory.
+pub fn obey_other(
     limits: &Limits,
     storage: &mut Storage,
     stack: &mut [Slot],
@@ -65,70 +158,18 @@ pub fn obey(
     requires images { HasImages storage.old.texts storage.old.image }
     ensures fits { regs.new.depth ≤ length stack.new }
     ensures valid { HasImages storage.new.texts storage.new.image }
-    ensures row { (code : CodeOf) (line : ℕ) (below : List Activation) (now : Outside) → code.instrs ≡ instrs.now →
+    ensures row { (code : CodeOf) (line : ℕ) (below : List Activation) (now : Outside) →
         Obeys result limits.now line (λ o m a b. row code limits.now o m a b line instr) storage.old storage.new regs.old regs.new stack.old stack.new below below now now }
 {
     match instr {
-        Instr::Halt => halt(),
-        Instr::Int(value) => push_integer(stack, regs, value),
-        Instr::Bool(value) => push_truth(stack, regs, value),
-        Instr::Char(value) => push_character(stack, regs, value),
-        Instr::None => push_none(stack, regs),
-        Instr::Link(level) => link(&storage.frames, stack, regs, level),
-        Instr::Addr { level, cell, class } => {
-            address(&storage.frames, stack, regs, level, cell, class)
-        }
-        Instr::Load { level, cell } => {
-            load(&storage.frames, &storage.cells, stack, regs, level, cell)
-        }
-        Instr::Store { level, cell } => store(
-            &storage.frames,
-            &mut storage.cells,
-            stack,
-            regs,
-            level,
-            cell,
-        ),
-        Instr::Elem { subscripts, class } => {
-            elem(&storage.arrays, stack, regs, subscripts, class)
-        }
-        Instr::Fetch => fetch(
-            &storage.frames,
-            &storage.cells,
-            &storage.arrays,
-            &storage.image,
-            stack,
-            regs,
-        ),
-        Instr::Put => put(storage, stack, regs),
         Instr::Array {
             element,
             dimensions,
         } => array(limits, storage, stack, regs, element, dimensions),
         Instr::CopyArr => copy_array(limits, storage, stack, regs),
         Instr::Keep => keep(&mut storage.arrays, stack, regs),
-        Instr::Dup => dup(stack, regs),
-        Instr::Pop => drop_top(stack, regs),
-        Instr::Swap => swap(stack, regs),
-        Instr::Neg => one(stack, regs, Monadic::Negate),
-        Instr::Add => two(stack, regs, Dyadic::Calculate(Calculation::Add)),
-        Instr::Sub => two(stack, regs, Dyadic::Calculate(Calculation::Subtract)),
-        Instr::Mul => two(stack, regs, Dyadic::Calculate(Calculation::Multiply)),
-        Instr::Div => two(stack, regs, Dyadic::Calculate(Calculation::Divide)),
-        Instr::Pow => two(stack, regs, Dyadic::Calculate(Calculation::Power)),
-        Instr::Rel(operand) => relation(stack, regs, operand),
         Instr::RelT(operand) => relation_of_texts(&storage.texts, stack, regs, operand),
         Instr::SameT => relate(&storage.texts, stack, regs, None),
-        Instr::Same => two(stack, regs, Dyadic::SameObject),
-        Instr::Not => one(stack, regs, Monadic::Not),
-        Instr::And => two(stack, regs, Dyadic::Connect(Connective::And)),
-        Instr::Or => two(stack, regs, Dyadic::Connect(Connective::Or)),
-        Instr::Imp => two(stack, regs, Dyadic::Connect(Connective::Implies)),
-        Instr::Eqv => two(stack, regs, Dyadic::Connect(Connective::Equivalent)),
-        Instr::Jump(to) => jump(instrs, regs, to),
-        Instr::JumpF(to) => jump_if_false(instrs, stack, regs, to),
-        Instr::Tick => tick(limits, storage, regs),
-        Instr::StepTest => step_test(stack, regs),
         Instr::EndLevel(level) => end_level(&storage.frames, regs, level),
         Instr::This(_) => no_rule(),
         Instr::AddrR { .. } => no_rule(),

@@ -32,8 +32,8 @@ fn add_constants(texts: &mut Texts, constants: &[ByteString]) -> Result<(), Memo
 // No region has this number.
 const NO_REGION: u32 = u32::MAX;
 
-/// The machine before its first step, for so many blocks: the text constants, and then the two images. It answers want of memory also for a constant of
-/// 2^32-1 characters or more, and where sysin or sysout has no character in a line.
+/// The machine before its first step, for so many blocks: the text constants, and then the two images. It answers want of memory
+/// also for a constant of 2^32-1 characters or more, and where sysin or sysout has no character in a line.
 pub fn start(
     alloc: Global,
     constants: &[ByteString],

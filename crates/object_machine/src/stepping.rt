@@ -1,4 +1,4 @@
-//! One step, of whatever instruction.
+//! One step, of an instruction that may change the frame at work or use the ports.
 ghost use Rattle.std.specs.Prelude.{◌≡◌, ◌+◌, ◌<◌, ◌≤◌, ◌^◌, ℕ, List, Option, Some, length, true};
 ghost use Rattle.sim_code.specs.Code.{CodeOf};
 ghost use Rattle.sim_code.specs.Rows.{row};
@@ -16,16 +16,16 @@ use crate::leaving::{give_result, leave};
 use crate::machine::{Activation, Flow, Registers, Storage};
 use crate::names::standard;
 use crate::pairs::assign;
-use crate::rows::obey;
+use crate::rows::obey_other;
 use crate::texts::constant;
 use sim_base::{ByteString, Limits};
 use sim_code::{BlockRecord, Instr, Lined};
 use sim_ports::{Sink, Source};
 use std::alloc::Global;
 
-// The same of a row that writes and reads nothing, which has no fault of the outside.
+/// The same of a row that writes and reads nothing, which has no fault of the outside.
 #[inline(always)]
-fn without_ports(flow: Flow) -> Flow
+pub fn without_ports(flow: Flow) -> Flow
     ensures other { result ≡ Flow.WriteFault → ⊥ }
     ensures read { result ≡ Flow.InputFault → ⊥ }
     ensures row { (l : LimitsOf) (line : ℕ) (does : Row) (p p2 : Storage) (r r2 : Registers) (stack stack2 : List Slot) (below below2 : List Activation) (now now2 : Outside) →
@@ -38,7 +38,7 @@ fn without_ports(flow: Flow) -> Flow
     }
 }
 
-/// Does one instruction.
+/// Does one instruction, of those that `advance` does not do; at one that it does the machine stops as for want of memory.
 #[tactic(auto, using(crate::proofs::Taking::takes_none))]
 pub fn step<I: Source, O: Sink>(
     alloc: Global,
@@ -105,14 +105,7 @@ pub fn step<I: Source, O: Sink>(
             without_ports(flow)
         }
         _ => {
-            let flow = obey(
-                instrs,
-                limits,
-                storage,
-                &mut top.stack,
-                &mut top.registers,
-                instr,
-            );
+            let flow = obey_other(limits, storage, &mut top.stack, &mut top.registers, instr);
             without_ports(flow)
         }
     }

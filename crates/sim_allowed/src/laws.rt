@@ -15,12 +15,12 @@ ghost use Rattle.sim_agree.specs.Plain.{Plain};
 /// A program of tokens that the static rules allow is typed, where it has no classes, no parameters by name and no formal procedures.
 #[tactic(auto, using(crate::proofs::Allowed::allowed_typed))]
 pub fn allowed_programs_are_typed()
-    ensures { (ws : List Token) (tree : Tree) (s : Source) → IsTree ws tree → s.program ≡ program_syntax tree → check_of tree ≡ Allowed s.tables s.uses s.found_in s.types → Plain s.program → Typed s }
+    ensures { (tokens : List Token) (tree : Tree) (s : Source) → IsTree tokens tree → s.program ≡ program_syntax tree → check_of tree ≡ Allowed s.tables s.uses s.found_in s.types → Plain s.program → Typed s }
 {}
 
 /// So no such program comes to where there is no rule, whatever the limits and the input are.
 #[tactic(auto, using(crate::proofs::Allowed::allowed_never_no_rule))]
 pub fn allowed_programs_have_a_rule()
-    ensures { (ws : List Token) (tree : Tree) (s : Source) → IsTree ws tree → s.program ≡ program_syntax tree → check_of tree ≡ Allowed s.tables s.uses s.found_in s.types → Plain s.program
+    ensures { (tokens : List Token) (tree : Tree) (s : Source) → IsTree tokens tree → s.program ≡ program_syntax tree → check_of tree ≡ Allowed s.tables s.uses s.found_in s.types → Plain s.program
         → (l : Limits) (input : List ℕ) (n : ℕ) (o : World) → run s l input n ≡ Ended o NoRule → ⊥ }
 {}

@@ -14,7 +14,7 @@ use Rattle.sim_tree.specs.Grammar as g
 use Rattle.sim_tree.specs.Grammar.{Part, Once, Maybe, Many, Kept, Of, Symbol, is, just, one_of, right_side, literals, signs}
 use Rattle.sim_tree.specs.Reading.{Forest, done, terminal_at, may_skip, Reads, reads-done, reads-skip, after-skip}
 use Rattle.sim_tree.specs.Claim.{one}
-use Rattle.sim_tree.specs.Shown.{shown, row, level_part, not_mark}
+use Rattle.sim_tree.specs.Derivation.{derivation_of, row, level_part, not_mark}
 use Rattle.sim_tree.specs.Tree.{limit, ReadsPart}
 use Rattle.sim_expr_parser.specs.declared.level.Level.TheVariants as level
 use Rattle.sim_expr_parser.specs.declared.operators.Operators.{Operators}
@@ -171,7 +171,7 @@ module _ {ws : List Token} {d i : ℕ} where
   pub with-tail : (o : Operators) (top : ℕ) {first e : Expr} {j k : ℕ} → level_of o ≤ top → IsRead ws d i (below_of o) top first j → ReadsTail ws d j o first e k → IsRead ws d i (level_of o) top e k
   with-tail o top {first} {e} le r tail =
       let w0 = open-operators o top le r.plain (from r.part) in
-      let made = level-made (level_of o) e (shown e) refl tail.level_is (to (to w0 (once r.part)) tail.reads) (sym tail.inside_is) in
+      let made = level-made (level_of o) e (derivation_of e) refl tail.level_is (to (to w0 (once r.part)) tail.reads) (sym tail.inside_is) in
       record { low = made.0; part = made.1; plain = higher (omega arith) r.plain }
 
   pub tail-stops : (o : Operators) (top : ℕ) {first : Expr} {j : ℕ} (x : Stop) → level_of o ≤ top → IsRead ws d i (below_of o) top first j → ((s : List Symbol) → Stops ws d (tail_of o ∷ s) j x)

@@ -61,9 +61,9 @@ first_within ws n i w = go (is_begun n) w
 module _ {limit : ℕ} {ws : List Token} (ended : IsEnded ws) where
   pub reads_within : {d i j : ℕ} {s : List Symbol} {f : Forest} → Reads limit ws d s i f j → stays s ≡ true → i < length ws → j < length ws
   reads_within reads-done h w = w
-  reads_within (reads-kept {i = i} {any = any} e r) h w = reads_within r (right_true _ _ h) (next ended (one_of any) i (left_true _ _ h) e w)
-  reads_within (reads-mark {i = i} {a = a} e r) h w = reads_within r (right_true _ _ h) (next ended (λ x. is x a) i (left_true _ _ h) e w)
-  reads_within (reads-any {i = i} {a = a} e r) h w = reads_within r h (next ended (λ x. is x a) i (left_true _ _ h) e w)
+  reads_within (reads-kept {start = i} {any = any} e r) h w = reads_within r (right_true _ _ h) (next ended (one_of any) i (left_true _ _ h) e w)
+  reads_within (reads-mark {start = i} {a = a} e r) h w = reads_within r (right_true _ _ h) (next ended (λ x. is x a) i (left_true _ _ h) e w)
+  reads_within (reads-any {start = i} {a = a} e r) h w = reads_within r h (next ended (λ x. is x a) i (left_true _ _ h) e w)
   reads_within (reads-none e r) h w = reads_within r (right_true _ _ h) w
   reads_within (reads-here r) h w = reads_within r h w
   reads_within (reads-part {t = times} {n = n} {right = right} {s = s} b sh r q) h w = reads_within q (after_stays times n s h) (reads_within r (right_stays n _ right (left_true _ _ h) b) w)
@@ -73,11 +73,11 @@ module _ {limit : ℕ} {ws : List Token} (ended : IsEnded ws) where
   fails_within (fails-kept e) h w = w
   fails_within (fails-mark e) h w = w
   fails_within (fails-part b may) h w = w
-  fails_within (fails-deep {i = i} {n = n} b deep) h w = first_within ws n i w
+  fails_within (fails-deep {start = i} {n = n} b deep) h w = first_within ws n i w
   fails_within (fails-inside {n = n} {right = right} b sh r) h w = fails_within r (right_stays n _ right (left_true _ _ h) b) w
-  fails_within (after-kept {i = i} {any = any} e r) h w = fails_within r (right_true _ _ h) (next ended (one_of any) i (left_true _ _ h) e w)
-  fails_within (after-mark {i = i} {a = a} e r) h w = fails_within r (right_true _ _ h) (next ended (λ x. is x a) i (left_true _ _ h) e w)
-  fails_within (after-any {i = i} {a = a} e r) h w = fails_within r h (next ended (λ x. is x a) i (left_true _ _ h) e w)
+  fails_within (after-kept {start = i} {any = any} e r) h w = fails_within r (right_true _ _ h) (next ended (one_of any) i (left_true _ _ h) e w)
+  fails_within (after-mark {start = i} {a = a} e r) h w = fails_within r (right_true _ _ h) (next ended (λ x. is x a) i (left_true _ _ h) e w)
+  fails_within (after-any {start = i} {a = a} e r) h w = fails_within r h (next ended (λ x. is x a) i (left_true _ _ h) e w)
   fails_within (after-none e r) h w = fails_within r (right_true _ _ h) w
   fails_within (after-here r) h w = fails_within r h w
   fails_within (after-part {t = times} {n = n} {right = right} {s = s} b sh r q) h w = fails_within q (after_stays times n s h) (reads_within r (right_stays n _ right (left_true _ _ h) b) w)

@@ -11,10 +11,10 @@ use Rattle.sim_tree.specs.Grammar as g
 use Rattle.sim_tree.specs.Grammar.{Part, Times, Once, Maybe, Many, Symbol, Kept, Mark, Of, is, one_of, right_side, is_counted}
 use Rattle.sim_tree.specs.Reading.{Forest, done, leaf, node, terminal_at, inside_depth, is_too_deep, is_empty, Reads, reads-done, reads-kept, reads-mark, reads-part, reads-skip, Fails, fails-part, fails-kept, fails-mark, fails-inside, after-kept, after-mark, after-part, after-skip, Unexpected, TooDeep}
 use Rattle.sim_tree.specs.Claim.{one}
-use Rattle.sim_tree.specs.Shown.{Shown, shown, raise, row, level_part}
+use Rattle.sim_tree.specs.Derivation.{Derivation, derivation_of, raise, row, level_part}
 use Rattle.sim_tree.specs.Tree.{limit, ReadsPart}
 use Rattle.sim_tree.proofs.Steps.{Leads, start, past-one, one-fails, leads-as}
-use Rattle.sim_tree.proofs.ShownLemmas.{raise-up, raise-same, row-append, map-append}
+use Rattle.sim_tree.proofs.DerivationLemmas.{raise-up, raise-same, row-append, map-append}
 use Rattle.sim_expr_parser.specs.declared.refusal.Stop.{Stop}
 use Rattle.sim_expr_parser.specs.declared.refusal.Stop.TheVariants as stop
 use Rattle.sim_expr_parser.specs.Parsing.{Took, Stops, ReadsTo, ReadsList, listed}
@@ -79,14 +79,14 @@ module _ {ws : List Token} {d i j e : ℕ} {n : Part} {F : Forest → Forest} wh
 
 module _ {ws : List Token} {d i j e : ℕ} {F : Forest → Forest} where
   -- a node of a level
-  pub level-made : (l : ℕ) (x : Expr) (s : Shown) → shown x ≡ s → s.level ≡ l → Within ws d (level_part l) i F e [] j → F done ≡ s.inside
-      → ((shown x).level ≤ l) × ReadsPart ws d (level_part l) i (raise l (shown x)) j
-  level-made l x s made same w f = (omega (arith, ap (λ z. z.level) made, same), gone w (raise l (shown x)) (f ∙ sym (ap (raise l) made ∙ raise-same l s same)))
+  pub level-made : (l : ℕ) (x : Expr) (s : Derivation) → derivation_of x ≡ s → s.level ≡ l → Within ws d (level_part l) i F e [] j → F done ≡ s.inside
+      → ((derivation_of x).level ≤ l) × ReadsPart ws d (level_part l) i (raise l (derivation_of x)) j
+  level-made l x s made same w f = (omega (arith, ap (λ z. z.level) made, same), gone w (raise l (derivation_of x)) (f ∙ sym (ap (raise l) made ∙ raise-same l s same)))
 
   -- a level with a single operand makes no node
-  pub level-up : (l : ℕ) (x : Expr) → (shown x).level ≤ l → Within ws d (level_part (suc l)) i F e [] j → F done ≡ node (level_part l) (raise l (shown x)) done
-      → ((shown x).level ≤ suc l) × ReadsPart ws d (level_part (suc l)) i (raise (suc l) (shown x)) j
-  level-up l x h w f = (omega (arith, h), gone w (raise (suc l) (shown x)) (f ∙ sym (raise-up l (shown x) h)))
+  pub level-up : (l : ℕ) (x : Expr) → (derivation_of x).level ≤ l → Within ws d (level_part (suc l)) i F e [] j → F done ≡ node (level_part l) (raise l (derivation_of x)) done
+      → ((derivation_of x).level ≤ suc l) × ReadsPart ws d (level_part (suc l)) i (raise (suc l) (derivation_of x)) j
+  level-up l x h w f = (omega (arith, h), gone w (raise (suc l) (derivation_of x)) (f ∙ sym (raise-up l (derivation_of x) h)))
 
 module _ {ws : List Token} {d i j : ℕ} {n : Part} where
   pub once : {g : Forest} → ReadsPart ws d n i g j → ReadsTo ws d (Of Once n) i (node n g) j
@@ -212,7 +212,7 @@ leads-stops l (stop.TooDeep m) h = l.fails (TooDeep m) h
 leads-stops l stop.Memory h = tt
 
 -- past a list of actuals
-pub to-list : {ws : List Token} {d i j e m : ℕ} {n : Part} {F : Forest → Forest} {s : List Symbol} {l : List Shown} → Within ws d n i F e (Of Once g.Expression ∷ Of Many g.NextArgument ∷ s) j → ReadsList ws e j l m
+pub to-list : {ws : List Token} {d i j e m : ℕ} {n : Part} {F : Forest → Forest} {s : List Symbol} {l : List Derivation} → Within ws d n i F e (Of Once g.Expression ∷ Of Many g.NextArgument ∷ s) j → ReadsList ws e j l m
     → Within ws d n i (λ f. F (listed l f)) e s m
 to-list {s = s} {l = l} w r = record {
   right = w.right;

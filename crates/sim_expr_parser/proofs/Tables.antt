@@ -12,7 +12,7 @@ use Rattle.sim_tree.specs.Grammar.{Part, Row, At, Else, Once, Maybe, Many, Of, K
 use Rattle.sim_tree.specs.Reading.{terminal_at, is_too_deep, Fails, fails-part, fails-deep, Unexpected, TooDeep}
 use Rattle.sim_tree.specs.Claim.{one}
 use Rattle.std.proofs.lemmas.Bool.{false≢true}
-use Rattle.sim_tree.specs.Shown.{level_part}
+use Rattle.sim_tree.specs.Derivation.{level_part}
 use Rattle.sim_tree.specs.Tree.{limit}
 use Rattle.sim_tree.proofs.Completion.{is_same}
 use Rattle.sim_tree.proofs.Steps.{start}

@@ -1,3 +1,4 @@
+pub mod Claim
 pub mod Level
 pub mod Operators
 pub mod Parsing

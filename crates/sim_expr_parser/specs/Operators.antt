@@ -5,7 +5,7 @@ use Rattle.sim_tree.specs.declared.expr.Expr.{Expr}
 use Rattle.sim_tree.specs.declared.terminal.Terminal.TheVariants as t
 use Rattle.sim_tree.specs.Grammar.{Symbol, is, one_of, signs}
 use Rattle.sim_tree.specs.Reading.{Forest, done, node, terminal_at}
-use Rattle.sim_tree.specs.Shown.{shown, raise, level_part}
+use Rattle.sim_tree.specs.Derivation.{derivation_of, raise, level_part}
 use Rattle.sim_tree.specs.Tree.{ReadsPart}
 use Rattle.sim_expr_parser.specs.declared.operators.Operators.{Operators}
 use Rattle.sim_expr_parser.specs.declared.refusal.Stop.{Stop}
@@ -13,33 +13,33 @@ use Rattle.sim_expr_parser.specs.Level.{below_of, level_of, operators_of, tail_o
 use Rattle.sim_expr_parser.specs.Parsing.{Stops, ReadsTo}
 
 -- the operators of a level above reached, and not above top, stand at a token
-pub record Follows (ws : List Token) (i : ℕ) (reached : ℕ) (top : ℕ) (o : Operators) : Type 0 where
-  pub stand : operators_of (terminal_at ws i) ≡ Some o
+pub record Follows (tokens : List Token) (start : ℕ) (reached : ℕ) (top : ℕ) (o : Operators) : Type 0 where
+  pub stand : operators_of (terminal_at tokens start) ≡ Some o
   pub above : reached < level_of o
   pub within : level_of o ≤ top
 
 -- no such operators stand there
 abbrev pub NoneFollows : List Token → ℕ → ℕ → ℕ → Type 0
-NoneFollows ws i reached top = (o : Operators) → operators_of (terminal_at ws i) ≡ Some o → reached < level_of o → level_of o ≤ top → ⊥
+NoneFollows tokens start reached top = (o : Operators) → operators_of (terminal_at tokens start) ≡ Some o → reached < level_of o → level_of o ≤ top → ⊥
 
--- Of the levels above this one, up to top, none begins at i by a sign or by `not`.
-pub record IsPlain (ws : List Token) (i : ℕ) (level : ℕ) (top : ℕ) : Type 0 where
-  pub unsigned : level < 4 → 4 ≤ top → one_of signs (terminal_at ws i) ≡ false
-  pub affirmed : level < 7 → 7 ≤ top → is (terminal_at ws i) t.Not ≡ false
+-- Of the levels above this one, up to top, none begins at start by a sign or by `not`.
+pub record IsPlain (tokens : List Token) (start : ℕ) (level : ℕ) (top : ℕ) : Type 0 where
+  pub unsigned : level < 4 → 4 ≤ top → one_of signs (terminal_at tokens start) ≡ false
+  pub affirmed : level < 7 → 7 ≤ top → is (terminal_at tokens start) t.Not ≡ false
 
--- a part of a level from i up to j, which may be raised up to the level top
-pub record IsRead (ws : List Token) (d : ℕ) (i : ℕ) (level : ℕ) (top : ℕ) (e : Expr) (j : ℕ) : Type 0 where
-  pub low : (shown e).level ≤ level
-  pub part : ReadsPart ws d (level_part level) i (raise level (shown e)) j
-  pub plain : IsPlain ws i level top
+-- a part of a level from start up to end, which may be raised up to the level top
+pub record IsRead (tokens : List Token) (depth : ℕ) (start : ℕ) (level : ℕ) (top : ℕ) (e : Expr) (end : ℕ) : Type 0 where
+  pub low : (derivation_of e).level ≤ level
+  pub part : ReadsPart tokens depth (level_part level) start (raise level (derivation_of e)) end
+  pub plain : IsPlain tokens start level top
 
--- behind a first operand, from i up to j, its operators with their further operands, which make e of it
-pub record ReadsTail (ws : List Token) (d : ℕ) (i : ℕ) (o : Operators) (first : Expr) (e : Expr) (j : ℕ) : Type 0 where
+-- behind a first operand, from start up to end, its operators with their further operands, which make e of it
+pub record ReadsTail (tokens : List Token) (depth : ℕ) (start : ℕ) (o : Operators) (first : Expr) (e : Expr) (end : ℕ) : Type 0 where
   pub tail : Forest → Forest
-  pub reads : ReadsTo ws d (tail_of o) i tail j
-  pub level_is : (shown e).level ≡ level_of o
-  pub inside_is : (shown e).inside ≡ node (level_part (below_of o)) (raise (below_of o) (shown first)) (tail done)
+  pub reads : ReadsTo tokens depth (tail_of o) start tail end
+  pub level_is : (derivation_of e).level ≡ level_of o
+  pub inside_is : (derivation_of e).inside ≡ node (level_part (below_of o)) (raise (below_of o) (derivation_of first)) (tail done)
 
 abbrev pub GivesTail : List Token → ℕ → ℕ → Operators → Expr → Result (Expr × ℕ) Stop → Type 0
-GivesTail ws d i o first (Ok r) = ReadsTail ws d i o first r.0 r.1
-GivesTail ws d i o first (Err e) = (s : List Symbol) → Stops ws d (tail_of o ∷ s) i e
+GivesTail tokens depth start o first (Ok r) = ReadsTail tokens depth start o first r.0 r.1
+GivesTail tokens depth start o first (Err e) = (s : List Symbol) → Stops tokens depth (tail_of o ∷ s) start e

@@ -1,7 +1,7 @@
 //! The levels of operators that have one operator each.
 
 ghost use Rattle.std.specs.Prelude.{◌≡◌, ◌<◌, ◌≤◌, map};
-ghost use Rattle.sim_tree.specs.Shown.{operated, operand_shown, shown};
+ghost use Rattle.sim_tree.specs.Derivation.{operated, operand_derivation, derivation_of};
 ghost use Rattle.sim_expr_parser.specs.Level.{many, under, word, word_kind};
 
 use sim_tree::{Expr, Operand, Terminal};
@@ -64,7 +64,7 @@ impl Level {
 
     /// The node of its operands.
     pub fn node(self, first: Box<Expr>, rest: Vec<Operand>) -> Expr
-        ensures { shown result ≡ operated (under self) (word_kind self) (many self) (shown first.value) (map operand_shown rest.items) }
+        ensures { derivation_of result ≡ operated (under self) (word_kind self) (many self) (derivation_of first.value) (map operand_derivation rest.items) }
     {
         match self {
             Level::OrElse => Expr::OrElse { first, rest },

@@ -6,11 +6,12 @@ ghost use Rattle.sim_tree.specs.declared.terminal.Terminal.TheVariants as t;
 ghost use Rattle.sim_tree.specs.Grammar as g;
 ghost use Rattle.sim_tree.specs.Grammar.{Of, Once, Maybe, Many, Mark, begins_simple as spec_begins, is, one_of, signs};
 ghost use Rattle.sim_tree.specs.Reading.{terminal_at};
-ghost use Rattle.sim_tree.specs.Shown.{shown, not_mark, operand_shown, item, term_shown, factor_shown, selector_shown, arguments as arguments_shown, level_part};
+ghost use Rattle.sim_tree.specs.Derivation.{derivation_of, not_mark, operand_derivation, item, term_derivation, factor_derivation, selector_derivation, arguments as arguments_derivation, level_part};
 ghost use Rattle.sim_expr_parser.specs.Level.{many, under, word_kind, operators_of};
 ghost use Rattle.sim_expr_parser.specs.declared.operators.Operators.TheVariants as spec_operators;
 ghost use Rattle.sim_expr_parser.specs.Operators.{IsRead, GivesTail};
-ghost use Rattle.sim_expr_parser.specs.Parsing.{IsSource, Answers, GivesBoxed, GivesLevel, GivesNext, GivesRow, GivesTo, GivesList};
+ghost use Rattle.sim_expr_parser.specs.Claim.{Answers};
+ghost use Rattle.sim_expr_parser.specs.Parsing.{IsSource, GivesBoxed, GivesLevel, GivesNext, GivesRow, GivesTo, GivesList};
 
 use crate::level::Level;
 use crate::lists::add;
@@ -281,7 +282,7 @@ fn operands(
 ) -> Result<(Vec<Operand>, usize), Stop>
     requires within { start < length source.now }
     requires shallow { depth ≤ LIMIT }
-    ensures { GivesRow source.now depth (many level) start (λ v. map (λ o. item (under level) (word_kind level) (operand_shown o)) v.items) result }
+    ensures { GivesRow source.now depth (many level) start (λ v. map (λ o. item (under level) (word_kind level) (operand_derivation o)) v.items) result }
 {
     let mut at = start;
     let mut rest = Vec::new(source.allocator());
@@ -383,7 +384,7 @@ fn signed_sum(source: &Source, at: usize, depth: u32) -> Result<(Expr, usize), S
 fn terms(source: &Source, start: usize, depth: u32) -> Result<(Vec<Term>, usize), Stop>
     requires within { start < length source.now }
     requires shallow { depth ≤ LIMIT }
-    ensures { GivesRow source.now depth g.NextTerm start (λ v. map term_shown v.items) result }
+    ensures { GivesRow source.now depth g.NextTerm start (λ v. map term_derivation v.items) result }
 {
     let mut at = start;
     let mut rest = Vec::new(source.allocator());
@@ -401,7 +402,7 @@ fn terms(source: &Source, start: usize, depth: u32) -> Result<(Vec<Term>, usize)
 fn factors(source: &Source, start: usize, depth: u32) -> Result<(Vec<Factor>, usize), Stop>
     requires within { start < length source.now }
     requires shallow { depth ≤ LIMIT }
-    ensures { GivesRow source.now depth g.NextFactor start (λ v. map factor_shown v.items) result }
+    ensures { GivesRow source.now depth g.NextFactor start (λ v. map factor_derivation v.items) result }
 {
     let mut at = start;
     let mut rest = Vec::new(source.allocator());
@@ -440,7 +441,7 @@ pub fn postfix(source: &Source, at: usize, depth: u32) -> Result<(Expr, usize), 
 pub fn selectors(source: &Source, start: usize, depth: u32) -> Result<(Vec<Selector>, usize), Stop>
     requires within { start < length source.now }
     requires shallow { depth ≤ LIMIT }
-    ensures { GivesRow source.now depth g.Selection start (λ v. map selector_shown v.items) result }
+    ensures { GivesRow source.now depth g.Selection start (λ v. map selector_derivation v.items) result }
 {
     let mut at = start;
     let mut rest = Vec::new(source.allocator());
@@ -455,7 +456,7 @@ pub fn selectors(source: &Source, start: usize, depth: u32) -> Result<(Vec<Selec
 fn selector(source: &Source, at: usize, depth: u32) -> Result<Option<(Selector, usize)>, Stop>
     requires within { at < length source.now }
     requires shallow { depth ≤ LIMIT }
-    ensures { GivesNext source.now depth g.Selection at selector_shown result }
+    ensures { GivesNext source.now depth g.Selection at selector_derivation result }
 {
     let token = source.token_no(at);
     if let Some(next) = source.eat(at, Terminal::Dot) {
@@ -559,7 +560,7 @@ fn generator(source: &Source, at: usize, depth: u32) -> Result<(Expr, usize), St
 pub fn arguments(source: &Source, at: usize, depth: u32) -> Result<(Vec<Expr>, usize), Stop>
     requires within { at < length source.now }
     requires shallow { depth ≤ LIMIT }
-    ensures { GivesTo source.now depth (Of Maybe g.Arguments) at (λ v. arguments_shown (map shown v.items)) result }
+    ensures { GivesTo source.now depth (Of Maybe g.Arguments) at (λ v. arguments_derivation (map derivation_of v.items)) result }
 {
     let Some(next) = source.eat(at, Terminal::Open) else {
         return Ok((Vec::new(source.allocator()), at));

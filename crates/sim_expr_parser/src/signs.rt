@@ -5,7 +5,7 @@ ghost use Rattle.std.specs.Prelude.{◌≡◌, ◌<◌, false, length, MatchOpti
 ghost use Rattle.sim_tree.specs.Grammar.{one_of, relations, signs};
 ghost use Rattle.sim_tree.specs.Reading.{terminal_at};
 ghost use Rattle.sim_tree.specs.Terminal.{terminal_of};
-ghost use Rattle.sim_tree.specs.Shown.{sign_kind, multiplication_kind, relation_kind, membership_kind};
+ghost use Rattle.sim_tree.specs.Derivation.{sign_kind, multiplication_kind, relation_kind, membership_kind};
 ghost use Rattle.sim_expr_parser.specs.Parsing.{Took, GivesSign, multiplications, tests};
 
 use crate::source::Source;

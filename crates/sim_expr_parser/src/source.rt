@@ -5,7 +5,7 @@ ghost use Rattle.std.specs.Prelude.{◌≡◌, ◌+◌, ◌^◌, ◌<◌, ℕ, t
 ghost use Rattle.sim_tree.specs.Grammar.{is, just, Kept};
 ghost use Rattle.sim_tree.specs.declared.terminal.Terminal.TheVariants as t;
 ghost use Rattle.sim_tree.specs.Reading.{terminal_at};
-ghost use Rattle.sim_tree.specs.Shown.{identifier};
+ghost use Rattle.sim_tree.specs.Derivation.{identifier};
 ghost use Rattle.sim_expr_parser.specs.Parsing.{IsSource, GivesTo, GivesConstant};
 
 use crate::refusal::Stop;

@@ -1,9 +1,9 @@
 -- A token put behind others meets the last of them alone.
-use Rattle.std.proofs.Common.{◌≡◌, ◌≤◌, ◌+◌, List, [], ◌∷◌, ◌++◌, Option, Some, None, length, refl, ap, arith, ◌∙◌}
+use Rattle.std.proofs.Common.{◌≡◌, ◌≤◌, ◌+◌, ◌-◌, List, [], ◌∷◌, ◌++◌, Option, Some, None, length, slice_get, suc, false, refl, sym, ap, arith, ◌∙◌}
 use Rattle.sim_base.specs.declared.token.Token.{Token}
 use Rattle.sim_base.specs.declared.token.TokenKind.{TokenKind}
 use Rattle.sim_base.specs.declared.token.TokenKind.TheVariants as k
-use Rattle.sim_lexer.specs.Scanning.{pair_of}
+use Rattle.sim_lexer.specs.Scanning.{last_may_join, may_join, pair_of}
 use Rattle.sim_lexer.specs.Spelling.{joined_kind, neighbours, with_next}
 use Rattle.sim_lexer.specs.declared.joining.Pair.TheVariants.{One, Two}
 
@@ -55,3 +55,23 @@ pub few : (tokens : List Token) (next : Token) → length (with_next tokens next
 few [] next = omega arith
 few (last ∷ []) next = omega (arith, few_neighbours (joined_kind last.kind next.kind) last next)
 few (first ∷ second ∷ rest) next = omega (arith, few (second ∷ rest) next)
+
+-- a token stands behind others as it is where the last of them is of no kind that is joined
+
+pub last_of : (tokens : List Token) (last : Token) → Some last ≡ slice_get tokens (length tokens - 1) → may_join last.kind ≡ last_may_join tokens
+last_of [] last is = cc
+last_of (first ∷ []) last is = let same : last ≡ first = cc in ap (λ (t : Token). may_join t.kind) same
+last_of (first ∷ second ∷ rest) last is =
+    let at : length (first ∷ second ∷ rest) - 1 ≡ suc (length (second ∷ rest) - 1) = omega arith in
+    last_of (second ∷ rest) last (is ∙ ap (slice_get (first ∷ second ∷ rest)) at)
+
+not_joined : (kind next : TokenKind) → may_join kind ≡ false → joined_kind kind next ≡ None
+not_joined (k.Text bytes) next other = cc
+not_joined k.And next other = cc
+not_joined k.Or next other = cc
+not_joined _ next other = refl
+
+pub plain_behind : (tokens : List Token) (next : Token) → last_may_join tokens ≡ false → tokens ++ next ∷ [] ≡ with_next tokens next
+plain_behind [] next other = refl
+plain_behind (last ∷ []) next other = sym (ap (λ made. neighbours made last next) (not_joined last.kind next.kind other))
+plain_behind (first ∷ second ∷ rest) next other = ap (λ (tokens : List Token). first ∷ tokens) (plain_behind (second ∷ rest) next other)

@@ -4,6 +4,7 @@ pub mod JoiningLemmas
 pub mod Lines
 pub mod LongestSign
 pub mod LongestWords
+pub mod LowerWords
 pub mod NoEnd
 pub mod Numbers
 pub mod OneAnswer

@@ -1,11 +1,11 @@
 -- How the code hands on what it has scanned.
-use Rattle.std.specs.Prelude.{ℕ, ◌≡◌, ◌+◌, ◌<◌, ◌≤◌, List, [], ◌∷◌, Option, Some, None, Bool, true, false, drop, length, nat_eq, slice_index, if◌then◌else◌}
+use Rattle.std.specs.Prelude.{ℕ, ◌≡◌, ◌+◌, ◌<◌, ◌≤◌, List, [], ◌∷◌, Option, Some, None, Bool, true, false, drop, length, nat_eq, not, slice_index, if◌then◌else◌}
 use Rattle.std.specs.List.{fold}
 use Rattle.sim_base.specs.declared.rule.Rule.TheVariants as x
 use Rattle.sim_base.specs.declared.token.Token.{Token}
 use Rattle.sim_base.specs.declared.token.TokenKind.{TokenKind}
 use Rattle.sim_base.specs.declared.token.TokenKind.TheVariants as k
-use Rattle.sim_lexer.specs.Bytes.{is_line_feed, is_text_byte}
+use Rattle.sim_lexer.specs.Bytes.{is_between, is_line_feed, is_text_byte}
 use Rattle.sim_lexer.specs.Constants.{Code, code_form}
 use Rattle.sim_lexer.specs.EndComments.{Spot, LineStart, Elsewhere}
 use Rattle.sim_lexer.specs.Piece.{Piece, Separator, Lexeme, Quote, Fault}
@@ -89,3 +89,20 @@ IsPieceOf Bad all = Unit {0}
 abbrev pub pair_of : Option TokenKind → TokenKind → TokenKind → Pair
 pair_of None first next = Two first next
 pair_of (Some kind) first next = One kind
+
+-- a token of this kind may be one with the next
+abbrev pub may_join : TokenKind → Bool
+may_join (k.Text bytes) = true
+may_join k.And = true
+may_join k.Or = true
+may_join kind = false
+
+abbrev pub last_may_join : List Token → Bool
+last_may_join [] = false
+last_may_join (last ∷ []) = may_join last.kind
+last_may_join (first ∷ second ∷ rest) = last_may_join (second ∷ rest)
+
+-- ---- words
+
+abbrev pub is_no_capital : ℕ → Bool
+is_no_capital byte = not (is_between 65 90 byte)

@@ -1,9 +1,9 @@
 //! What stands in front of the rest of a source: a separator, a lexeme or a broken rule.
 ghost use Rattle.std.specs.Prelude.{◌≡◌, ◌+◌, ◌<◌, ◌≤◌, ◌^◌, length, nat_eq, slice_get, IfOk, IfSome, Some};
-ghost use Rattle.std.specs.List.{position, prefix_len};
+ghost use Rattle.std.specs.List.{position, prefix_len, take_while};
 ghost use Rattle.sim_lexer.specs.Bytes.{is_word_byte};
 ghost use Rattle.sim_lexer.specs.Pieces.{begun_by, comment, comment_behind, lower_word, percent_line, piece, word, word_kind, word_lexeme, word_piece};
-ghost use Rattle.sim_lexer.specs.Scanning.{IsItem, piece_of};
+ghost use Rattle.sim_lexer.specs.Scanning.{IsItem, is_no_capital, piece_of};
 
 use crate::bytes::{is_separator, is_word_byte, line_len, word_len};
 use crate::constants::{character_item, number_item};
@@ -106,29 +106,51 @@ fn word_item(alloc: Global, rest: &[u8]) -> Result<Item, AllocError>
     requires { length rest.now < 2 ^ 62 }
     ensures item { IfOk result (λ item. word rest.now ≡ piece_of item) }
 {
-    let word = lower_word(alloc, rest)?;
-    Ok(item_of_word(word, rest))
+    let word = front_word(rest);
+    if small_len(word) == word.len() {
+        return item_of_word(alloc, word, rest);
+    }
+    let lower = lower_word(alloc, rest)?;
+    item_of_word(alloc, &lower, rest)
+}
+
+// The longest word in front.
+fn front_word(rest: &[u8]) -> &[u8]
+    ensures word { result.now ≡ take_while is_word_byte rest.now }
+{
+    rest.split_at(word_len(rest)).0
+}
+
+// How many bytes from the front on are no capital letters.
+fn small_len(word: &[u8]) -> usize
+    ensures len { result ≡ prefix_len is_no_capital word.now }
+{
+    word.iter()
+        .take_while(|byte| !byte.is_ascii_uppercase())
+        .count()
 }
 
 // The longest word in front, in lower case.
 fn lower_word(alloc: Global, rest: &[u8]) -> Result<Vec<u8>, AllocError>
     ensures word { IfOk result (λ word. word.items ≡ lower_word rest.now) }
 {
-    let word = rest.split_at(word_len(rest)).0;
-    word.iter().map(u8::to_ascii_lowercase).collect(alloc)
+    front_word(rest)
+        .iter()
+        .map(u8::to_ascii_lowercase)
+        .collect(alloc)
 }
 
-// What a word in lower case, the longest in front, is.
-fn item_of_word(word: Vec<u8>, rest: &[u8]) -> Item
+// What a word in lower case, the longest in front, is. Only an identifier takes memory.
+fn item_of_word(alloc: Global, word: &[u8], rest: &[u8]) -> Result<Item, AllocError>
     requires { length rest.now < 2 ^ 62 }
-    ensures item { word_piece word.items rest.now ≡ piece_of result }
+    ensures item { IfOk result (λ item. word_piece word.now rest.now ≡ piece_of item) }
 {
-    if word.as_slice() == b"comment".as_slice() {
-        comment_item(rest)
-    } else if is_left_out(&word) {
-        Item::Fault(Rule::WordLeftOut)
+    if word == b"comment".as_slice() {
+        Ok(comment_item(rest))
+    } else if is_left_out(word) {
+        Ok(Item::Fault(Rule::WordLeftOut))
     } else {
-        word_lexeme(word_kind(word), rest)
+        Ok(word_lexeme(word_kind(alloc, word)?, rest))
     }
 }
 
@@ -154,11 +176,11 @@ fn comment_behind(kind: &TokenKind, behind: &[u8]) -> usize
 }
 
 // A keyword or an identifier.
-fn word_kind(word: Vec<u8>) -> TokenKind
-    ensures kind { result ≡ word_kind word.items }
+fn word_kind(alloc: Global, word: &[u8]) -> Result<TokenKind, AllocError>
+    ensures kind { IfOk result (λ kind. kind ≡ word_kind word.now) }
 {
-    match keyword(&word) {
-        Some(kind) => kind,
-        None => TokenKind::Identifier(ByteString::new(word)),
+    match keyword(word) {
+        Some(kind) => Ok(kind),
+        None => Ok(TokenKind::Identifier(ByteString::new(Vec::from_slice(alloc, word)?))),
     }
 }

@@ -1,7 +1,7 @@
 //! Neighbours that are one token: text constants, `and` and `then`, `or` and `else`.
 ghost use Rattle.std.specs.Prelude.{◌≡◌, ◌++◌, IfOk, OnOk};
 ghost use Rattle.sim_base.specs.declared.token.TokenKind.TheVariants as kinds;
-ghost use Rattle.sim_lexer.specs.Scanning.{pair_of};
+ghost use Rattle.sim_lexer.specs.Scanning.{last_may_join, may_join, pair_of};
 ghost use Rattle.sim_lexer.specs.Spelling.{else_behind, joined_kind, neighbours, text_behind, then_behind, with_next};
 
 use sim_base::{ByteString, Token, TokenKind};
@@ -17,8 +17,37 @@ pub enum Pair {
 }
 
 /// Puts a token behind others, joined to the last of them where the two are one token, at the place of the first.
-#[tactic(auto, using(crate::proofs::JoiningLemmas::with_next_behind))]
 pub(crate) fn add(tokens: &mut Vec<Token>, next: Token) -> Result<(), AllocError>
+    ensures tokens { OnOk result (tokens.new.items ≡ with_next tokens.old.items next) }
+{
+    if last_may_join(tokens) {
+        join(tokens, next)
+    } else {
+        tokens.push(next)?;
+        Ok(())
+    }
+}
+
+// Whether the last token is of a kind that may be one with the next.
+fn last_may_join(tokens: &[Token]) -> bool
+    ensures answer { result ≡ last_may_join tokens.now }
+{
+    match tokens.last() {
+        Some(last) => may_join(&last.kind),
+        None => false,
+    }
+}
+
+// Whether a token of this kind may be one with the next.
+fn may_join(kind: &TokenKind) -> bool
+    ensures answer { result ≡ may_join kind.now }
+{
+    matches!(kind, TokenKind::Text(_) | TokenKind::And | TokenKind::Or)
+}
+
+// Puts a token behind others, of which the last may be one with it.
+#[tactic(auto, using(crate::proofs::JoiningLemmas::with_next_behind))]
+fn join(tokens: &mut Vec<Token>, next: Token) -> Result<(), AllocError>
     ensures tokens { OnOk result (tokens.new.items ≡ with_next tokens.old.items next) }
 {
     match tokens.pop() {

@@ -16,25 +16,25 @@ use Rattle.sim_tree.specs.Terminal.{terminal_of}
 use Rattle.sim_tree.specs.Grammar as g
 use Rattle.sim_tree.specs.Grammar.{is}
 use Rattle.sim_tree.specs.Reading.{Forest, done, leaf, place, node}
-use Rattle.sim_tree.specs.Shown.{row}
-use Rattle.sim_tree.specs.ShownProgram.{Declared, Plain, Prefixed, begun, contents, expr, next_statement, statements, stmt_shown, when_shown}
-use Rattle.sim_tree.proofs.ShownLemmas.{map-append, row-append}
-use Rattle.sim_tree.proofs.StatementLemmas.{shown-Inspect, shown-Inspect-two, shown-InspectWhen, shown-InspectWhen-two}
+use Rattle.sim_tree.specs.Derivation.{row}
+use Rattle.sim_tree.specs.ProgramDerivation.{Declared, Plain, Prefixed, begun, contents, expr, next_statement, statements, statement_derivation, when_derivation}
+use Rattle.sim_tree.proofs.DerivationLemmas.{map-append, row-append}
+use Rattle.sim_tree.proofs.StatementLemmas.{derivation-Inspect, derivation-Inspect-two, derivation-InspectWhen, derivation-InspectWhen-two}
 use Rattle.sim_parser.specs.declared.statement.Branch.TheVariants as branch
-use Rattle.sim_parser.specs.Parsing.{branch_shown, declared, statement_list}
+use Rattle.sim_parser.specs.Parsing.{branch_derivation, declared, statement_list}
 
-pub inspect_shown : (n : TokenNo) (e : Expr) (m : TokenNo) (x : Stmt) (z : TokenNo) (a : Box Stmt Global) (o : Option (Box Stmt Global)) → a.value ≡ x
-    → leaf n.0 k.Inspect (expr e (node g.Arms (leaf m.0 k.Do (node g.Statement (stmt_shown x) (place z.0 done))) (branch_shown branch.Otherwise o))) ≡ stmt_shown (s.Inspect n e m a z o)
-inspect_shown n e m x z a None h =
-    ap (λ y. leaf n.0 k.Inspect (expr e (node g.Arms (leaf m.0 k.Do (node g.Statement (stmt_shown y) (place z.0 done))) done))) (sym h) ∙ sym (shown-Inspect n e m a z)
-inspect_shown n e m x z a (Some o) h =
-    ap (λ y. leaf n.0 k.Inspect (expr e (node g.Arms (leaf m.0 k.Do (node g.Statement (stmt_shown y) (place z.0 done))) (node g.OtherwiseBranch (node g.Statement (stmt_shown o.value) done) done)))) (sym h)
-    ∙ sym (shown-Inspect-two n e m a z o)
+pub inspect_derivation : (n : TokenNo) (e : Expr) (m : TokenNo) (x : Stmt) (z : TokenNo) (a : Box Stmt Global) (o : Option (Box Stmt Global)) → a.value ≡ x
+    → leaf n.0 k.Inspect (expr e (node g.Arms (leaf m.0 k.Do (node g.Statement (statement_derivation x) (place z.0 done))) (branch_derivation branch.Otherwise o))) ≡ statement_derivation (s.Inspect n e m a z o)
+inspect_derivation n e m x z a None h =
+    ap (λ y. leaf n.0 k.Inspect (expr e (node g.Arms (leaf m.0 k.Do (node g.Statement (statement_derivation y) (place z.0 done))) done))) (sym h) ∙ sym (derivation-Inspect n e m a z)
+inspect_derivation n e m x z a (Some o) h =
+    ap (λ y. leaf n.0 k.Inspect (expr e (node g.Arms (leaf m.0 k.Do (node g.Statement (statement_derivation y) (place z.0 done))) (node g.OtherwiseBranch (node g.Statement (statement_derivation o.value) done) done)))) (sym h)
+    ∙ sym (derivation-Inspect-two n e m a z o)
 
-pub inspect_when_shown : (n : TokenNo) (e : Expr) (v : Vec When Global) (o : Option (Box Stmt Global))
-    → leaf n.0 k.Inspect (expr e (node g.Arms (row g.WhenArm (map when_shown v.items) done) (branch_shown branch.Otherwise o))) ≡ stmt_shown (s.InspectWhen n e v o)
-inspect_when_shown n e v None = sym (shown-InspectWhen n e v)
-inspect_when_shown n e v (Some o) = sym (shown-InspectWhen-two n e v o)
+pub inspect_when_derivation : (n : TokenNo) (e : Expr) (v : Vec When Global) (o : Option (Box Stmt Global))
+    → leaf n.0 k.Inspect (expr e (node g.Arms (row g.WhenArm (map when_derivation v.items) done) (branch_derivation branch.Otherwise o))) ≡ statement_derivation (s.InspectWhen n e v o)
+inspect_when_derivation n e v None = sym (derivation-InspectWhen n e v)
+inspect_when_derivation n e v (Some o) = sym (derivation-InspectWhen-two n e v o)
 
 -- one more declaration
 pub declared-append : (ds : List Declared) (x : Declared) (f : Forest) → declared (ds ++ x ∷ []) f ≡ declared ds (declared (x ∷ []) f)
@@ -52,12 +52,12 @@ contents_declared (Prefixed y i p ∷ ds) fs end =
 
 -- one more statement
 pub statements-more : (xs ys : List Stmt) (y : Stmt) (f : Forest) → 0 < length xs → ys ≡ xs ++ y ∷ []
-    → statement_list (map stmt_shown xs) (node g.NextStatement (next_statement (stmt_shown y)) f) ≡ statement_list (map stmt_shown ys) f
+    → statement_list (map statement_derivation xs) (node g.NextStatement (next_statement (statement_derivation y)) f) ≡ statement_list (map statement_derivation ys) f
 statements-more [] ys y f some e = absurd (omega (arith, some))
 statements-more (x ∷ xs) ys y f some e =
-    sym (ap (λ l. statement_list (map stmt_shown l) f) e ∙ ap (λ l. node g.Statement (stmt_shown x) (row g.NextStatement (map next_statement l) f)) (map-append stmt_shown xs y)
-    ∙ ap (λ l. node g.Statement (stmt_shown x) (row g.NextStatement l f)) (map-append next_statement (map stmt_shown xs) (stmt_shown y))
-    ∙ ap (node g.Statement (stmt_shown x)) (row-append g.NextStatement (map next_statement (map stmt_shown xs)) (next_statement (stmt_shown y)) f))
+    sym (ap (λ l. statement_list (map statement_derivation l) f) e ∙ ap (λ l. node g.Statement (statement_derivation x) (row g.NextStatement (map next_statement l) f)) (map-append statement_derivation xs y)
+    ∙ ap (λ l. node g.Statement (statement_derivation x) (row g.NextStatement l f)) (map-append next_statement (map statement_derivation xs) (statement_derivation y))
+    ∙ ap (node g.Statement (statement_derivation x)) (row-append g.NextStatement (map next_statement (map statement_derivation xs)) (next_statement (statement_derivation y)) f))
 
 -- the first statement of a block, where an identifier begins it and where none does
 pub begun_named : (x : ℕ) (kind : TokenKind) (f h : Forest) → is (terminal_of kind) t.Identifier ≡ true → begun (leaf x kind f) h ≡ leaf x kind (node g.AfterIdentifier (node g.StatementOfIdentifier f h) done)

@@ -11,8 +11,8 @@ use Rattle.sim_tree.specs.Grammar as g
 use Rattle.sim_tree.specs.Grammar.{Part, Symbol, Of, Once, Maybe, Many, Kept, Mark, Any, Here, is, one_of, just, rows, right_side, begins_statement, types}
 use Rattle.sim_tree.specs.Reading.{Forest, done, leaf, place, node, kind_at, terminal_at, inside_depth, is_too_deep, Reads, reads-done, reads-kept, reads-mark, reads-any, reads-none, reads-here, reads-part, reads-skip, Fails, Fault, Unexpected, TooDeep, fails-kept, fails-part, fails-deep, fails-inside, after-kept, after-here, after-part, after-skip}
 use Rattle.sim_tree.specs.Claim.{one}
-use Rattle.sim_tree.specs.Shown.{row}
-use Rattle.sim_tree.specs.ShownProgram.{Declared, begun, next_statement, statements}
+use Rattle.sim_tree.specs.Derivation.{row}
+use Rattle.sim_tree.specs.ProgramDerivation.{Declared, begun, next_statement, statements}
 use Rattle.sim_tree.specs.Tree.{limit, ReadsPart}
 use Rattle.sim_tree.proofs.Follow.{each_row}
 use Rattle.sim_tree.proofs.Completion.{row_get}
@@ -130,7 +130,7 @@ forward e (reads-mark h r) = absurd (false≢true e)
 forward e (reads-any h r) = absurd (false≢true e)
 forward e (reads-none h r) = absurd (false≢true e)
 forward e (reads-here r) = absurd (false≢true e)
-forward {ws} e (reads-part {i = i} {t = Once} {n = n} {right = right} b sh r q) = omega (arith, forward (inside_takes n ws i right e b) r, reads_ahead limit ws q)
+forward {ws} e (reads-part {start = i} {t = Once} {n = n} {right = right} b sh r q) = omega (arith, forward (inside_takes n ws i right e b) r, reads_ahead limit ws q)
 forward e (reads-part {t = Maybe} b sh r q) = absurd (false≢true e)
 forward e (reads-part {t = Many} b sh r q) = absurd (false≢true e)
 forward e (reads-skip {t = Once} b may r) = absurd (false≢true may)

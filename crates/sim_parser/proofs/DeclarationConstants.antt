@@ -16,7 +16,7 @@ use Rattle.sim_tree.specs.Grammar as g
 use Rattle.sim_tree.specs.Grammar.{Symbol, Kept, is, one_of, just, signs, right_side}
 use Rattle.sim_tree.specs.Reading.{done, leaf, kind_at, terminal_at, Fails, fails-kept, fails-part, Unexpected}
 use Rattle.sim_tree.specs.Claim.{one}
-use Rattle.sim_tree.specs.ShownProgram.{constant_shown}
+use Rattle.sim_tree.specs.ProgramDerivation.{constant_derivation}
 use Rattle.sim_tree.specs.Tree.{limit, ReadsPart, IsEnded}
 use Rattle.sim_expr_parser.specs.declared.refusal.Stop.TheVariants as stop
 use Rattle.sim_expr_parser.specs.Parsing.{GivesSign, ReadsTo, Took}
@@ -77,20 +77,20 @@ reads_plain ws d i j None n kind within h none e took =
 reads_plain ws d i j (Some s) n kind within h none e took = absurd (false≢true (sym none))
 
 pub reads_integer : (ws : List Token) (d i j : ℕ) (s : Option LeadingSign) (n : TokenNo) (v : ℤ) → IsEnded ws → i < length ws → j < length ws → GivesSign ws i s j → n.0 ≡ j → kind_at ws j ≡ k.Integer v
-    → ReadsPart ws d g.Constant i (constant_shown (constant.Integer s n v)) (j + 1)
+    → ReadsPart ws d g.Constant i (constant_derivation (constant.Integer s n v)) (j + 1)
 unfolding is
 reads_integer ws d i j None n v ended within there h e kind =
     reads_plain ws d i j None n.0 (k.Integer v) within h refl e (took_kind ws j constants (k.Integer v) ended there kind refl refl refl)
 reads_integer ws d i j (Some s) n v ended within there h e kind =
     gone (to (to (opened ws d i g.Constant signed_symbols refl (constant_row (terminal_at ws i) true (one_of constants (terminal_at ws i)) h.0.among refl) within) (kept s.token.0 h.1 h.0))
-    (kept n.0 e (took_kind ws j (just t.Integer) (k.Integer v) ended there kind refl refl refl))) (constant_shown (constant.Integer (Some s) n v)) refl
+    (kept n.0 e (took_kind ws j (just t.Integer) (k.Integer v) ended there kind refl refl refl))) (constant_derivation (constant.Integer (Some s) n v)) refl
 
 -- a constant without a sign, as the code makes it
 pub reads_made : (ws : List Token) (d i j : ℕ) (s : Option LeadingSign) (n : TokenNo) (x kind : TokenKind) (e y : Constant) → IsEnded ws → i < length ws → j < length ws → GivesSign ws i s j → is_some s ≡ false
-    → x ≡ kind_at ws j → x ≡ kind → n.0 ≡ j → e ≡ y → constant_shown y ≡ leaf n.0 kind done → one_of constants (terminal_of kind) ≡ true → is t.EndOfSource (terminal_of kind) ≡ false
-    → is (terminal_of kind) (terminal_of kind) ≡ true → ReadsPart ws d g.Constant i (constant_shown e) (j + 1)
+    → x ≡ kind_at ws j → x ≡ kind → n.0 ≡ j → e ≡ y → constant_derivation y ≡ leaf n.0 kind done → one_of constants (terminal_of kind) ≡ true → is t.EndOfSource (terminal_of kind) ≡ false
+    → is (terminal_of kind) (terminal_of kind) ≡ true → ReadsPart ws d g.Constant i (constant_derivation e) (j + 1)
 reads_made ws d i j s n x kind e y ended within there h none read is_kind number same shape among no_end self =
-    subst (λ z. ReadsPart ws d g.Constant i z (j + 1)) (sym (ap constant_shown same ∙ shape))
+    subst (λ z. ReadsPart ws d g.Constant i z (j + 1)) (sym (ap constant_derivation same ∙ shape))
     (reads_plain ws d i j s n.0 kind within h none number (took_kind ws j constants kind ended there (sym read ∙ is_kind) among no_end self))
 
 -- no integer behind a sign

@@ -18,10 +18,10 @@ use Rattle.sim_tree.specs.Grammar as g
 use Rattle.sim_tree.specs.Grammar.{Part, Symbol, Kept, Mark, Of, Once, Maybe, Many, is, one_of, just, types, right_side, is_counted}
 use Rattle.sim_tree.specs.Reading.{Forest, done, leaf, node, terminal_at, reads-done, reads-skip, Fails, fails-part, fails-deep, fails-inside, after-part, after-skip, Fault, Unexpected, TooDeep}
 use Rattle.sim_tree.specs.Claim.{one}
-use Rattle.sim_tree.specs.Shown.{row}
-use Rattle.sim_tree.specs.ShownProgram.{ids, heading_shown, mode_shown, specification_shown, virtual_shown, virtuals_shown, protecting}
+use Rattle.sim_tree.specs.Derivation.{row}
+use Rattle.sim_tree.specs.ProgramDerivation.{ids, heading_derivation, mode_derivation, specification_derivation, virtual_derivation, virtuals_derivation, protecting}
 use Rattle.sim_tree.specs.Tree.{limit, ReadsPart}
-use Rattle.sim_tree.proofs.ShownLemmas.{row-append, map-append}
+use Rattle.sim_tree.proofs.DerivationLemmas.{row-append, map-append}
 use Rattle.sim_tree.proofs.Steps.{Leads, start, past-one, leads-as}
 use Rattle.sim_expr_parser.specs.declared.refusal.Stop.{Stop}
 use Rattle.sim_expr_parser.specs.declared.refusal.Stop.TheVariants as stop
@@ -135,11 +135,11 @@ pub heading_open : right_side g.Heading t.Open ≡ Some parameters_row
 unfolding right_side is
 heading_open = refl
 
-pub heading-none : (ps : List Identifier) (ms : List ModePart) (ss : List Specification) → ps ≡ [] → ms ≡ [] → ss ≡ [] → done ≡ heading_shown ps ms ss
-heading-none ps ms ss a b c = sym (ap (λ z. heading_shown z ms ss) a ∙ ap (λ z. heading_shown [] z ss) b ∙ ap (heading_shown [] []) c)
+pub heading-none : (ps : List Identifier) (ms : List ModePart) (ss : List Specification) → ps ≡ [] → ms ≡ [] → ss ≡ [] → done ≡ heading_derivation ps ms ss
+heading-none ps ms ss a b c = sym (ap (λ z. heading_derivation z ms ss) a ∙ ap (λ z. heading_derivation [] z ss) b ∙ ap (heading_derivation [] []) c)
 
 pub heading-some : (ps : List Identifier) (ms : List ModePart) (ss : List Specification) → 0 < length ss
-    → node g.Identifiers (ids ps) (row g.Mode (map mode_shown ms) (row g.Specification (map specification_shown ss) done)) ≡ heading_shown ps ms ss
+    → node g.Identifiers (ids ps) (row g.Mode (map mode_derivation ms) (row g.Specification (map specification_derivation ss) done)) ≡ heading_derivation ps ms ss
 heading-some ps ms [] h = absurd (omega (arith, h))
 heading-some [] [] (x ∷ ss) h = refl
 heading-some [] (y ∷ ms) (x ∷ ss) h = refl
@@ -188,7 +188,7 @@ pub virtual_procedure : right_side g.VirtualSpecification t.Procedure ≡ Some p
 unfolding right_side is
 virtual_procedure = refl
 
-pub virtuals-some : (vs : List VirtualSpecification) (f : Forest) → 0 < length vs → node g.Virtuals (row g.VirtualSpecification (map virtual_shown vs) done) f ≡ virtuals_shown vs f
+pub virtuals-some : (vs : List VirtualSpecification) (f : Forest) → 0 < length vs → node g.Virtuals (row g.VirtualSpecification (map virtual_derivation vs) done) f ≡ virtuals_derivation vs f
 virtuals-some [] f h = absurd (omega (arith, h))
 virtuals-some (v ∷ vs) f h = refl
 

@@ -6,10 +6,10 @@ use Rattle.sim_base.specs.declared.token.Token.{Token}
 use Rattle.sim_tree.specs.declared.terminal.Terminal.TheVariants as t
 use Rattle.sim_tree.specs.Grammar.{Part, Symbol, Of, Once, Many, is, just, right_side}
 use Rattle.sim_tree.specs.Reading.{Forest, done, node, terminal_at, Reads, reads-done, reads-skip, after-skip}
-use Rattle.sim_tree.specs.Shown.{row}
+use Rattle.sim_tree.specs.Derivation.{row}
 use Rattle.sim_tree.specs.Tree.{limit}
 use Rattle.sim_tree.proofs.Steps.{Leads, past-one, leads-as}
-use Rattle.sim_tree.proofs.ShownLemmas.{row-append, map-append}
+use Rattle.sim_tree.proofs.DerivationLemmas.{row-append, map-append}
 use Rattle.sim_expr_parser.specs.declared.refusal.Stop.{Stop}
 use Rattle.sim_expr_parser.specs.Parsing.{Stops, ReadsTo, GivesTo}
 use Rattle.sim_expr_parser.proofs.Steps.{Within, opened, to, marked, gone, stops-in, leads-stops, once, once-stops, passed}

@@ -13,8 +13,8 @@ use Rattle.sim_tree.specs.Terminal.{terminal_of}
 use Rattle.sim_tree.specs.Grammar as g
 use Rattle.sim_tree.specs.Grammar.{Part, Once, Maybe, Many, Kept, Of, Symbol, is, one_of, right_side}
 use Rattle.sim_tree.specs.Reading.{Forest, done, leaf, node, kind_at, terminal_at, Reads, reads-kept, reads-part, reads-skip}
-use Rattle.sim_tree.specs.Shown.{raise, row, shown}
-use Rattle.sim_tree.specs.ShownProgram.{acted, assigned_shown, assigning}
+use Rattle.sim_tree.specs.Derivation.{raise, row, derivation_of}
+use Rattle.sim_tree.specs.ProgramDerivation.{acted, assigned_derivation, assigning}
 use Rattle.sim_tree.specs.Tree.{limit, ReadsPart}
 use Rattle.sim_expr_parser.proofs.Tables.{only, by_test, this_symbols, new_symbols, open_symbols, primary_this, primary_new, primary_open}
 
@@ -57,7 +57,7 @@ no_timing a at delay before after =
     ∙ ap (λ x. choice false false x (is a t.After)) before
     ∙ ap (λ x. choice false false false x) after
 
-pub assigning-some : (e : Expr) (xs : List Assigned) → 0 < length xs → assigning e xs ≡ acted (raise 1 (shown e)) (row g.Assigned (map assigned_shown xs) done)
+pub assigning-some : (e : Expr) (xs : List Assigned) → 0 < length xs → assigning e xs ≡ acted (raise 1 (derivation_of e)) (row g.Assigned (map assigned_derivation xs) done)
 assigning-some e [] h = absurd (omega (arith, h))
 assigning-some e (x ∷ xs) h = refl
 

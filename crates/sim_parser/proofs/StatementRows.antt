@@ -10,7 +10,7 @@ use Rattle.sim_tree.specs.Grammar as g
 use Rattle.sim_tree.specs.Grammar.{Symbol, Of, Once, Maybe, Many, Kept, Mark, Here, is, one_of, just, right_side, is_counted}
 use Rattle.sim_tree.specs.Reading.{done, place, terminal_at, is_empty, is_too_deep, reads-done, reads-here, Fails, fails-deep, fails-inside, TooDeep}
 use Rattle.sim_tree.specs.Claim.{one}
-use Rattle.sim_tree.specs.ShownProgram.{stmt_shown}
+use Rattle.sim_tree.specs.ProgramDerivation.{statement_derivation}
 use Rattle.sim_tree.specs.Tree.{limit, ReadsPart}
 use Rattle.sim_expr_parser.specs.declared.refusal.Stop.{Stop}
 use Rattle.sim_expr_parser.specs.declared.refusal.Stop.TheVariants as stop
@@ -135,12 +135,12 @@ stops_inside ws d i r lt (stop.TooDeep m) h = fails-inside r.row (shallow_statem
 stops_inside ws d i r lt stop.Memory h = tt
 
 -- the inside of a statement, read by its row
-pub inside : (ws : List Token) (d i : ℕ) (right : List Symbol) → right_side g.Statement (terminal_at ws i) ≡ Some right → (r : Result (Stmt × ℕ) Stop) → GivesAll ws d right i stmt_shown r → GivesInside ws d i r
+pub inside : (ws : List Token) (d i : ℕ) (right : List Symbol) → right_side g.Statement (terminal_at ws i) ≡ Some right → (r : Result (Stmt × ℕ) Stop) → GivesAll ws d right i statement_derivation r → GivesInside ws d i r
 inside ws d i right e (Ok x) h = record { right = right; begins = e; all = h }
 inside ws d i right e (Err x) h = λ other f. subst (λ z. Stops ws d z i x) (same_row (sym e ∙ f)) h
 
 -- a statement from its inside
-pub from_inside : (ws : List Token) (d i : ℕ) → one_of begins (terminal_at ws i) ≡ true → d < 200 → (r : Result (Stmt × ℕ) Stop) → GivesInside ws (d + 1) i r → GivesPart ws d g.Statement i stmt_shown r
+pub from_inside : (ws : List Token) (d i : ℕ) → one_of begins (terminal_at ws i) ≡ true → d < 200 → (r : Result (Stmt × ℕ) Stop) → GivesInside ws (d + 1) i r → GivesPart ws d g.Statement i statement_derivation r
 from_inside ws d i b lt (Ok x) h = record {
   right = h.right;
   begins = h.begins;

@@ -16,7 +16,7 @@ use Rattle.sim_expr_parser.specs.Parsing.{IsSource}
 -- the tokens of a source, of which the last one alone ends it
 pub record IsWholeSource (tokens : List Token) : Type 0 where
   pub source : IsSource tokens
-  pub only : (i : ℕ) → i < length tokens → terminal_at tokens i ≡ t.EndOfSource → i + 1 ≡ length tokens
+  pub only : (at : ℕ) → at < length tokens → terminal_at tokens at ≡ t.EndOfSource → at + 1 ≡ length tokens
 
 -- What `parse` answers: the tree that the grammar gives; or the first token with which the tokens begin no program; or the first that
 -- would begin a part nested too deeply, before which none is bad.

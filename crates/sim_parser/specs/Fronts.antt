@@ -10,7 +10,7 @@ use Rattle.sim_tree.specs.Grammar as g
 use Rattle.sim_tree.specs.Grammar.{Part, Symbol, Of, Once, Many, Mark, is, one_of, right_side, types}
 use Rattle.sim_tree.specs.Reading.{Forest, done, terminal_at}
 use Rattle.sim_tree.specs.Claim.{one}
-use Rattle.sim_tree.specs.Shown.{row}
+use Rattle.sim_tree.specs.Derivation.{row}
 use Rattle.sim_tree.specs.Tree.{ReadsPart}
 use Rattle.sim_expr_parser.specs.declared.refusal.Stop.{Stop}
 use Rattle.sim_expr_parser.specs.Parsing.{Stops}
@@ -27,21 +27,21 @@ begins_specification = t.Procedure ∷ types
 abbrev pub names_row : List Symbol
 names_row = Of Once g.Identifiers ∷ Mark t.Semicolon ∷ []
 
--- Inside a part that is read from i on, the symbols s are left from j on, and stand puts what was read in front of their derivation. j is a token.
-pub record ReadsFront (ws : List Token) (d : ℕ) (n : Part) (i : ℕ) (stand : Forest → Forest) (s : List Symbol) (j : ℕ) : Type 0 where
-  pub reads : (f : Forest) (m : ℕ) → ReadsAll ws d s j f m → ReadsPart ws d n i (stand f) m
-  pub fails : (e : Stop) → Stops ws d s j e → (rest : List Symbol) (times : g.Times) → Stops ws d (Of times n ∷ rest) i e
-  pub ahead : i ≤ j
-  pub within : j < length ws
+-- Inside a part that is read from start on, the symbols s are left from end on, and stand puts what was read in front of their derivation. end is a token.
+pub record ReadsFront (tokens : List Token) (depth : ℕ) (n : Part) (start : ℕ) (stand : Forest → Forest) (s : List Symbol) (end : ℕ) : Type 0 where
+  pub reads : (f : Forest) (m : ℕ) → ReadsAll tokens depth s end f m → ReadsPart tokens depth n start (stand f) m
+  pub fails : (e : Stop) → Stops tokens depth s end e → (rest : List Symbol) (times : g.Times) → Stops tokens depth (Of times n ∷ rest) start e
+  pub ahead : start ≤ end
+  pub within : end < length tokens
 
 abbrev pub GivesFront : {A : Type 0} → List Token → ℕ → Part → ℕ → (A → Forest → Forest) → List Symbol → Result (A × ℕ) Stop → Type 0
-GivesFront ws d n i view s (Ok r) = ReadsFront ws d n i (view r.0) s r.1
-GivesFront ws d n i view s (Err e) = Stops ws d (one n) i e
+GivesFront tokens depth n start view s (Ok r) = ReadsFront tokens depth n start (view r.0) s r.1
+GivesFront tokens depth n start view s (Err e) = Stops tokens depth (one n) start e
 
 -- a part that stands there at least once
 abbrev pub GivesSome : {A : Type 0} → List Token → ℕ → Part → ℕ → (A → Forest) → Result (Vec A Global × ℕ) Stop → Type 0
-GivesSome ws d n i view (Ok r) = (0 < length r.0.items) × ReadsAll ws d (Of Once n ∷ Of Many n ∷ []) i (row n (map view r.0.items) done) r.1
-GivesSome ws d n i view (Err e) = Stops ws d (Of Once n ∷ Of Many n ∷ []) i e
+GivesSome tokens depth n start view (Ok r) = (0 < length r.0.items) × ReadsAll tokens depth (Of Once n ∷ Of Many n ∷ []) start (row n (map view r.0.items) done) r.1
+GivesSome tokens depth n start view (Err e) = Stops tokens depth (Of Once n ∷ Of Many n ∷ []) start e
 
 -- this part begins as a specification does
 abbrev pub BeginsSpecified : Part → Type 0
@@ -49,9 +49,9 @@ BeginsSpecified n = (a : Terminal) → (one_of begins_specification a ≡ true �
 
 -- a reader reads this part wherever it is called
 abbrev pub PartEach : {A : Type 0} → List Token → ℕ → Part → (A → Forest) → (ℕ → Result (A × ℕ) Stop → Type 0) → Type 0
-PartEach {A} ws d n view post = (i : ℕ) (r : Result (A × ℕ) Stop) → i < length ws → post i r → GivesPart ws d n i view r
+PartEach {A} tokens depth n view post = (start : ℕ) (r : Result (A × ℕ) Stop) → start < length tokens → post start r → GivesPart tokens depth n start view r
 
 -- the token of a word, where it stands there, and the next index
 abbrev pub GivesWord : List Token → ℕ → Terminal → Option TokenNo → ℕ → Type 0
-GivesWord ws i a None j = (is (terminal_at ws i) a ≡ false) × (j ≡ i)
-GivesWord ws i a (Some x) j = (is (terminal_at ws i) a ≡ true) × (j ≡ i + 1) × (j < length ws) × (x.0 ≡ i)
+GivesWord tokens start a None end = (is (terminal_at tokens start) a ≡ false) × (end ≡ start)
+GivesWord tokens start a (Some x) end = (is (terminal_at tokens start) a ≡ true) × (end ≡ start + 1) × (end < length tokens) × (x.0 ≡ start)

@@ -8,7 +8,7 @@ use Rattle.sim_tree.specs.Grammar as g
 use Rattle.sim_tree.specs.Grammar.{Symbol, Of, Once, Mark, Any}
 use Rattle.sim_tree.specs.Reading.{Forest, done, node, Reads, Fails, Fault}
 use Rattle.sim_tree.specs.Claim.{one}
-use Rattle.sim_tree.specs.ShownProgram.{prefixed}
+use Rattle.sim_tree.specs.ProgramDerivation.{prefixed}
 use Rattle.sim_tree.specs.Tree.{limit, IsTree}
 use Rattle.sim_expr_parser.specs.declared.refusal.Stop.{Stop}
 use Rattle.sim_expr_parser.specs.declared.refusal.Stop.TheVariants as stop
@@ -18,22 +18,22 @@ use Rattle.sim_expr_parser.specs.Parsing.{Stops}
 abbrev pub program_rest : List Symbol
 program_rest = Of Once g.Compound ∷ Any t.Semicolon ∷ Mark t.EndOfSource ∷ []
 
--- the prefix is read up to j, and the program is what stands there then
-pub record ReadsPrefix (ws : List Token) (prefix : Option BlockPrefix) (j : ℕ) : Type 0 where
-  pub reads : (f : Forest) (m : ℕ) → Reads limit ws 0 program_rest j f m → Reads limit ws 0 (one g.Program) 0 (node g.Program (prefixed prefix f) done) m
-  pub fails : (e : Fault) → Fails limit ws 0 program_rest j e → Fails limit ws 0 (one g.Program) 0 e
-  pub within : j < length ws
+-- the prefix is read up to end, and the program is what stands there then
+pub record ReadsPrefix (tokens : List Token) (prefix : Option BlockPrefix) (end : ℕ) : Type 0 where
+  pub reads : (f : Forest) (m : ℕ) → Reads limit tokens 0 program_rest end f m → Reads limit tokens 0 (one g.Program) 0 (node g.Program (prefixed prefix f) done) m
+  pub fails : (e : Fault) → Fails limit tokens 0 program_rest end e → Fails limit tokens 0 (one g.Program) 0 e
+  pub within : end < length tokens
 
 -- a token is named, if one is
 abbrev pub NamesToken : List Token → Stop → Type 0
-NamesToken ws (stop.Unexpected k) = k < length ws
-NamesToken ws (stop.TooDeep k) = k < length ws
-NamesToken ws stop.Memory = Unit {0}
+NamesToken tokens (stop.Unexpected k) = k < length tokens
+NamesToken tokens (stop.TooDeep k) = k < length tokens
+NamesToken tokens stop.Memory = Unit {0}
 
 abbrev pub GivesPrefix : List Token → Result (Option BlockPrefix × ℕ) Stop → Type 0
-GivesPrefix ws (Ok r) = ReadsPrefix ws r.0 r.1
-GivesPrefix ws (Err e) = Stops ws 0 (one g.Program) 0 e × NamesToken ws e
+GivesPrefix tokens (Ok r) = ReadsPrefix tokens r.0 r.1
+GivesPrefix tokens (Err e) = Stops tokens 0 (one g.Program) 0 e × NamesToken tokens e
 
 abbrev pub GivesProgram : List Token → Result Program Stop → Type 0
-GivesProgram ws (Ok p) = IsTree ws p
-GivesProgram ws (Err e) = Stops ws 0 (one g.Program) 0 e × NamesToken ws e
+GivesProgram tokens (Ok p) = IsTree tokens p
+GivesProgram tokens (Err e) = Stops tokens 0 (one g.Program) 0 e × NamesToken tokens e

@@ -5,10 +5,10 @@ ghost use Rattle.std.specs.Prelude.{◌≡◌, ◌≤◌, ◌<◌, ℕ, List, []
 ghost use Rattle.sim_tree.specs.Grammar as g;
 ghost use Rattle.sim_tree.specs.Grammar.{Of, Once, Many};
 ghost use Rattle.sim_tree.specs.Reading.{node};
-ghost use Rattle.sim_tree.specs.ShownProgram.{bounds_shown, constant_shown, segment_shown, segments_shown, variable_shown, variables_shown};
+ghost use Rattle.sim_tree.specs.ProgramDerivation.{bounds_derivation, constant_derivation, segment_derivation, segments_derivation, variable_derivation, variables_derivation};
 ghost use Rattle.sim_expr_parser.specs.Parsing.{GivesTo};
 ghost use Rattle.sim_parser.specs.CommaLists.{GivesItems};
-ghost use Rattle.sim_parser.specs.Parsing.{GivesAll, GivesPart};
+ghost use Rattle.sim_parser.specs.Parsing.{GivesAll, GivesPart, PartAt};
 
 use crate::lists::comma_list;
 use crate::names::identifiers;
@@ -19,15 +19,22 @@ use sim_tree::{ArraySegment, Bounds, Constant, Terminal, Variable};
 /// The variables and constants of a type, at least one, with commas between them, and the index after them.
 pub fn variables(source: &Source, start: usize) -> Result<(Vec<Variable>, usize), Stop>
     requires within { start < length source.now }
-    ensures { (d : ℕ) → GivesAll source.now d (Of Once g.Variable ∷ Of Many g.NextVariable ∷ []) start (λ v. variables_shown v.items) result }
+    ensures { (d : ℕ) → GivesAll source.now d (Of Once g.Variable ∷ Of Many g.NextVariable ∷ []) start (λ v. variables_derivation v.items) result }
 {
-    comma_list(source, start, |at| variable(source, at))
+    comma_list(
+        source,
+        start,
+        |at|
+            requires { at < length source.now }
+            ensures { PartAt source.entry.now g.Variable variable_derivation at result }
+        { variable(source, at) },
+    )
 }
 
 // A variable, or a constant.
 fn variable(source: &Source, at: usize) -> Result<(Variable, usize), Stop>
     requires within { at < length source.now }
-    ensures { (d : ℕ) → GivesPart source.now d g.Variable at variable_shown result }
+    ensures { (d : ℕ) → GivesPart source.now d g.Variable at variable_derivation result }
 {
     let (name, next) = source.identifier_at(at)?;
     let Some(next) = source.eat(next, Terminal::Equal) else {
@@ -41,7 +48,7 @@ fn variable(source: &Source, at: usize) -> Result<(Variable, usize), Stop>
 // The value of a constant.
 fn constant(source: &Source, at: usize) -> Result<(Constant, usize), Stop>
     requires within { at < length source.now }
-    ensures { (d : ℕ) → GivesPart source.now d g.Constant at constant_shown result }
+    ensures { (d : ℕ) → GivesPart source.now d g.Constant at constant_derivation result }
 {
     let (sign, next) = leading_sign(source, at);
     let token = source.token_no(next);
@@ -77,7 +84,7 @@ pub fn segments(
 ) -> Result<(Vec<ArraySegment>, usize), Stop>
     requires within { start < length source.now }
     requires shallow { depth ≤ LIMIT }
-    ensures { GivesAll source.now depth (Of Once g.ArraySegment ∷ Of Many g.NextArraySegment ∷ []) start (λ v. segments_shown v.items) result }
+    ensures { GivesAll source.now depth (Of Once g.ArraySegment ∷ Of Many g.NextArraySegment ∷ []) start (λ v. segments_derivation v.items) result }
 {
     comma_list(source, start, |at| segment(source, at, depth))
 }
@@ -86,7 +93,7 @@ pub fn segments(
 fn segment(source: &Source, at: usize, depth: u32) -> Result<(ArraySegment, usize), Stop>
     requires within { at < length source.now }
     requires shallow { depth ≤ LIMIT }
-    ensures { GivesPart source.now depth g.ArraySegment at segment_shown result }
+    ensures { GivesPart source.now depth g.ArraySegment at segment_derivation result }
 {
     let (names, next) = identifiers(source, at)?;
     let next = source.expect(next, Terminal::Open)?;
@@ -99,7 +106,7 @@ fn segment(source: &Source, at: usize, depth: u32) -> Result<(ArraySegment, usiz
 fn bounds_list(source: &Source, start: usize, depth: u32) -> Result<(Vec<Bounds>, usize), Stop>
     requires within { start < length source.now }
     requires shallow { depth ≤ LIMIT }
-    ensures { GivesItems source.now depth (Of Once g.Bounds) g.NextBounds start (λ b f. node g.Bounds (bounds_shown b) f) result }
+    ensures { GivesItems source.now depth (Of Once g.Bounds) g.NextBounds start (λ b f. node g.Bounds (bounds_derivation b) f) result }
 {
     comma_list(source, start, |at| bounds(source, at, depth))
 }
@@ -108,7 +115,7 @@ fn bounds_list(source: &Source, start: usize, depth: u32) -> Result<(Vec<Bounds>
 fn bounds(source: &Source, at: usize, depth: u32) -> Result<(Bounds, usize), Stop>
     requires within { at < length source.now }
     requires shallow { depth ≤ LIMIT }
-    ensures { GivesPart source.now depth g.Bounds at bounds_shown result }
+    ensures { GivesPart source.now depth g.Bounds at bounds_derivation result }
 {
     let (lower, next) = expression(source, at, depth)?;
     let next = source.expect(next, Terminal::Colon)?;

@@ -4,9 +4,9 @@
 ghost use Rattle.std.specs.Prelude.{◌≡◌, ◌≤◌, ◌<◌, ℕ, List, [], ◌∷◌, map, length};
 ghost use Rattle.sim_tree.specs.Grammar as g;
 ghost use Rattle.sim_tree.specs.Grammar.{Of, Once, Many};
-ghost use Rattle.sim_tree.specs.ShownProgram.{for_element_shown, for_elements as for_elements_shown, reference_element_shown, reference_elements as reference_elements_shown};
+ghost use Rattle.sim_tree.specs.ProgramDerivation.{for_element_derivation, for_elements as for_elements_derivation, reference_element_derivation, reference_elements as reference_elements_derivation};
 ghost use Rattle.sim_parser.specs.Parsing.{GivesAll, GivesPart};
-ghost use Rattle.sim_parser.specs.Elements.{for_list_shown};
+ghost use Rattle.sim_parser.specs.Elements.{for_list_derivation};
 
 use crate::lists::comma_list;
 use sim_base::TokenNo;
@@ -32,7 +32,7 @@ pub enum ForList {
 pub fn for_list(source: &Source, at: usize, depth: u32) -> Result<(ForList, usize), Stop>
     requires within { at < length source.now }
     requires shallow { depth ≤ LIMIT }
-    ensures { GivesPart source.now depth g.ForList at for_list_shown result }
+    ensures { GivesPart source.now depth g.ForList at for_list_derivation result }
 {
     let sign = source.token_no(at);
     if let Some(next) = source.eat(at, Terminal::Assign) {
@@ -48,7 +48,7 @@ pub fn for_list(source: &Source, at: usize, depth: u32) -> Result<(ForList, usiz
 fn for_elements(source: &Source, start: usize, depth: u32) -> Result<(Vec<ForElement>, usize), Stop>
     requires within { start < length source.now }
     requires shallow { depth ≤ LIMIT }
-    ensures { GivesAll source.now depth (Of Once g.ForElement ∷ Of Many g.NextForElement ∷ []) start (λ v. for_elements_shown v.items) result }
+    ensures { GivesAll source.now depth (Of Once g.ForElement ∷ Of Many g.NextForElement ∷ []) start (λ v. for_elements_derivation v.items) result }
 {
     comma_list(source, start, |at| for_element(source, at, depth))
 }
@@ -57,7 +57,7 @@ fn for_elements(source: &Source, start: usize, depth: u32) -> Result<(Vec<ForEle
 fn for_element(source: &Source, at: usize, depth: u32) -> Result<(ForElement, usize), Stop>
     requires within { at < length source.now }
     requires shallow { depth ≤ LIMIT }
-    ensures { GivesPart source.now depth g.ForElement at for_element_shown result }
+    ensures { GivesPart source.now depth g.ForElement at for_element_derivation result }
 {
     let (value, next) = expression(source, at, depth)?;
     let token = source.token_no(next);
@@ -98,7 +98,7 @@ fn reference_elements(
 ) -> Result<(Vec<ReferenceElement>, usize), Stop>
     requires within { start < length source.now }
     requires shallow { depth ≤ LIMIT }
-    ensures { GivesAll source.now depth (Of Once g.ReferenceElement ∷ Of Many g.NextReferenceElement ∷ []) start (λ v. reference_elements_shown v.items) result }
+    ensures { GivesAll source.now depth (Of Once g.ReferenceElement ∷ Of Many g.NextReferenceElement ∷ []) start (λ v. reference_elements_derivation v.items) result }
 {
     comma_list(source, start, |at| reference_element(source, at, depth))
 }
@@ -111,7 +111,7 @@ fn reference_element(
 ) -> Result<(ReferenceElement, usize), Stop>
     requires within { at < length source.now }
     requires shallow { depth ≤ LIMIT }
-    ensures { GivesPart source.now depth g.ReferenceElement at reference_element_shown result }
+    ensures { GivesPart source.now depth g.ReferenceElement at reference_element_derivation result }
 {
     let (value, next) = expression(source, at, depth)?;
     let token = source.token_no(next);

@@ -6,11 +6,11 @@ ghost use Rattle.sim_tree.specs.declared.terminal.Terminal.TheVariants as t;
 ghost use Rattle.sim_tree.specs.Grammar as g;
 ghost use Rattle.sim_tree.specs.Grammar.{Kept, Maybe, Of, Part, is, just, one_of, right_side};
 ghost use Rattle.sim_tree.specs.Reading.{Forest, terminal_at};
-ghost use Rattle.sim_tree.specs.ShownProgram.{heading_shown, mode_kind, mode_shown, protecting, protection_shown, specification_shown, specifier_shown, typed, virtual_shown, virtuals_shown};
+ghost use Rattle.sim_tree.specs.ProgramDerivation.{heading_derivation, mode_kind, mode_derivation, protecting, protection_derivation, specification_derivation, specifier_derivation, typed, virtual_derivation, virtuals_derivation};
 ghost use Rattle.sim_expr_parser.specs.Parsing.{GivesRow, GivesTo, Took};
 ghost use Rattle.sim_parser.specs.CommaLists.{IsReader};
 ghost use Rattle.sim_parser.specs.Fronts.{BeginsSpecified, GivesFront, GivesSome, GivesWord, PartEach, ReadsFront, begins_specification as specification_spec, modes, names_row};
-ghost use Rattle.sim_parser.specs.Parsing.{GivesPart};
+ghost use Rattle.sim_parser.specs.Parsing.{GivesPart, PartAt};
 
 use crate::names::{identifiers, type_name};
 use crate::words::begins_type;
@@ -35,7 +35,7 @@ pub struct Heading {
 /// The heading behind the identifier of a procedure or class, and the index after it.
 pub fn heading_at(source: &Source, at: usize) -> Result<(Heading, usize), Stop>
     requires within { at < length source.now }
-    ensures { (d : ℕ) → GivesPart source.now d g.Heading at (λ h. heading_shown h.parameters.items h.modes.items h.specifications.items) result }
+    ensures { (d : ℕ) → GivesPart source.now d g.Heading at (λ h. heading_derivation h.parameters.items h.modes.items h.specifications.items) result }
 {
     if let Some(end) = source.eat(at, Terminal::Semicolon) {
         return Ok((
@@ -78,7 +78,7 @@ fn mode_at(source: &Source, at: usize) -> Option<(Mode, usize)>
 // Each mode with its parameters.
 fn mode_parts(source: &Source, start: usize) -> Result<(Vec<ModePart>, usize), Stop>
     requires within { start < length source.now }
-    ensures { (d : ℕ) → GivesRow source.now d g.Mode start (λ v. map mode_shown v.items) result }
+    ensures { (d : ℕ) → GivesRow source.now d g.Mode start (λ v. map mode_derivation v.items) result }
 {
     let mut at = start;
     let mut parts = Vec::new(source.allocator());
@@ -124,14 +124,22 @@ fn specified_list<T: Drop, F: Fn(usize) -> Result<(T, usize), Stop>>(
 // The specifications, at least one.
 fn specifications(source: &Source, start: usize) -> Result<(Vec<Specification>, usize), Stop>
     requires within { start < length source.now }
-    ensures { (d : ℕ) → GivesSome source.now d g.Specification start specification_shown result }
+    ensures { (d : ℕ) → GivesSome source.now d g.Specification start specification_derivation result }
 {
-    specified_list(source, start, |at| specification(source, at))
+    specified_list(
+        source,
+        start,
+        |at|
+            requires { at < length source.now }
+            ensures gives { PartAt source.entry.now g.Specification specification_derivation at result }
+            ensures ahead { IfOk result (λ r. at < r.1) }
+        { specification(source, at) },
+    )
 }
 
 fn specification(source: &Source, at: usize) -> Result<(Specification, usize), Stop>
     requires within { at < length source.now }
-    ensures gives { (d : ℕ) → GivesPart source.now d g.Specification at specification_shown result }
+    ensures gives { (d : ℕ) → GivesPart source.now d g.Specification at specification_derivation result }
     ensures ahead { IfOk result (λ r. at < r.1) }
 {
     let (specifier, next) = specifier(source, at)?;
@@ -143,7 +151,7 @@ fn specification(source: &Source, at: usize) -> Result<(Specification, usize), S
 // What parameters are specified as.
 fn specifier(source: &Source, at: usize) -> Result<(Specifier, usize), Stop>
     requires within { at < length source.now }
-    ensures { (d : ℕ) → GivesFront source.now d g.Specification at specifier_shown names_row result }
+    ensures { (d : ℕ) → GivesFront source.now d g.Specification at specifier_derivation names_row result }
 {
     let token = source.token_no(at);
     if let Some(next) = source.eat(at, Terminal::Procedure) {
@@ -170,7 +178,7 @@ fn specifier(source: &Source, at: usize) -> Result<(Specifier, usize), Stop>
 /// The protection of attributes at a token, and the index after it.
 pub fn protections(source: &Source, start: usize) -> Result<(Vec<Protection>, usize), Stop>
     requires within { start < length source.now }
-    ensures { (d : ℕ) → GivesRow source.now d g.Protection start (λ v. map protection_shown v.items) result }
+    ensures { (d : ℕ) → GivesRow source.now d g.Protection start (λ v. map protection_derivation v.items) result }
 {
     let mut at = start;
     let mut list = Vec::new(source.allocator());
@@ -225,7 +233,7 @@ fn word(source: &Source, at: usize, terminal: Terminal) -> (Option<TokenNo>, usi
 /// The virtual part at a token, if there is one, and the index after it.
 pub fn virtuals(source: &Source, at: usize) -> Result<(Vec<VirtualSpecification>, usize), Stop>
     requires within { at < length source.now }
-    ensures { (d : ℕ) → GivesTo source.now d (Of Maybe g.Virtuals) at (λ v. virtuals_shown v.items) result }
+    ensures { (d : ℕ) → GivesTo source.now d (Of Maybe g.Virtuals) at (λ v. virtuals_derivation v.items) result }
 {
     let Some(next) = source.eat(at, Terminal::Virtual) else {
         return Ok((Vec::new(source.allocator()), at));
@@ -237,15 +245,23 @@ pub fn virtuals(source: &Source, at: usize) -> Result<(Vec<VirtualSpecification>
 // The virtual procedures, at least one.
 fn virtual_list(source: &Source, start: usize) -> Result<(Vec<VirtualSpecification>, usize), Stop>
     requires within { start < length source.now }
-    ensures { (d : ℕ) → GivesSome source.now d g.VirtualSpecification start virtual_shown result }
+    ensures { (d : ℕ) → GivesSome source.now d g.VirtualSpecification start virtual_derivation result }
 {
-    specified_list(source, start, |at| virtual_procedures(source, at))
+    specified_list(
+        source,
+        start,
+        |at|
+            requires { at < length source.now }
+            ensures gives { PartAt source.entry.now g.VirtualSpecification virtual_derivation at result }
+            ensures ahead { IfOk result (λ r. at < r.1) }
+        { virtual_procedures(source, at) },
+    )
 }
 
 // Virtual procedures of one result type.
 fn virtual_procedures(source: &Source, at: usize) -> Result<(VirtualSpecification, usize), Stop>
     requires within { at < length source.now }
-    ensures gives { (d : ℕ) → GivesPart source.now d g.VirtualSpecification at virtual_shown result }
+    ensures gives { (d : ℕ) → GivesPart source.now d g.VirtualSpecification at virtual_derivation result }
     ensures ahead { IfOk result (λ r. at < r.1) }
 {
     let (result, next) = result_type(source, at)?;

@@ -3,9 +3,12 @@
 
 ghost use Rattle.std.specs.Prelude.{◌≡◌, ◌<◌, ℕ, length};
 ghost use Rattle.sim_tree.specs.Grammar as g;
-ghost use Rattle.sim_tree.specs.Grammar.{Of, Once};
+ghost use Rattle.sim_tree.specs.Grammar.{Kept, Of, Once, just};
+ghost use Rattle.sim_tree.specs.declared.terminal.Terminal.TheVariants as t;
+ghost use Rattle.sim_tree.specs.Derivation.{identifier};
+ghost use Rattle.sim_parser.specs.CommaLists.{ReadsAt};
 ghost use Rattle.sim_tree.specs.Reading.{node};
-ghost use Rattle.sim_tree.specs.ShownProgram.{ids, type_shown};
+ghost use Rattle.sim_tree.specs.ProgramDerivation.{ids, type_derivation};
 ghost use Rattle.sim_expr_parser.specs.Parsing.{GivesTo};
 ghost use Rattle.sim_parser.specs.Parsing.{GivesPart};
 
@@ -16,7 +19,7 @@ use sim_tree::{Identifier, Terminal, TypeName};
 /// The type at a token, with the index after it.
 pub fn type_name(source: &Source, at: usize) -> Result<(TypeName, usize), Stop>
     requires within { at < length source.now }
-    ensures { (d : ℕ) → GivesPart source.now d g.TypeName at type_shown result }
+    ensures { (d : ℕ) → GivesPart source.now d g.TypeName at type_derivation result }
 {
     let token = source.token_no(at);
     if let Some(next) = source.eat(at, Terminal::IntegerWord) {
@@ -43,5 +46,12 @@ pub fn identifiers(source: &Source, start: usize) -> Result<(Vec<Identifier>, us
     requires within { start < length source.now }
     ensures { (d : ℕ) → GivesPart source.now d g.Identifiers start (λ v. ids v.items) result }
 {
-    comma_list(source, start, |at| source.identifier_at(at))
+    comma_list(
+        source,
+        start,
+        |at|
+            requires { at < length source.now }
+            ensures { ReadsAt source.entry.now (Kept (just t.Identifier)) identifier at result }
+        { source.identifier_at(at) },
+    )
 }

@@ -6,8 +6,8 @@ ghost use Rattle.sim_tree.specs.declared.terminal.Terminal.TheVariants as t;
 ghost use Rattle.sim_tree.specs.Grammar as g;
 ghost use Rattle.sim_tree.specs.Grammar.{Kept, Of, Maybe, assignments, one_of};
 ghost use Rattle.sim_tree.specs.Reading.{done, leaf, node, terminal_at};
-ghost use Rattle.sim_tree.specs.Shown.{raise, row, selector_shown, shown};
-ghost use Rattle.sim_tree.specs.ShownProgram.{acted, activation_kind, assigned_shown, assignment_kind, prior_shown, stmt_shown, timing_shown};
+ghost use Rattle.sim_tree.specs.Derivation.{raise, row, selector_derivation, derivation_of};
+ghost use Rattle.sim_tree.specs.ProgramDerivation.{acted, activation_kind, assigned_derivation, assignment_kind, prior_derivation, statement_derivation, timing_derivation};
 ghost use Rattle.sim_expr_parser.specs.Parsing.{GivesRow, GivesTo, IsSource, Took};
 ghost use Rattle.sim_parser.specs.Parsing.{GivesAll, ReadsAll, activation_row, activation_words, operation_row};
 
@@ -20,7 +20,7 @@ use std::alloc::{AllocError, Global};
 pub fn assigned(source: &Source, start: usize, depth: u32) -> Result<(Vec<Assigned>, usize), Stop>
     requires within { start < length source.now }
     requires shallow { depth ≤ LIMIT }
-    ensures { GivesRow source.now depth g.Assigned start (λ v. map assigned_shown v.items) result }
+    ensures { GivesRow source.now depth g.Assigned start (λ v. map assigned_derivation v.items) result }
 {
     let mut at = start;
     let mut rest = Vec::new(source.allocator());
@@ -47,7 +47,7 @@ fn assignment_at(source: &Source, at: usize) -> Option<(Assignment, usize)>
 
 /// A primary with what is taken of it.
 pub fn operand(alloc: Global, primary: Expr, selectors: Vec<Selector>) -> Result<Expr, AllocError>
-    ensures { (shown primary).level ≡ 0 → IfOk result (λ e. raise 1 (shown e) ≡ node g.Primary (raise 0 (shown primary)) (row g.Selection (map selector_shown selectors.items) done)) }
+    ensures { (derivation_of primary).level ≡ 0 → IfOk result (λ e. raise 1 (derivation_of e) ≡ node g.Primary (raise 0 (derivation_of primary)) (row g.Selection (map selector_derivation selectors.items) done)) }
 {
     if selectors.is_empty() {
         return Ok(primary);
@@ -61,7 +61,7 @@ pub fn operand(alloc: Global, primary: Expr, selectors: Vec<Selector>) -> Result
 
 /// The statement of an operand: an assignment to it, or a call of it where nothing is assigned.
 pub fn operation(left: Expr, rest: Vec<Assigned>) -> Stmt
-    ensures { stmt_shown result ≡ acted (raise 1 (shown left)) (row g.Assigned (map assigned_shown rest.items) done) }
+    ensures { statement_derivation result ≡ acted (raise 1 (derivation_of left)) (row g.Assigned (map assigned_derivation rest.items) done) }
 {
     if rest.is_empty() {
         Stmt::Call { call: left }
@@ -76,7 +76,7 @@ pub fn operation_statement(source: &Source, at: usize, depth: u32) -> Result<(St
     requires within { at < length source.now }
     requires shallow { depth ≤ LIMIT }
     requires begins { one_of (t.This ∷ t.New ∷ t.Open ∷ []) (terminal_at source.now at) ≡ true }
-    ensures { GivesAll source.now depth operation_row at stmt_shown result }
+    ensures { GivesAll source.now depth operation_row at statement_derivation result }
 {
     let (left, next) = postfix(source, at, depth)?;
     let (rest, end) = assigned(source, next, depth)?;
@@ -88,7 +88,7 @@ pub fn operation_statement(source: &Source, at: usize, depth: u32) -> Result<(St
 pub fn activation_statement(source: &Source, at: usize, depth: u32) -> Result<(Stmt, usize), Stop>
     requires within { at < length source.now }
     requires shallow { depth ≤ LIMIT }
-    ensures { GivesAll source.now depth activation_row at stmt_shown result }
+    ensures { GivesAll source.now depth activation_row at statement_derivation result }
 {
     let token = source.token_no(at);
     let (activation, next) = activation_at(source, at)?;
@@ -121,7 +121,7 @@ fn activation_at(source: &Source, at: usize) -> Result<(Activation, usize), Stop
 fn timing(source: &Source, at: usize, depth: u32) -> Result<(Option<Timing>, usize), Stop>
     requires within { at < length source.now }
     requires shallow { depth ≤ LIMIT }
-    ensures { GivesAll source.now depth (Of Maybe g.Timing ∷ []) at timing_shown result }
+    ensures { GivesAll source.now depth (Of Maybe g.Timing ∷ []) at timing_derivation result }
 {
     let token = source.token_no(at);
     if let Some(next) = source.eat(at, Terminal::At) {
@@ -148,7 +148,7 @@ fn timing(source: &Source, at: usize, depth: u32) -> Result<(Option<Timing>, usi
 // The token of `prior`, if it stands there, and the index after it.
 fn prior(source: &Source, at: usize) -> (Option<TokenNo>, usize)
     requires within { at < length source.now }
-    ensures { (d : ℕ) → ReadsAll source.now d (Of Maybe g.PriorMark ∷ []) at (prior_shown result.0) result.1 }
+    ensures { (d : ℕ) → ReadsAll source.now d (Of Maybe g.PriorMark ∷ []) at (prior_derivation result.0) result.1 }
 {
     match source.eat(at, Terminal::Prior) {
         Some(next) => (Some(source.token_no(at)), next),

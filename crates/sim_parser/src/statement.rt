@@ -6,9 +6,9 @@ ghost use Rattle.sim_tree.specs.Grammar as g;
 ghost use Rattle.sim_tree.specs.Grammar.{Kept, Of, Once, Maybe, Many, just, one_of};
 ghost use Rattle.sim_tree.specs.declared.terminal.Terminal.TheVariants as t;
 ghost use Rattle.sim_tree.specs.Reading.{Forest, done, node, terminal_at};
-ghost use Rattle.sim_tree.specs.Shown.{row};
-ghost use Rattle.sim_tree.specs.ShownProgram.{block_shown, class_shown, procedure_shown, statements as statements_shown, stmt_shown, when_shown};
-ghost use Rattle.sim_parser.specs.Parsing.{GivesAll, GivesDecl, GivesDeclaration, GivesDeclarations, GivesInside, GivesPart, GivesStatements, GivesTyped, NoDeclaration, begins as begins_spec, body_row, branch_part, branch_shown, branch_word, connection_row, connection_shown, for_row, identified_row, if_row, inspect_row, while_row};
+ghost use Rattle.sim_tree.specs.Derivation.{row};
+ghost use Rattle.sim_tree.specs.ProgramDerivation.{block_derivation, class_derivation, procedure_derivation, statements as statements_derivation, statement_derivation, when_derivation};
+ghost use Rattle.sim_parser.specs.Parsing.{GivesAll, GivesDecl, GivesDeclaration, GivesDeclarations, GivesInside, GivesPart, GivesStatements, GivesTyped, NoDeclaration, begins as begins_spec, body_row, branch_part, branch_derivation, branch_word, connection_row, connection_derivation, for_row, identified_row, if_row, inspect_row, while_row};
 
 use crate::declaration::{segments, variables};
 use crate::elements::{ForList, for_list};
@@ -67,7 +67,7 @@ struct Sequence {
 pub fn statement(source: &Source, at: usize, depth: u32) -> Result<(Stmt, usize), Stop>
     requires within { at < length source.now }
     requires shallow { depth ≤ LIMIT }
-    ensures { GivesPart source.now depth g.Statement at stmt_shown result }
+    ensures { GivesPart source.now depth g.Statement at statement_derivation result }
 {
     if !begins_statement(source.terminal_at(at)) {
         let token = source.token_no(at);
@@ -103,7 +103,7 @@ fn begun_statement(source: &Source, at: usize, depth: u32) -> Result<(Stmt, usiz
 #[inline(never)]
 fn inner_statement(source: &Source, at: usize) -> Result<(Stmt, usize), Stop>
     requires within { at < length source.now }
-    ensures { (d : ℕ) → GivesAll source.now d (Kept (just t.Inner) ∷ []) at stmt_shown result }
+    ensures { (d : ℕ) → GivesAll source.now d (Kept (just t.Inner) ∷ []) at statement_derivation result }
 {
     let token = source.token_no(at);
     let end = source.expect(at, Terminal::Inner)?;
@@ -114,7 +114,7 @@ fn inner_statement(source: &Source, at: usize) -> Result<(Stmt, usize), Stop>
 fn block_statement(source: &Source, at: usize, depth: u32) -> Result<(Stmt, usize), Stop>
     requires within { at < length source.now }
     requires shallow { depth ≤ LIMIT }
-    ensures { GivesAll source.now depth (Of Once g.Compound ∷ []) at stmt_shown result }
+    ensures { GivesAll source.now depth (Of Once g.Compound ∷ []) at statement_derivation result }
 {
     let (block, end) = compound(source, at, depth)?;
     Ok((Stmt::Block { block }, end))
@@ -125,7 +125,7 @@ fn block_statement(source: &Source, at: usize, depth: u32) -> Result<(Stmt, usiz
 fn identified_statement(source: &Source, at: usize, depth: u32) -> Result<(Stmt, usize), Stop>
     requires within { at < length source.now }
     requires shallow { depth ≤ LIMIT }
-    ensures { GivesAll source.now depth identified_row at stmt_shown result }
+    ensures { GivesAll source.now depth identified_row at statement_derivation result }
 {
     let (name, next) = source.identifier_at(at)?;
     let (arguments, next) = arguments(source, next, depth)?;
@@ -151,7 +151,7 @@ fn identified_statement(source: &Source, at: usize, depth: u32) -> Result<(Stmt,
 fn if_statement(source: &Source, at: usize, depth: u32) -> Result<(Stmt, usize), Stop>
     requires within { at < length source.now }
     requires shallow { depth ≤ LIMIT }
-    ensures { GivesAll source.now depth if_row at stmt_shown result }
+    ensures { GivesAll source.now depth if_row at statement_derivation result }
 {
     let token = source.token_no(at);
     let next = source.expect(at, Terminal::If)?;
@@ -182,7 +182,7 @@ fn optional_branch(
 ) -> Result<(Option<Box<Stmt>>, usize), Stop>
     requires within { at < length source.now }
     requires shallow { depth ≤ LIMIT }
-    ensures { GivesAll source.now depth (Of Maybe (branch_part branch) ∷ []) at (branch_shown branch) result }
+    ensures { GivesAll source.now depth (Of Maybe (branch_part branch) ∷ []) at (branch_derivation branch) result }
 {
     let Some(next) = source.eat(at, branch.word()) else {
         return Ok((None, at));
@@ -195,7 +195,7 @@ fn optional_branch(
 fn while_statement(source: &Source, at: usize, depth: u32) -> Result<(Stmt, usize), Stop>
     requires within { at < length source.now }
     requires shallow { depth ≤ LIMIT }
-    ensures { GivesAll source.now depth while_row at stmt_shown result }
+    ensures { GivesAll source.now depth while_row at statement_derivation result }
 {
     let token = source.token_no(at);
     let next = source.expect(at, Terminal::While)?;
@@ -217,7 +217,7 @@ fn while_statement(source: &Source, at: usize, depth: u32) -> Result<(Stmt, usiz
 fn body(source: &Source, at: usize, depth: u32) -> Result<(Stmt, usize), Stop>
     requires within { at < length source.now }
     requires shallow { depth ≤ LIMIT }
-    ensures { GivesAll source.now depth body_row at (λ s. node g.Statement (stmt_shown s) done) result }
+    ensures { GivesAll source.now depth body_row at (λ s. node g.Statement (statement_derivation s) done) result }
 {
     let next = source.expect(at, Terminal::Do)?;
     statement(source, next, depth)
@@ -227,7 +227,7 @@ fn body(source: &Source, at: usize, depth: u32) -> Result<(Stmt, usize), Stop>
 fn for_statement(source: &Source, at: usize, depth: u32) -> Result<(Stmt, usize), Stop>
     requires within { at < length source.now }
     requires shallow { depth ≤ LIMIT }
-    ensures { GivesAll source.now depth for_row at stmt_shown result }
+    ensures { GivesAll source.now depth for_row at statement_derivation result }
 {
     let token = source.token_no(at);
     let next = source.expect(at, Terminal::For)?;
@@ -258,7 +258,7 @@ fn for_statement(source: &Source, at: usize, depth: u32) -> Result<(Stmt, usize)
 fn inspect_statement(source: &Source, at: usize, depth: u32) -> Result<(Stmt, usize), Stop>
     requires within { at < length source.now }
     requires shallow { depth ≤ LIMIT }
-    ensures { GivesAll source.now depth inspect_row at stmt_shown result }
+    ensures { GivesAll source.now depth inspect_row at statement_derivation result }
 {
     let token = source.token_no(at);
     let next = source.expect(at, Terminal::Inspect)?;
@@ -300,7 +300,7 @@ fn when_arms(source: &Source, start: usize, depth: u32) -> Result<(Vec<When>, us
     requires within { start < length source.now }
     requires shallow { depth ≤ LIMIT }
     requires no_do { terminal_at source.now start ≡ t.Do → ⊥ }
-    ensures { GivesPart source.now depth g.Arms start (λ v. row g.WhenArm (map when_shown v.items) done) result }
+    ensures { GivesPart source.now depth g.Arms start (λ v. row g.WhenArm (map when_derivation v.items) done) result }
 {
     source.expect(start, Terminal::When)?;
     let mut at = start;
@@ -318,7 +318,7 @@ fn when_arms(source: &Source, start: usize, depth: u32) -> Result<(Vec<When>, us
 fn when_arm(source: &Source, at: usize, depth: u32) -> Result<(When, usize), Stop>
     requires within { at < length source.now }
     requires shallow { depth ≤ LIMIT }
-    ensures { GivesPart source.now depth g.WhenArm at when_shown result }
+    ensures { GivesPart source.now depth g.WhenArm at when_derivation result }
 {
     let token = source.token_no(at);
     let next = source.expect(at, Terminal::When)?;
@@ -343,7 +343,7 @@ fn when_arm(source: &Source, at: usize, depth: u32) -> Result<(When, usize), Sto
 fn connected_at(source: &Source, at: usize, depth: u32) -> Result<(Connection, usize), Stop>
     requires within { at < length source.now }
     requires shallow { depth ≤ LIMIT }
-    ensures { GivesAll source.now depth connection_row at connection_shown result }
+    ensures { GivesAll source.now depth connection_row at connection_derivation result }
 {
     let opening = source.token_no(at);
     let next = source.expect(at, Terminal::Do)?;
@@ -357,7 +357,7 @@ fn connected_at(source: &Source, at: usize, depth: u32) -> Result<(Connection, u
 pub fn compound(source: &Source, at: usize, depth: u32) -> Result<(Block, usize), Stop>
     requires within { at < length source.now }
     requires shallow { depth ≤ LIMIT }
-    ensures { GivesPart source.now depth g.Compound at block_shown result }
+    ensures { GivesPart source.now depth g.Compound at block_derivation result }
 {
     let token = source.token_no(at);
     let next = source.expect(at, Terminal::Begin)?;
@@ -512,7 +512,7 @@ fn typed_declaration(
 fn procedure(source: &Source, at: usize, depth: u32) -> Result<(Procedure, usize), Stop>
     requires within { at < length source.now }
     requires shallow { depth ≤ LIMIT }
-    ensures { GivesPart source.now depth g.Procedure at procedure_shown result }
+    ensures { GivesPart source.now depth g.Procedure at procedure_derivation result }
 {
     let (name, next) = source.identifier_at(at)?;
     let (heading, next) = heading_at(source, next)?;
@@ -542,7 +542,7 @@ fn procedure(source: &Source, at: usize, depth: u32) -> Result<(Procedure, usize
 fn class(source: &Source, at: usize, depth: u32) -> Result<(Class, usize), Stop>
     requires within { at < length source.now }
     requires shallow { depth ≤ LIMIT }
-    ensures { GivesPart source.now depth g.Class at class_shown result }
+    ensures { GivesPart source.now depth g.Class at class_derivation result }
 {
     let (name, next) = source.identifier_at(at)?;
     let (heading, next) = heading_at(source, next)?;
@@ -578,7 +578,7 @@ fn sequence_at(source: &Source, at: usize, depth: u32) -> Result<(Sequence, usiz
     requires within { at < length source.now }
     requires shallow { depth ≤ LIMIT }
     requires no_declaration { NoDeclaration source.now at }
-    ensures { GivesPart source.now depth g.Block at (λ s. statements_shown (map stmt_shown s.statements.items) s.end.0) result }
+    ensures { GivesPart source.now depth g.Block at (λ s. statements_derivation (map statement_derivation s.statements.items) s.end.0) result }
 {
     let end = source.token_no(at);
     if let Some(next) = source.eat(at, Terminal::End) {

@@ -22,8 +22,8 @@ use Rattle.sim_tree.specs.Grammar.{Part}
 use Rattle.sim_tree.specs.Reading.{Forest, done, leaf, place, node}
 use Rattle.sim_tree.specs.Tree.{is_bare}
 use Rattle.sim_tree.specs.Nesting.{has_token}
-use Rattle.sim_tree.specs.Shown as d
-use Rattle.sim_tree.specs.Shown.{Shown, level_part, raise, whole, row, shown, operand_shown, term_shown, factor_shown, selector_shown, argument, arguments}
+use Rattle.sim_tree.specs.Derivation as d
+use Rattle.sim_tree.specs.Derivation.{Derivation, level_part, raise, whole, row, derivation_of, operand_derivation, term_derivation, factor_derivation, selector_derivation, argument, arguments}
 use Rattle.sim_tree.specs.Syntax as s
 use Rattle.sim_tree.specs.Syntax.{Expression, expressions}
 use Rattle.sim_tree.specs.SyntaxOf as t
@@ -33,10 +33,10 @@ use Rattle.sim_tree.proofs.ReadExpressions.{Full}
 use Rattle.sim_plain.specs.Clean.{Clean}
 use Rattle.sim_agree.specs.Plain.{PlainExpression, PlainExpressions}
 
-pub record Claim (x : Shown) (e : Expression) : Type 0 where
+pub record Claim (x : Derivation) (e : Expression) : Type 0 where
   pub known : not (is_bare x.inside) ≡ true → Full x.inside → Clean x.inside → PlainExpression e
 
-raised : (m : ℕ) (x : Shown) (e : Expression) → m ≤ 14 → Claim x e → not (is_bare (raise m x)) ≡ true → Full (raise m x) → Clean (raise m x) → PlainExpression e
+raised : (m : ℕ) (x : Derivation) (e : Expression) → m ≤ 14 → Claim x e → not (is_bare (raise m x)) ≡ true → Full (raise m x) → Clean (raise m x) → PlainExpression e
 unfolding raise
 raised zero x e le h = go (nat_eq x.level 0)
   where
@@ -56,13 +56,13 @@ raised (suc m) x e le h = go (nat_eq x.level (suc m)) (λ bare full clean. raise
     go true later bare full clean = h.known bare full clean
     go false later bare full clean = later (sym ((level_plain m low).1 (raise m x)) ∙ full.0) full.1 clean.0
 
-pub leveled : (m : ℕ) {x : Shown} {e : Expression} → m < 14 → Claim x e → has_token (level_part m) (raise m x) ≡ true → Full (raise m x) → Clean (raise m x) → PlainExpression e
+pub leveled : (m : ℕ) {x : Derivation} {e : Expression} → m < 14 → Claim x e → has_token (level_part m) (raise m x) ≡ true → Full (raise m x) → Clean (raise m x) → PlainExpression e
 leveled m {x} {e} le h token full clean = raised m x e (omega (arith, le)) h (sym ((level_plain m le).1 (raise m x)) ∙ token) full clean
 
-pub valued : {x : Shown} {e : Expression} → Claim x e → not (is_bare (whole x)) ≡ true → Full (whole x) → Clean (whole x) → PlainExpression e
+pub valued : {x : Derivation} {e : Expression} → Claim x e → not (is_bare (whole x)) ≡ true → Full (whole x) → Clean (whole x) → PlainExpression e
 valued {x} {e} h bare full clean = raised 14 x e (omega arith) h bare full clean
 
-pub operand_plain : {x : Shown} {e : Expression} → Claim x e → not (is_bare (raise 1 x)) ≡ true → Full (raise 1 x) → Clean (raise 1 x) → PlainExpression e
+pub operand_plain : {x : Derivation} {e : Expression} → Claim x e → not (is_bare (raise 1 x)) ≡ true → Full (raise 1 x) → Clean (raise 1 x) → PlainExpression e
 operand_plain {x} {e} h bare full clean = raised 1 x e (omega arith) h bare full clean
 
 -- Items behind a level's first operand.
@@ -89,18 +89,18 @@ steps_row n (f ∷ fs) [] each full clean = absurd each
 steps_row n (f ∷ fs) (x ∷ xs) each full clean = (each.0 full.1 clean.0, steps_row n fs xs each.1 full.2 clean.1)
 
 abbrev pub ExprClaim : Expr → Type 0
-ExprClaim e = Claim (shown e) (syntax_of e)
+ExprClaim e = Claim (derivation_of e) (syntax_of e)
 
 record OperandClaim (x : Operand) : Type 0 where
   pub operand : Expression
-  pub claim : Claim (operand_shown x).operand operand
-  pub is : (operator : Operator) → operand_syntax x operator ≡ record { operator = operator; token = (operand_shown x).token; operand = operand }
+  pub claim : Claim (operand_derivation x).operand operand
+  pub is : (operator : Operator) → operand_syntax x operator ≡ record { operator = operator; token = (operand_derivation x).token; operand = operand }
 
 abbrev TermClaim : Term → Type 0
-TermClaim x = StepClaim (term_shown x) (term_syntax x)
+TermClaim x = StepClaim (term_derivation x) (term_syntax x)
 
 abbrev FactorClaim : Factor → Type 0
-FactorClaim x = StepClaim (factor_shown x) (factor_syntax x)
+FactorClaim x = StepClaim (factor_derivation x) (factor_syntax x)
 
 abbrev PlainSelection : Selection → Type 0
 PlainSelection (Take i name es) = PlainExpressions es
@@ -116,7 +116,7 @@ plain_selected e (Take i name es ∷ xs) p ps = plain_selected (s.Dot i e name e
 plain_selected e (Cast i class ∷ xs) p ps = absurd ps.0
 
 abbrev SelectorClaim : Selector → Type 0
-SelectorClaim x = Full (selector_shown x) → Clean (selector_shown x) → PlainSelection (selector_syntax x)
+SelectorClaim x = Full (selector_derivation x) → Clean (selector_derivation x) → PlainSelection (selector_syntax x)
 
 -- Levels of operators.
 vacant : (e : Expression) → Claim d.nothing e
@@ -125,33 +125,33 @@ vacant e = record { known = λ bare full clean. absurd (false≢true bare) }
 abbrev OperandPair : Type 0
 OperandPair = (x : Operand) × OperandClaim x
 
-item_steps : (l : ℕ) (w : TokenKind) (op : Operator) → l < 14 → (x : OperandPair) → StepClaim (d.item l w (operand_shown x.0)) (with_operator op (operand_syntax x.0))
+item_steps : (l : ℕ) (w : TokenKind) (op : Operator) → l < 14 → (x : OperandPair) → StepClaim (d.item l w (operand_derivation x.0)) (with_operator op (operand_syntax x.0))
 item_steps l w op le x full clean = subst (λ (z : Tail). PlainExpression z.operand) (sym (x.1.is op)) (leveled l le x.1.claim full.0 full.1 clean.1.0)
 
 each_operand : (l : ℕ) (w : TokenKind) (op : Operator) → l < 14 → (xs : List OperandPair)
-    → EachStep (map (d.item l w) (map operand_shown (map (λ x. x.0) xs))) (map (with_operator op) (map operand_syntax (map (λ x. x.0) xs)))
+    → EachStep (map (d.item l w) (map operand_derivation (map (λ x. x.0) xs))) (map (with_operator op) (map operand_syntax (map (λ x. x.0) xs)))
 each_operand l w op le [] = tt
 each_operand l w op le (x ∷ xs) = (item_steps l w op le x, each_operand l w op le xs)
 
-in_operated : (l : ℕ) (w : TokenKind) (op : Operator) (n : Part) → l < 14 → {x : Shown} {e : Expression} → Claim x e → (xs : List OperandPair)
-    → Claim (d.operated l w n x (map operand_shown (map (λ x. x.0) xs))) (chain e (map (with_operator op) (map operand_syntax (map (λ x. x.0) xs))))
+in_operated : (l : ℕ) (w : TokenKind) (op : Operator) (n : Part) → l < 14 → {x : Derivation} {e : Expression} → Claim x e → (xs : List OperandPair)
+    → Claim (d.operated l w n x (map operand_derivation (map (λ x. x.0) xs))) (chain e (map (with_operator op) (map operand_syntax (map (λ x. x.0) xs))))
 in_operated l w op n le {e = e} h [] = vacant e
 in_operated l w op n le {x} {e} h (y ∷ ys) = record {
   known = λ bare full clean.
-      let fs : List Forest = map (d.item l w) (map operand_shown (map (λ x. x.0) (y ∷ ys))) in
+      let fs : List Forest = map (d.item l w) (map operand_derivation (map (λ x. x.0) (y ∷ ys))) in
       let xs = map (with_operator op) (map operand_syntax (map (λ x. x.0) (y ∷ ys))) in
       plain_chain e xs (leveled l le h full.0 full.1 clean.0) (steps_row n fs xs (each_operand l w op le (y ∷ ys)) full.2 clean.1);
 }
 
-each_term : (xs : List ((x : Term) × TermClaim x)) → EachStep (map term_shown (map (λ x. x.0) xs)) (map term_syntax (map (λ x. x.0) xs))
+each_term : (xs : List ((x : Term) × TermClaim x)) → EachStep (map term_derivation (map (λ x. x.0) xs)) (map term_syntax (map (λ x. x.0) xs))
 each_term [] = tt
 each_term (x ∷ xs) = (x.1, each_term xs)
 
-each_factor : (xs : List ((x : Factor) × FactorClaim x)) → EachStep (map factor_shown (map (λ x. x.0) xs)) (map factor_syntax (map (λ x. x.0) xs))
+each_factor : (xs : List ((x : Factor) × FactorClaim x)) → EachStep (map factor_derivation (map (λ x. x.0) xs)) (map factor_syntax (map (λ x. x.0) xs))
 each_factor [] = tt
 each_factor (x ∷ xs) = (x.1, each_factor xs)
 
-in_summed : (sign : Option LeadingSign) (fs : List Forest) (xs : List Tail) → EachStep fs xs → {x : Shown} {e : Expression} → Claim x e → Claim (d.summed sign x fs) (chain (t.signed sign e) xs)
+in_summed : (sign : Option LeadingSign) (fs : List Forest) (xs : List Tail) → EachStep fs xs → {x : Derivation} {e : Expression} → Claim x e → Claim (d.summed sign x fs) (chain (t.signed sign e) xs)
 in_summed None [] xs each {e = e} h = vacant (chain e xs)
 in_summed None (f ∷ fs) xs each {e = e} h = record {
   known = λ bare full clean. plain_chain e xs (leveled 3 (omega arith) h full.0 full.1 clean.0) (steps_row g.NextTerm (f ∷ fs) xs each full.2 clean.1);
@@ -160,7 +160,7 @@ in_summed (Some y) fs xs each {e = e} h = record {
   known = λ bare full clean. plain_chain (s.Signed y.sign y.token.0 e) xs (leveled 3 (omega arith) h full.2.0 full.2.1 clean.1.0) (steps_row g.NextTerm fs xs each full.2.2 clean.1.1);
 }
 
-in_multiplied : (fs : List Forest) (xs : List Tail) → EachStep fs xs → {x : Shown} {e : Expression} → Claim x e → Claim (d.multiplied x fs) (chain e xs)
+in_multiplied : (fs : List Forest) (xs : List Tail) → EachStep fs xs → {x : Derivation} {e : Expression} → Claim x e → Claim (d.multiplied x fs) (chain e xs)
 in_multiplied [] xs each {e = e} h = vacant (chain e xs)
 in_multiplied (f ∷ fs) xs each {e = e} h = record {
   known = λ bare full clean. plain_chain e xs (leveled 2 (omega arith) h full.0 full.1 clean.0) (steps_row g.NextFactor (f ∷ fs) xs each full.2 clean.1);
@@ -170,13 +170,13 @@ in_multiplied (f ∷ fs) xs each {e = e} h = record {
 abbrev SelectorPair : Type 0
 SelectorPair = (x : Selector) × SelectorClaim x
 
-selections_row : (xs : List SelectorPair) → Full (row g.Selection (map selector_shown (map (λ x. x.0) xs)) done) → Clean (row g.Selection (map selector_shown (map (λ x. x.0) xs)) done)
+selections_row : (xs : List SelectorPair) → Full (row g.Selection (map selector_derivation (map (λ x. x.0) xs)) done) → Clean (row g.Selection (map selector_derivation (map (λ x. x.0) xs)) done)
     → PlainSelections (map selector_syntax (map (λ x. x.0) xs))
 selections_row [] full clean = tt
 selections_row (x ∷ xs) full clean = (x.1 full.1 clean.0, selections_row xs full.2 clean.1)
 
-in_selected : (xs : List SelectorPair) → {x : Shown} {e : Expression} → Claim x e
-    → Claim (d.selected x (map selector_shown (map (λ x. x.0) xs))) (selected e (map selector_syntax (map (λ x. x.0) xs)))
+in_selected : (xs : List SelectorPair) → {x : Derivation} {e : Expression} → Claim x e
+    → Claim (d.selected x (map selector_derivation (map (λ x. x.0) xs))) (selected e (map selector_syntax (map (λ x. x.0) xs)))
 in_selected [] {e = e} h = vacant e
 in_selected (y ∷ ys) {e = e} h = record {
   known = λ bare full clean.
@@ -196,7 +196,7 @@ clean_behind_nots : (is : List TokenNo) (f : Forest) → Clean (row g.NotSign (m
 clean_behind_nots [] f clean = clean
 clean_behind_nots (i ∷ is) f clean = clean_behind_nots is f clean.1
 
-in_negated : (is : List TokenNo) {x : Shown} {e : Expression} → Claim x e → Claim (d.negated is x) (t.negated is e)
+in_negated : (is : List TokenNo) {x : Derivation} {e : Expression} → Claim x e → Claim (d.negated is x) (t.negated is e)
 in_negated [] {e = e} h = vacant e
 in_negated (i ∷ is) {x} {e} h = record {
   known = λ bare full clean.
@@ -206,19 +206,19 @@ in_negated (i ∷ is) {x} {e} h = record {
 }
 
 -- Actual parameters.
-abbrev pub Each : List Shown → List Expression → Type 0
+abbrev pub Each : List Derivation → List Expression → Type 0
 Each [] [] = Unit {0}
 Each (x ∷ xs) (e ∷ es) = Claim x e × Each xs es
 Each _ _ = ⊥
 
-more_arguments : (xs : List Shown) (es : List Expression) → Each xs es → Full (row g.NextArgument (map argument xs) done) → Clean (row g.NextArgument (map argument xs) done) → PlainExpressions (expressions es)
+more_arguments : (xs : List Derivation) (es : List Expression) → Each xs es → Full (row g.NextArgument (map argument xs) done) → Clean (row g.NextArgument (map argument xs) done) → PlainExpressions (expressions es)
 more_arguments [] [] each full clean = tt
 more_arguments [] (e ∷ es) each full clean = absurd each
 more_arguments (x ∷ xs) [] each full clean = absurd each
 more_arguments (x ∷ xs) (e ∷ es) each full clean = (valued each.0 full.1.0 full.1.1 clean.0.0, more_arguments xs es each.1 full.2 clean.1)
 
 -- the actual parameters
-pub arguments_plain : (xs : List Shown) (es : List Expression) → Each xs es → Full (arguments xs done) → Clean (arguments xs done) → PlainExpressions (expressions es)
+pub arguments_plain : (xs : List Derivation) (es : List Expression) → Each xs es → Full (arguments xs done) → Clean (arguments xs done) → PlainExpressions (expressions es)
 arguments_plain [] [] each full clean = tt
 arguments_plain [] (e ∷ es) each full clean = absurd each
 arguments_plain (x ∷ xs) [] each full clean = absurd each
@@ -227,7 +227,7 @@ arguments_plain (x ∷ xs) (e ∷ es) each full clean = (valued each.0 full.1.0 
 abbrev ExprPair : Type 0
 ExprPair = (e : Expr) × ExprClaim e
 
-pub each_pair : (xs : List ExprPair) → Each (map shown (map (λ x. x.0) xs)) (map syntax_of (map (λ x. x.0) xs))
+pub each_pair : (xs : List ExprPair) → Each (map derivation_of (map (λ x. x.0) xs)) (map syntax_of (map (λ x. x.0) xs))
 each_pair [] = tt
 each_pair (x ∷ xs) = (x.1, each_pair xs)
 
@@ -256,14 +256,14 @@ first_term x = x.0
 abbrev LayerClaim : Expr-F Expr Selector Factor Operand Term → Type 0
 LayerClaim x =
     Claim
-    (d.expr_layer (map-Expr Expr Selector Factor Operand Term Shown Forest Forest d.Item Forest shown selector_shown factor_shown operand_shown term_shown x))
+    (d.expr_layer (map-Expr Expr Selector Factor Operand Term Derivation Forest Forest d.Item Forest derivation_of selector_derivation factor_derivation operand_derivation term_derivation x))
     (t.expr_layer (map-Expr Expr Selector Factor Operand Term Expression Selection Tail Operands Tail syntax_of selector_syntax factor_syntax operand_syntax term_syntax x))
 
 abbrev under : Expr-F ExprPair SelectorPair FactorPair OperandPair TermPair → Expr-F Expr Selector Factor Operand Term
 under y = map-Expr ExprPair SelectorPair FactorPair OperandPair TermPair Expr Selector Factor Operand Term first_expr first_selector first_factor first_operand first_term y
 
-actuals : (v : List ExprPair) → Full (arguments (map shown (map first_expr v)) done) → Clean (arguments (map shown (map first_expr v)) done) → PlainExpressions (expressions (map syntax_of (map first_expr v)))
-actuals v full clean = arguments_plain (map shown (map first_expr v)) (map syntax_of (map first_expr v)) (each_pair v) full clean
+actuals : (v : List ExprPair) → Full (arguments (map derivation_of (map first_expr v)) done) → Clean (arguments (map derivation_of (map first_expr v)) done) → PlainExpressions (expressions (map syntax_of (map first_expr v)))
+actuals v full clean = arguments_plain (map derivation_of (map first_expr v)) (map syntax_of (map first_expr v)) (each_pair v) full clean
 
 no : true ≡ false → ⊥
 no e = false≢true (sym e)
@@ -283,8 +283,8 @@ expr_step (Expr-F.Related a i r b) = record { known = λ bare full clean. (level
 expr_step (Expr-F.Member a i membership.Is x) = record { known = λ bare full clean. absurd (no clean.1.0.0) }
 expr_step (Expr-F.Member a i membership.In x) = record { known = λ bare full clean. absurd (no clean.1.0.0) }
 expr_step (Expr-F.Concatenation a v) = in_operated 4 k.Ampersand o.Concatenate g.NextConcatenated (omega arith) a.value.1 v.items
-expr_step (Expr-F.Sum y a v) = in_summed y (map term_shown (map first_term v.items)) (map term_syntax (map first_term v.items)) (each_term v.items) a.value.1
-expr_step (Expr-F.Product a v) = in_multiplied (map factor_shown (map first_factor v.items)) (map factor_syntax (map first_factor v.items)) (each_factor v.items) a.value.1
+expr_step (Expr-F.Sum y a v) = in_summed y (map term_derivation (map first_term v.items)) (map term_syntax (map first_term v.items)) (each_term v.items) a.value.1
+expr_step (Expr-F.Product a v) = in_multiplied (map factor_derivation (map first_factor v.items)) (map factor_syntax (map first_factor v.items)) (each_factor v.items) a.value.1
 expr_step (Expr-F.Power a v) = in_operated 1 k.Power o.Power g.NextPower (omega arith) a.value.1 v.items
 expr_step (Expr-F.Postfix a v) = in_selected v.items a.value.1
 expr_step (Expr-F.Integer i n) = record { known = λ bare full clean. tt }
@@ -302,8 +302,8 @@ expr_step (Expr-F.Parentheses i a) = record { known = λ bare full clean. valued
 layer : (x : Expr-F Expr Selector Factor Operand Term) → LayerClaim x → ExprClaim (roll-Expr x)
 unfolding syntax_of operand_syntax term_syntax factor_syntax selector_syntax
 layer x h =
-    subst (λ z. Claim z (syntax_of (roll-Expr x))) (sym (fold-roll-Expr Shown Forest Forest d.Item Forest d.expr_layer d.selector_layer d.factor_layer d.operand_layer d.term_layer x))
-    (subst (λ z. Claim (d.expr_layer (map-Expr Expr Selector Factor Operand Term Shown Forest Forest d.Item Forest shown selector_shown factor_shown operand_shown term_shown x)) z)
+    subst (λ z. Claim z (syntax_of (roll-Expr x))) (sym (fold-roll-Expr Derivation Forest Forest d.Item Forest d.expr_layer d.selector_layer d.factor_layer d.operand_layer d.term_layer x))
+    (subst (λ z. Claim (d.expr_layer (map-Expr Expr Selector Factor Operand Term Derivation Forest Forest d.Item Forest derivation_of selector_derivation factor_derivation operand_derivation term_derivation x)) z)
     (sym (fold-roll-Expr Expression Selection Tail Operands Tail t.expr_layer t.selector_layer t.factor_layer t.operand_layer t.term_layer x)) h)
 
 abbrev SelectorSays : Forest → Selection → Type 0
@@ -312,7 +312,7 @@ SelectorSays f x = Full f → Clean f → PlainSelection x
 abbrev SelectorLayer : Selector-F Expr Selector Factor Operand Term → Type 0
 SelectorLayer x =
     SelectorSays
-    (d.selector_layer (map-Selector Expr Selector Factor Operand Term Shown Forest Forest d.Item Forest shown selector_shown factor_shown operand_shown term_shown x))
+    (d.selector_layer (map-Selector Expr Selector Factor Operand Term Derivation Forest Forest d.Item Forest derivation_of selector_derivation factor_derivation operand_derivation term_derivation x))
     (t.selector_layer (map-Selector Expr Selector Factor Operand Term Expression Selection Tail Operands Tail syntax_of selector_syntax factor_syntax operand_syntax term_syntax x))
 
 selector_step : (y : Selector-F ExprPair SelectorPair FactorPair OperandPair TermPair)
@@ -323,14 +323,14 @@ selector_step (Selector-F.Qua i x) full clean = absurd (no clean.0)
 selector_layer : (x : Selector-F Expr Selector Factor Operand Term) → SelectorLayer x → SelectorClaim (roll-Selector x)
 unfolding syntax_of operand_syntax term_syntax factor_syntax selector_syntax
 selector_layer x h =
-    subst (λ z. SelectorSays z (selector_syntax (roll-Selector x))) (sym (fold-roll-Selector Shown Forest Forest d.Item Forest d.expr_layer d.selector_layer d.factor_layer d.operand_layer d.term_layer x))
-    (subst (λ z. SelectorSays (d.selector_layer (map-Selector Expr Selector Factor Operand Term Shown Forest Forest d.Item Forest shown selector_shown factor_shown operand_shown term_shown x)) z)
+    subst (λ z. SelectorSays z (selector_syntax (roll-Selector x))) (sym (fold-roll-Selector Derivation Forest Forest d.Item Forest d.expr_layer d.selector_layer d.factor_layer d.operand_layer d.term_layer x))
+    (subst (λ z. SelectorSays (d.selector_layer (map-Selector Expr Selector Factor Operand Term Derivation Forest Forest d.Item Forest derivation_of selector_derivation factor_derivation operand_derivation term_derivation x)) z)
     (sym (fold-roll-Selector Expression Selection Tail Operands Tail t.expr_layer t.selector_layer t.factor_layer t.operand_layer t.term_layer x)) h)
 
 operand_layer : (x : Operand-F Expr Selector Factor Operand Term) → ExprClaim x.operand → OperandClaim (roll-Operand x)
 unfolding syntax_of operand_syntax term_syntax factor_syntax selector_syntax
 operand_layer x h =
-    let f = sym (fold-roll-Operand Shown Forest Forest d.Item Forest d.expr_layer d.selector_layer d.factor_layer d.operand_layer d.term_layer x) in
+    let f = sym (fold-roll-Operand Derivation Forest Forest d.Item Forest d.expr_layer d.selector_layer d.factor_layer d.operand_layer d.term_layer x) in
     let e = fold-roll-Operand Expression Selection Tail Operands Tail t.expr_layer t.selector_layer t.factor_layer t.operand_layer t.term_layer x in
     record {
       operand = syntax_of x.operand;
@@ -344,13 +344,13 @@ step_along {f} {h} {x} {y} e i c = subst (λ z. StepClaim z x) (sym e) (subst (�
 term_layer : (x : Term-F Expr Selector Factor Operand Term) → ExprClaim x.term → TermClaim (roll-Term x)
 unfolding syntax_of operand_syntax term_syntax factor_syntax selector_syntax
 term_layer x h =
-    step_along (fold-roll-Term Shown Forest Forest d.Item Forest d.expr_layer d.selector_layer d.factor_layer d.operand_layer d.term_layer x)
+    step_along (fold-roll-Term Derivation Forest Forest d.Item Forest d.expr_layer d.selector_layer d.factor_layer d.operand_layer d.term_layer x)
     (fold-roll-Term Expression Selection Tail Operands Tail t.expr_layer t.selector_layer t.factor_layer t.operand_layer t.term_layer x) (λ full clean. leveled 3 (omega arith) h full.0 full.1 clean.1.0)
 
 factor_layer : (x : Factor-F Expr Selector Factor Operand Term) → ExprClaim x.factor → FactorClaim (roll-Factor x)
 unfolding syntax_of operand_syntax term_syntax factor_syntax selector_syntax
 factor_layer x h =
-    step_along (fold-roll-Factor Shown Forest Forest d.Item Forest d.expr_layer d.selector_layer d.factor_layer d.operand_layer d.term_layer x)
+    step_along (fold-roll-Factor Derivation Forest Forest d.Item Forest d.expr_layer d.selector_layer d.factor_layer d.operand_layer d.term_layer x)
     (fold-roll-Factor Expression Selection Tail Operands Tail t.expr_layer t.selector_layer t.factor_layer t.operand_layer t.term_layer x) (λ full clean. leveled 2 (omega arith) h full.0 full.1 clean.1.0)
 
 pub plain_expr : (e : Expr) → ExprClaim e

@@ -36,9 +36,9 @@ use Rattle.sim_tree.specs.declared.stmt.When.{When}
 use Rattle.sim_tree.specs.Grammar as g
 use Rattle.sim_tree.specs.Nesting.{has_token}
 use Rattle.sim_tree.specs.Reading.{Forest, done, leaf, place, node}
-use Rattle.sim_tree.specs.Shown.{shown, raise, row, expression}
-use Rattle.sim_tree.specs.ShownProgram as d
-use Rattle.sim_tree.specs.ShownProgram.{Declared, Prefixed, acted, assigned_shown, begun, block_shown, class_shown, contents, decl_shown, joined, next_statement, procedure_shown, program_shown, stmt_shown, when_shown}
+use Rattle.sim_tree.specs.Derivation.{derivation_of, raise, row, expression}
+use Rattle.sim_tree.specs.ProgramDerivation as d
+use Rattle.sim_tree.specs.ProgramDerivation.{Declared, Prefixed, acted, assigned_derivation, begun, block_derivation, class_derivation, contents, declaration_derivation, joined, next_statement, procedure_derivation, program_derivation, statement_derivation, when_derivation}
 use Rattle.sim_tree.specs.Syntax as s
 use Rattle.sim_tree.specs.Syntax.{Declaration, Declarations, Statement, Statements, declarations, statements}
 use Rattle.sim_tree.specs.Syntax.{Block as BlockSyntax}
@@ -159,21 +159,21 @@ each_row : {A B : Type 0} (n : g.Part) (f : A → Forest) (t : A → B) (P : B �
 each_row n f t P [] one full c = tt
 each_row n f t P (x ∷ xs) one full c = (one x full.1 c.0, each_row n f t P xs one full.2 c.1)
 
-bounds_plain : (b : Bounds) → Full (d.bounds_shown b) → Clean (d.bounds_shown b) → PlainBounds (t.bound_pair_syntax b)
+bounds_plain : (b : Bounds) → Full (d.bounds_derivation b) → Clean (d.bounds_derivation b) → PlainBounds (t.bound_pair_syntax b)
 bounds_plain b full c = (expr_plain b.lower full.0 full.1 c.0, expr_plain b.upper full.2.0 full.2.1 c.1.0)
 
 dimensions_plain : (bs : List Bounds) → Full (d.dimensions bs) → Clean (d.dimensions bs) → Each PlainBounds (map t.bound_pair_syntax bs)
 dimensions_plain [] full c = tt
 dimensions_plain (b ∷ bs) full c = (bounds_plain b full.1 c.0, each_row g.NextBounds d.next_bounds t.bound_pair_syntax PlainBounds bs (λ x full c. bounds_plain x full.1 c.0) full.2 c.1)
 
-segment_plain : (x : ArraySegment) → Full (d.segment_shown x) → Clean (d.segment_shown x) → PlainSegment (t.segment_syntax x)
+segment_plain : (x : ArraySegment) → Full (d.segment_derivation x) → Clean (d.segment_derivation x) → PlainSegment (t.segment_syntax x)
 segment_plain x full c = dimensions_plain x.bounds.items full.2 c.1
 
-segments_plain : (xs : List ArraySegment) → Full (d.segments_shown xs) → Clean (d.segments_shown xs) → Each PlainSegment (map t.segment_syntax xs)
+segments_plain : (xs : List ArraySegment) → Full (d.segments_derivation xs) → Clean (d.segments_derivation xs) → Each PlainSegment (map t.segment_syntax xs)
 segments_plain [] full c = tt
 segments_plain (x ∷ xs) full c = (segment_plain x full.1 c.0, each_row g.NextArraySegment d.next_segment t.segment_syntax PlainSegment xs (λ x full c. segment_plain x full.1 c.0) full.2 c.1)
 
-element_plain : (x : ForElement) → Full (d.for_element_shown x) → Clean (d.for_element_shown x) → PlainElement (t.element_syntax x)
+element_plain : (x : ForElement) → Full (d.for_element_derivation x) → Clean (d.for_element_derivation x) → PlainElement (t.element_syntax x)
 element_plain (for_element.Value e) full c = expr_plain e full.0 full.1 c.0
 element_plain (for_element.Step e i a b) full c =
     (expr_plain e full.0 full.1 c.0, expr_plain a full.2.1.0 full.2.1.1 c.1.0.1.0, expr_plain b full.2.1.2.0 full.2.1.2.1 c.1.0.1.1.0)
@@ -183,7 +183,7 @@ elements_plain : (xs : List ForElement) → Full (d.for_elements xs) → Clean (
 elements_plain [] full c = tt
 elements_plain (x ∷ xs) full c = (element_plain x full.1 c.0, each_row g.NextForElement d.next_for_element t.element_syntax PlainElement xs (λ x full c. element_plain x full.1 c.0) full.2 c.1)
 
-reference_element_plain : (x : ReferenceElement) → Full (d.reference_element_shown x) → Clean (d.reference_element_shown x) → PlainElement (t.reference_element_syntax x)
+reference_element_plain : (x : ReferenceElement) → Full (d.reference_element_derivation x) → Clean (d.reference_element_derivation x) → PlainElement (t.reference_element_syntax x)
 reference_element_plain (reference_element.Value e) full c = expr_plain e full.0 full.1 c.0
 reference_element_plain (reference_element.While e i a) full c = (expr_plain e full.0 full.1 c.0, expr_plain a full.2.1.0 full.2.1.1 c.1.0.1.0)
 
@@ -192,19 +192,19 @@ reference_elements_plain [] full c = tt
 reference_elements_plain (x ∷ xs) full c =
     (reference_element_plain x full.1 c.0, each_row g.NextReferenceElement d.next_reference_element t.reference_element_syntax PlainElement xs (λ x full c. reference_element_plain x full.1 c.0) full.2 c.1)
 
-called : (e : Expr) (rest : Forest) → Full (acted (raise 1 (shown e)) rest) → Clean (acted (raise 1 (shown e)) rest) → PlainExpression (syntax_of e)
-called e rest full c = let all = acted_full (raise 1 (shown e)) rest full in operand_plain (plain_expr e) all.0 all.1 (clean_acted (raise 1 (shown e)) rest c).0
+called : (e : Expr) (rest : Forest) → Full (acted (raise 1 (derivation_of e)) rest) → Clean (acted (raise 1 (derivation_of e)) rest) → PlainExpression (syntax_of e)
+called e rest full c = let all = acted_full (raise 1 (derivation_of e)) rest full in operand_plain (plain_expr e) all.0 all.1 (clean_acted (raise 1 (derivation_of e)) rest c).0
 
 assigned_plain : (e : Expr) (xs : List Assigned) → has_token g.Statement (d.assigning e xs) ≡ true → Full (d.assigning e xs) → Clean (d.assigning e xs) → PlainExpression (syntax_of e) × Each PlainSide (map t.right_side_syntax xs)
 assigned_plain e [] token full c = absurd (false≢true token)
 assigned_plain e (x ∷ xs) token full c =
-    let rest = row g.Assigned (map assigned_shown (x ∷ xs)) done in
-    let all = acted_full (raise 1 (shown e)) rest full in
-    (called e rest full c, each_row g.Assigned assigned_shown t.right_side_syntax PlainSide (x ∷ xs) (λ x full c. expr_plain x.value full.0 full.1 c.1.0) all.2 (clean_acted (raise 1 (shown e)) rest c).1.1)
+    let rest = row g.Assigned (map assigned_derivation (x ∷ xs)) done in
+    let all = acted_full (raise 1 (derivation_of e)) rest full in
+    (called e rest full c, each_row g.Assigned assigned_derivation t.right_side_syntax PlainSide (x ∷ xs) (λ x full c. expr_plain x.value full.0 full.1 c.1.0) all.2 (clean_acted (raise 1 (derivation_of e)) rest c).1.1)
 
 -- ---- types and headings
 
-plain_type : (x : TypeName) → Clean (d.type_shown x) → PlainType x
+plain_type : (x : TypeName) → Clean (d.type_derivation x) → PlainType x
 plain_type (type_name.Integer i) c = tt
 plain_type (type_name.Boolean i) c = tt
 plain_type (type_name.Character i) c = tt
@@ -219,24 +219,24 @@ plain_modes : (ms : List ModePart) → list_any is_by_name (map t.mode_syntax ms
 plain_modes [] h = tt
 plain_modes (m ∷ ms) h = let both = either (is_name m.mode) (list_any is_by_name (map t.mode_syntax ms)) h in (plain_word m.mode both.0, plain_modes ms both.1)
 
-plain_specifier : (x : Specifier) (rest : Forest) → is_procedure (t.specifier_syntax x) ≡ false → Clean (d.specifier_shown x rest) → PlainSpecified (t.specifier_syntax x)
+plain_specifier : (x : Specifier) (rest : Forest) → is_procedure (t.specifier_syntax x) ≡ false → Clean (d.specifier_derivation x rest) → PlainSpecified (t.specifier_syntax x)
 plain_specifier (specifier.Simple n) rest h c = plain_type n c.0
 plain_specifier (specifier.Array n i) rest h c = plain_type n c.0
 plain_specifier (specifier.Procedure n i) rest h c = absurd (no h)
 
-plain_specifications : (xs : List Specification) → list_any is_of_procedures (map t.specification_syntax xs) ≡ false → Clean (row g.Specification (map d.specification_shown xs) done) → Each PlainSpecification (map t.specification_syntax xs)
+plain_specifications : (xs : List Specification) → list_any is_of_procedures (map t.specification_syntax xs) ≡ false → Clean (row g.Specification (map d.specification_derivation xs) done) → Each PlainSpecification (map t.specification_syntax xs)
 plain_specifications [] h c = tt
 plain_specifications (x ∷ xs) h c =
     let both = either (is_procedure (t.specifier_syntax x.specifier)) (list_any is_of_procedures (map t.specification_syntax xs)) h in
     (plain_specifier x.specifier (node g.Identifiers (d.ids x.names.items) done) both.0 c.0, plain_specifications xs both.1 c.1)
 
-specifications_of : (ps : List Identifier) (ms : List ModePart) (xs : List Specification) → Clean (d.heading_shown ps ms xs) → Clean (row g.Specification (map d.specification_shown xs) done)
+specifications_of : (ps : List Identifier) (ms : List ModePart) (xs : List Specification) → Clean (d.heading_derivation ps ms xs) → Clean (row g.Specification (map d.specification_derivation xs) done)
 specifications_of [] [] [] c = tt
 specifications_of [] [] (x ∷ xs) c = c.1
-specifications_of [] (m ∷ ms) xs c = clean_behind_row g.Mode (map d.mode_shown (m ∷ ms)) (row g.Specification (map d.specification_shown xs) done) c.1
-specifications_of (p ∷ ps) ms xs c = clean_behind_row g.Mode (map d.mode_shown ms) (row g.Specification (map d.specification_shown xs) done) c.1
+specifications_of [] (m ∷ ms) xs c = clean_behind_row g.Mode (map d.mode_derivation (m ∷ ms)) (row g.Specification (map d.specification_derivation xs) done) c.1
+specifications_of (p ∷ ps) ms xs c = clean_behind_row g.Mode (map d.mode_derivation ms) (row g.Specification (map d.specification_derivation xs) done) c.1
 
-plain_heading : (name : Identifier) (ps : List Identifier) (ms : List ModePart) (xs : List Specification) → has_code (t.heading_syntax name ps ms xs) ≡ false → Clean (d.heading_shown ps ms xs) → PlainHeading (t.heading_syntax name ps ms xs)
+plain_heading : (name : Identifier) (ps : List Identifier) (ms : List ModePart) (xs : List Specification) → has_code (t.heading_syntax name ps ms xs) ≡ false → Clean (d.heading_derivation ps ms xs) → PlainHeading (t.heading_syntax name ps ms xs)
 plain_heading name ps ms xs h c =
     let both = either (list_any is_by_name (map t.mode_syntax ms)) (list_any is_of_procedures (map t.specification_syntax xs)) h in
     (plain_modes ms both.0, plain_specifications xs both.1 (specifications_of ps ms xs c))
@@ -322,7 +322,7 @@ decl_step (Decl-F.Class (Some x) i q) = tt
 
 block_step : induction.BlockStep Says Declares Blocks Classes Procedures Arms
 block_step b full c free =
-    contents_plain (map decl_shown (map first_decl b.declarations.items)) (map declaration_syntax (map first_decl b.declarations.items)) (map stmt_shown (map first_stmt b.statements.items))
+    contents_plain (map declaration_derivation (map first_decl b.declarations.items)) (map declaration_syntax (map first_decl b.declarations.items)) (map statement_derivation (map first_stmt b.statements.items))
     (map statement_syntax (map first_stmt b.statements.items)) b.end.0 (induction.each_declaration Says Declares Blocks Classes Procedures Arms b.declarations.items) (induction.each_statement Says Declares Blocks Classes Procedures Arms b.statements.items)
     full.1 c.1.0 free.0 free.1
 
@@ -342,7 +342,7 @@ procedure_step p full c result i type free =
 when_step : induction.WhenStep Says Declares Blocks Classes Procedures Arms
 when_step w = tt
 
-plain_block : (b : Block) → Blocks (block_shown b) (block_syntax b)
+plain_block : (b : Block) → Blocks (block_derivation b) (block_syntax b)
 plain_block = induction.each_block Says Declares Blocks Classes Procedures Arms stmt_step decl_step block_step class_step procedure_step when_step
 
 -- ---- a program
@@ -354,7 +354,7 @@ no_prefix (Some x) h = absurd (no h)
 pub plain_program : (ws : List Token) (p : ProgramTree) → IsTree ws p → needs_classes ws ≡ false → passes_code (program_syntax p) ≡ false → Plain (program_syntax p)
 unfolding program_syntax passes_code program_events
 plain_program ws p tree free h =
-    let f = node g.Program (program_shown p) done in
+    let f = node g.Program (program_derivation p) done in
     let full = is_full-Full f (reads_full tree.reads) in
     let c = reads_clean (none_needs false false ws free) tree.reads in
     let both = free_first (is_prefixed (option_map t.prefix_syntax p.prefix)) (whole_events forms (block_syntax p.block)) h in
@@ -364,7 +364,7 @@ plain_program ws p tree free h =
       block = go p.prefix none full.1 c.0 (free_whole (block_syntax p.block) both.1);
     }
   where
-    go : (x : Option BlockPrefix) → x ≡ None → Full (d.prefixed x (node g.Compound (block_shown p.block) done)) → Clean (d.prefixed x (node g.Compound (block_shown p.block) done)) → FreeBlock (block_syntax p.block) → PlainBlock (block_syntax p.block)
+    go : (x : Option BlockPrefix) → x ≡ None → Full (d.prefixed x (node g.Compound (block_derivation p.block) done)) → Clean (d.prefixed x (node g.Compound (block_derivation p.block) done)) → FreeBlock (block_syntax p.block) → PlainBlock (block_syntax p.block)
     go None is full c free = plain_block p.block full.1 c.0 free
     go (Some x) is full c free = absurd (other is)
       where

@@ -96,20 +96,20 @@ module _ {most : ℕ} {ws : List Token} (free : (i : ℕ) → needs (dotted_at f
   unfolding terminal_at
   clean reads-done true is r st = absurd (false≢true r)
   clean reads-done false is r st = (tt, is)
-  clean (reads-kept {i = i} {any = any} {s = s} h q) dotted is r st =
+  clean (reads-kept {start = i} {any = any} {s = s} h q) dotted is r st =
       let rest = clean q (is_dot (kind_at ws i)) (behind ws i) (behind_kept (kind_at ws i) any s h (left_true (ready (one_of any t.Dot) s) (steady s) st)) (right_true (ready (one_of any t.Dot) s) (steady s) st) in
       ((subst (λ z. needs z (kind_at ws i) ≡ false) is (free i), rest.0), rest.1)
   clean (reads-mark h q) true is r st = absurd (false≢true r)
-  clean (reads-mark {i = i} {a = a} {s = s} h q) false is r st =
+  clean (reads-mark {start = i} {a = a} {s = s} h q) false is r st =
       clean q false (behind ws i ∙ behind_mark (kind_at ws i) a h (left_true (not (g.is t.Dot a)) (steady s) st)) refl (right_true (not (g.is t.Dot a)) (steady s) st)
   clean (reads-any h q) true is r st = absurd (false≢true r)
-  clean (reads-any {i = i} {a = a} {s = s} h q) false is r st = clean q false (behind ws i ∙ behind_mark (kind_at ws i) a h (left_true (not (g.is t.Dot a)) (steady s) st)) refl st
+  clean (reads-any {start = i} {a = a} {s = s} h q) false is r st = clean q false (behind ws i ∙ behind_mark (kind_at ws i) a h (left_true (not (g.is t.Dot a)) (steady s) st)) refl st
   clean (reads-none h q) true is r st = absurd (false≢true r)
   clean (reads-none {a = a} {s = s} h q) false is r st = clean q false is refl (right_true (not (g.is t.Dot a)) (steady s) st)
   clean (reads-here q) true is r st = absurd (false≢true r)
   clean (reads-here q) false is r st = clean q false is refl st
   clean (reads-part b sh q p) true is r st = absurd (false≢true r)
-  clean (reads-part {i = i} {t = times} {n = n} {right = right} {s = s} b sh q p) false is r st =
+  clean (reads-part {start = i} {t = times} {n = n} {right = right} {s = s} b sh q p) false is r st =
       let inside = clean q false is refl (right_steady n ws i right b) in
       let rest = clean p false inside.1 refl (after_steady times n s st) in
       ((inside.0, rest.0), rest.1)

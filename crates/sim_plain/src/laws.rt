@@ -12,5 +12,5 @@ ghost use Rattle.sim_agree.specs.Plain.{Plain};
 /// their forms.
 #[tactic(auto, using(crate::proofs::Whole::whole))]
 pub fn plain_programs()
-    ensures { (ws : List Token) (p : Tree) → IsTree ws p → needs_classes ws ≡ false → passes_code (program_syntax p) ≡ false → Plain (program_syntax p) }
+    ensures { (tokens : List Token) (p : Tree) → IsTree tokens p → needs_classes tokens ≡ false → passes_code (program_syntax p) ≡ false → Plain (program_syntax p) }
 {}

@@ -18,14 +18,14 @@ use Rattle.sim_tree.specs.Terminal.{terminal_of}
 use Rattle.sim_tree.specs.Grammar as g
 use Rattle.sim_tree.specs.Grammar.{Any, Here, Kept, Many, Mark, Maybe, Of, Once, Part, Symbol, chosen, is, just, one_of, rows, signs, types}
 use Rattle.sim_tree.specs.Reading.{Forest, done, kind_at, leaf}
-use Rattle.sim_tree.specs.ShownProgram.{constant_shown, mode_kind, mode_shown, next_bounds, next_id, specification_shown, type_shown, virtual_shown}
+use Rattle.sim_tree.specs.ProgramDerivation.{constant_derivation, mode_kind, mode_derivation, next_bounds, next_id, specification_derivation, type_derivation, virtual_derivation}
 use Rattle.sim_readings.proofs.Expressions.{sign_in}
 use Rattle.sim_readings.proofs.Making.{at, gather, leaf-is, listed, name_of, named, node-is, row-is, value_of, word}
 use Rattle.sim_readings.proofs.Parts.{Good, Row, absent, kept, many, mark, nil, once, there}
 
 -- ---- what tokens stand for
 
-simple_type : (i : ℕ) (x : TokenKind) → chosen (rows g.TypeName) (terminal_of x) ≡ Some (Kept types ∷ []) → one_of types (terminal_of x) ≡ true → (a : TypeName) × (type_shown a ≡ leaf i x done)
+simple_type : (i : ℕ) (x : TokenKind) → chosen (rows g.TypeName) (terminal_of x) ≡ Some (Kept types ∷ []) → one_of types (terminal_of x) ≡ true → (a : TypeName) × (type_derivation a ≡ leaf i x done)
 unfolding is
 simple_type i k.IntegerWord e h = (type_name.Integer (at i), refl)
 simple_type i k.Boolean e h = (type_name.Boolean (at i), refl)
@@ -34,7 +34,7 @@ simple_type i k.TextWord e h = (type_name.Text (at i), refl)
 simple_type i k.Ref e h = absurd (cc)
 simple_type i _ e h = absurd (false≢true h)
 
-constant_in : (i : ℕ) (x : TokenKind) → one_of (t.Integer ∷ t.Character ∷ t.Text ∷ t.True ∷ t.False ∷ []) (terminal_of x) ≡ true → (a : Constant) × (constant_shown a ≡ leaf i x done)
+constant_in : (i : ℕ) (x : TokenKind) → one_of (t.Integer ∷ t.Character ∷ t.Text ∷ t.True ∷ t.False ∷ []) (terminal_of x) ≡ true → (a : Constant) × (constant_derivation a ≡ leaf i x done)
 unfolding is
 constant_in i (k.Integer v) h = (constant.Integer None (at i) v, refl)
 constant_in i (k.Character v) h = (constant.Character (at i) v, refl)
@@ -140,8 +140,8 @@ module _ (ws : List Token) (room : (n : ℕ) → n ≤ length ws + 1 → n < 2 ^
   pub heading_row : {i : ℕ} {f : Forest} → Row ws (Mark t.Open ∷ Of Once g.Identifiers ∷ Mark t.Close ∷ Mark t.Semicolon ∷ Of Many g.Mode ∷ Of Once g.Specification ∷ Of Many g.Specification ∷ []) i f
       → Good ws g.Heading i f
   heading_row (mark (once a ahead took (mark (mark (many xs its small (once b ahead' took' (many ys its' small' nil))))))) =
-      let ms = gather ws mode_shown g.Mode (λ i f x. x) xs its in
-      let ss = gather ws specification_shown g.Specification (λ i f x. x) ys its' in (
+      let ms = gather ws mode_derivation g.Mode (λ i f x. x) xs its in
+      let ss = gather ws specification_derivation g.Specification (λ i f x. x) ys its' in (
         a.0 ∷ a.1,
         ms.0,
         b.0 ∷ ss.0,
@@ -202,5 +202,5 @@ module _ (ws : List Token) (room : (n : ℕ) → n ≤ length ws + 1 → n < 2 ^
 
   pub virtuals_row : {i : ℕ} {f : Forest} → Row ws (Mark t.Virtual ∷ Mark t.Colon ∷ Of Once g.VirtualSpecification ∷ Of Many g.VirtualSpecification ∷ []) i f → Good ws g.Virtuals i f
   virtuals_row (mark (mark (once a ahead took (many xs its small nil)))) =
-      let l = gather ws virtual_shown g.VirtualSpecification (λ i f x. x) xs its in
+      let l = gather ws virtual_derivation g.VirtualSpecification (λ i f x. x) xs its in
       (a.0 ∷ l.0, omega (arith, l.2, small), λ rest. node-is g.Virtuals (node-is g.VirtualSpecification a.1 (row-is g.VirtualSpecification l.1 refl)) refl)

@@ -17,8 +17,8 @@ use Rattle.sim_tree.specs.declared.terminal.Terminal.TheVariants as t
 use Rattle.sim_tree.specs.Terminal.{terminal_of}
 use Rattle.sim_tree.specs.Grammar.{Part, is, just, one_of}
 use Rattle.sim_tree.specs.Reading.{Forest, leaf, node}
-use Rattle.sim_tree.specs.Shown.{row, shown}
-use Rattle.sim_tree.proofs.ShownLemmas.{raise-same}
+use Rattle.sim_tree.specs.Derivation.{row, derivation_of}
+use Rattle.sim_tree.proofs.DerivationLemmas.{raise-same}
 use Rattle.sim_expr_parser.proofs.Terminals.{is_bare, kind_from}
 use Rattle.sim_readings.proofs.Parts.{Good, Items, Levelled, Made}
 
@@ -72,8 +72,8 @@ maps f h [] = refl
 maps f h (x ∷ xs) = ap (λ l. f (h x) ∷ l) (maps f h xs)
 
 -- an expression that stands for what is inside its level
-pub level-made : (m : ℕ) (x : Expr) (h : Forest) {f : Forest} → shown x ≡ record { level = m; inside = h } → h ≡ f → Levelled m f
-level-made m x h says e = let same : (shown x).level ≡ m = ap (λ s. s.level) says in (x, omega (arith, same), raise-same m (shown x) same ∙ ap (λ s. s.inside) says ∙ e)
+pub level-made : (m : ℕ) (x : Expr) (h : Forest) {f : Forest} → derivation_of x ≡ record { level = m; inside = h } → h ≡ f → Levelled m f
+level-made m x h says e = let same : (derivation_of x).level ≡ m = ap (λ s. s.level) says in (x, omega (arith, same), raise-same m (derivation_of x) same ∙ ap (λ s. s.inside) says ∙ e)
 
 -- ---- what repeated parts gave
 

@@ -27,8 +27,8 @@ use Rattle.sim_tree.specs.Terminal.{terminal_of}
 use Rattle.sim_tree.specs.Grammar as g
 use Rattle.sim_tree.specs.Grammar.{Any, Here, Kept, Many, Mark, Maybe, Of, Once, Part, Symbol, one_of}
 use Rattle.sim_tree.specs.Reading.{Forest, done, kind_at, leaf, node, place}
-use Rattle.sim_tree.specs.Shown.{argument, arguments, identifier, item, membership_kind, not_mark, operand_shown, raise, relation_kind, row, selector_shown, shown, sign_kind, term_shown, factor_shown, whole}
-use Rattle.sim_tree.specs.ShownProgram.{Plain, assigned_shown, block_shown, bounds_shown, class_shown, constant_shown, contents, decl_shown, expr, for_element_shown, for_elements, heading_shown, ids, mode_shown, next_bounds, next_for_element, next_id, next_reference_element, next_segment, next_statement, next_variable, prefixed, procedure_shown, protection_shown, reference_element_shown, reference_elements, segment_shown, specification_shown, stmt_shown, timing_inside, type_shown, variable_shown, virtual_shown, virtuals_shown, when_shown}
+use Rattle.sim_tree.specs.Derivation.{argument, arguments, identifier, item, membership_kind, not_mark, operand_derivation, raise, relation_kind, row, selector_derivation, derivation_of, sign_kind, term_derivation, factor_derivation, whole}
+use Rattle.sim_tree.specs.ProgramDerivation.{Plain, assigned_derivation, block_derivation, bounds_derivation, class_derivation, constant_derivation, contents, declaration_derivation, expr, for_element_derivation, for_elements, heading_derivation, ids, mode_derivation, next_bounds, next_for_element, next_id, next_reference_element, next_segment, next_statement, next_variable, prefixed, procedure_derivation, protection_derivation, reference_element_derivation, reference_elements, segment_derivation, specification_derivation, statement_derivation, timing_inside, type_derivation, variable_derivation, virtual_derivation, virtuals_derivation, when_derivation}
 use Rattle.sim_readings.proofs.Table.{takes}
 
 module _ {A : Type 0} where
@@ -38,11 +38,11 @@ module _ {A : Type 0} where
 
 -- an expression of a level or of one below it
 abbrev pub Levelled : ℕ → Forest → Type 0
-Levelled m f = (x : Expr) × ((shown x).level ≤ m) × (raise m (shown x) ≡ f)
+Levelled m f = (x : Expr) × ((derivation_of x).level ≤ m) × (raise m (derivation_of x) ≡ f)
 
 -- an operator and its right operand
 abbrev pub Tailed : ℕ → TokenKind → Forest → Type 0
-Tailed m kind f = (x : Operand) × (item m kind (operand_shown x) ≡ f)
+Tailed m kind f = (x : Operand) × (item m kind (operand_derivation x) ≡ f)
 
 -- the token that the derivation of a statement begins with is that of its place
 abbrev pub Begun : List Token → ℕ → Forest → Type 0
@@ -50,48 +50,48 @@ Begun ws i (leaf j kind rest) = kind ≡ kind_at ws i
 Begun ws i _ = Unit {0}
 
 abbrev pub Contents : List Token → ℕ → Forest → Type 0
-Contents ws i f = (ds : List Decl) × (ss : List Stmt) × (end : TokenNo) × (length ds ≤ length ws - i) × (length ss ≤ length ws + 1) × (contents (map decl_shown ds) (map stmt_shown ss) end.0 ≡ f)
+Contents ws i f = (ds : List Decl) × (ss : List Stmt) × (end : TokenNo) × (length ds ≤ length ws - i) × (length ss ≤ length ws + 1) × (contents (map declaration_derivation ds) (map statement_derivation ss) end.0 ≡ f)
 
 abbrev pub Branch : Forest → Type 0
-Branch f = (s : Stmt) × (node g.Statement (stmt_shown s) done ≡ f)
+Branch f = (s : Stmt) × (node g.Statement (statement_derivation s) done ≡ f)
 
 abbrev pub Good : List Token → Part → ℕ → Forest → Type 0
-Good ws g.Program i f = (x : Option BlockPrefix) × (b : Block) × (prefixed x (node g.Compound (block_shown b) done) ≡ f)
-Good ws g.Compound i f = Made block_shown f
+Good ws g.Program i f = (x : Option BlockPrefix) × (b : Block) × (prefixed x (node g.Compound (block_derivation b) done) ≡ f)
+Good ws g.Compound i f = Made block_derivation f
 Good ws g.Block i f = Contents ws i f
 Good ws g.AfterDeclaration i f = f ≡ done
 Good ws g.AfterIdentifier i f = (x : Identifier) → Contents ws i (identifier x (node g.AfterIdentifier f done))
-Good ws g.Declaration i f = (d : Decl) × (decl_shown d ≡ Plain f)
-Good ws g.TypedDeclaration i f = (t : TypeName) → (d : Decl) × (decl_shown d ≡ Plain (node g.TypeName (type_shown t) (node g.TypedDeclaration f done)))
+Good ws g.Declaration i f = (d : Decl) × (declaration_derivation d ≡ Plain f)
+Good ws g.TypedDeclaration i f = (t : TypeName) → (d : Decl) × (declaration_derivation d ≡ Plain (node g.TypeName (type_derivation t) (node g.TypedDeclaration f done)))
 Good ws g.NextArraySegment i f = Made next_segment f
 Good ws g.NextVariable i f = Made next_variable f
-Good ws g.TypeName i f = Made type_shown f
-Good ws g.Variable i f = Made variable_shown f
-Good ws g.Value i f = (c : Constant) × (node g.Constant (constant_shown c) done ≡ f)
-Good ws g.Constant i f = Made constant_shown f
+Good ws g.TypeName i f = Made type_derivation f
+Good ws g.Variable i f = Made variable_derivation f
+Good ws g.Value i f = (c : Constant) × (node g.Constant (constant_derivation c) done ≡ f)
+Good ws g.Constant i f = Made constant_derivation f
 Good ws g.Identifiers i f = (x : Identifier) × (xs : List Identifier) × (length xs ≤ length ws) × (ids (x ∷ xs) ≡ f)
 Good ws g.NextIdentifier i f = Made next_id f
-Good ws g.ArraySegment i f = Made segment_shown f
-Good ws g.Bounds i f = Made bounds_shown f
+Good ws g.ArraySegment i f = Made segment_derivation f
+Good ws g.Bounds i f = Made bounds_derivation f
 Good ws g.NextBounds i f = Made next_bounds f
-Good ws g.Procedure i f = Made procedure_shown f
+Good ws g.Procedure i f = Made procedure_derivation f
 Good ws g.Heading i f =
-    (ps : List Identifier) × (ms : List ModePart) × (ss : List Specification) × (length ps ≤ length ws + 1) × (length ms ≤ length ws + 1) × (length ss ≤ length ws + 1) × (heading_shown ps ms ss ≡ f)
-Good ws g.Mode i f = Made mode_shown f
-Good ws g.Specification i f = Made specification_shown f
+    (ps : List Identifier) × (ms : List ModePart) × (ss : List Specification) × (length ps ≤ length ws + 1) × (length ms ≤ length ws + 1) × (length ss ≤ length ws + 1) × (heading_derivation ps ms ss ≡ f)
+Good ws g.Mode i f = Made mode_derivation f
+Good ws g.Specification i f = Made specification_derivation f
 Good ws g.SpecifiedKind i f = (leaf i k.Array done ≡ f) ⊎ (leaf i k.Procedure done ≡ f)
-Good ws g.Class i f = Made class_shown f
-Good ws g.Protection i f = Made protection_shown f
+Good ws g.Class i f = Made class_derivation f
+Good ws g.Protection i f = Made protection_derivation f
 Good ws g.AndProtected i f = leaf i k.Protected done ≡ f
 Good ws g.AndHidden i f = leaf i k.Hidden done ≡ f
-Good ws g.Virtuals i f = (vs : List VirtualSpecification) × (length vs ≤ length ws + 1) × ((rest : Forest) → virtuals_shown vs rest ≡ node g.Virtuals f rest)
-Good ws g.VirtualSpecification i f = Made virtual_shown f
-Good ws g.NextStatement i f = (s : Stmt) × (next_statement (stmt_shown s) ≡ f)
-Good ws g.Statement i f = (s : Stmt) × (stmt_shown s ≡ f) × Begun ws i f
-Good ws g.StatementOfIdentifier i f = (x : Identifier) → (s : Stmt) × (stmt_shown s ≡ identifier x f)
+Good ws g.Virtuals i f = (vs : List VirtualSpecification) × (length vs ≤ length ws + 1) × ((rest : Forest) → virtuals_derivation vs rest ≡ node g.Virtuals f rest)
+Good ws g.VirtualSpecification i f = Made virtual_derivation f
+Good ws g.NextStatement i f = (s : Stmt) × (next_statement (statement_derivation s) ≡ f)
+Good ws g.Statement i f = (s : Stmt) × (statement_derivation s ≡ f) × Begun ws i f
+Good ws g.StatementOfIdentifier i f = (x : Identifier) → (s : Stmt) × (statement_derivation s ≡ identifier x f)
 Good ws g.AfterFirstOperand i f =
-    (x : Identifier) → (es : List Expr) → length es ≤ length ws + 1 → (s : Stmt) × (stmt_shown s ≡ identifier x (arguments (map shown es) (node g.AfterFirstOperand f done)))
-Good ws g.Assigned i f = Made assigned_shown f
+    (x : Identifier) → (es : List Expr) → length es ≤ length ws + 1 → (s : Stmt) × (statement_derivation s ≡ identifier x (arguments (map derivation_of es) (node g.AfterFirstOperand f done)))
+Good ws g.Assigned i f = Made assigned_derivation f
 Good ws g.ElseBranch i f = Branch f
 Good ws g.ForList i f =
     ((n : TokenNo) × (es : List ForElement) × (length es ≤ length ws + 1) × (leaf n.0 k.Assign (for_elements es) ≡ f))
@@ -99,14 +99,14 @@ Good ws g.ForList i f =
 Good ws g.NextForElement i f = Made next_for_element f
 Good ws g.NextReferenceElement i f = Made next_reference_element f
 Good ws g.Arms i f =
-    ((n : TokenNo) × (s : Stmt) × (end : TokenNo) × (leaf n.0 k.Do (node g.Statement (stmt_shown s) (place end.0 done)) ≡ f))
-    ⊎ ((arms : List When) × (length arms ≤ length ws + 1) × (row g.WhenArm (map when_shown arms) done ≡ f))
+    ((n : TokenNo) × (s : Stmt) × (end : TokenNo) × (leaf n.0 k.Do (node g.Statement (statement_derivation s) (place end.0 done)) ≡ f))
+    ⊎ ((arms : List When) × (length arms ≤ length ws + 1) × (row g.WhenArm (map when_derivation arms) done ≡ f))
 Good ws g.OtherwiseBranch i f = Branch f
-Good ws g.ForElement i f = Made for_element_shown f
-Good ws g.ForElementTail i f = (v : Expr) → (x : ForElement) × (for_element_shown x ≡ expr v (node g.ForElementTail f done))
-Good ws g.ReferenceElement i f = Made reference_element_shown f
-Good ws g.ReferenceElementTail i f = (v : Expr) → (x : ReferenceElement) × (reference_element_shown x ≡ expr v (node g.ReferenceElementTail f done))
-Good ws g.WhenArm i f = Made when_shown f
+Good ws g.ForElement i f = Made for_element_derivation f
+Good ws g.ForElementTail i f = (v : Expr) → (x : ForElement) × (for_element_derivation x ≡ expr v (node g.ForElementTail f done))
+Good ws g.ReferenceElement i f = Made reference_element_derivation f
+Good ws g.ReferenceElementTail i f = (v : Expr) → (x : ReferenceElement) × (reference_element_derivation x ≡ expr v (node g.ReferenceElementTail f done))
+Good ws g.WhenArm i f = Made when_derivation f
 Good ws g.Timing i f = Made timing_inside f
 Good ws g.PriorMark i f = (n : TokenNo) × (leaf n.0 k.Prior done ≡ f)
 Good ws g.Expression i f = Levelled 14 f
@@ -126,22 +126,22 @@ Good ws g.Negation i f = Levelled 7 f
 Good ws g.NotSign i f = Made not_mark f
 Good ws g.Relation i f = Levelled 6 f
 Good ws g.RelationTail i f =
-    ((r : Relation) × (n : TokenNo) × (x : Expr) × (leaf n.0 (relation_kind r) (node g.Concatenation (raise 5 (shown x)) done) ≡ f))
+    ((r : Relation) × (n : TokenNo) × (x : Expr) × (leaf n.0 (relation_kind r) (node g.Concatenation (raise 5 (derivation_of x)) done) ≡ f))
     ⊎ ((r : Membership) × (n : TokenNo) × (x : Identifier) × (leaf n.0 (membership_kind r) (identifier x done) ≡ f))
 Good ws g.Concatenation i f = Levelled 5 f
 Good ws g.NextConcatenated i f = Tailed 4 k.Ampersand f
 Good ws g.Sum i f = Levelled 4 f
 Good ws g.LeadingSign i f = (s : LeadingSign) × (leaf s.token.0 (sign_kind s.sign) done ≡ f)
-Good ws g.NextTerm i f = Made term_shown f
+Good ws g.NextTerm i f = Made term_derivation f
 Good ws g.Term i f = Levelled 3 f
-Good ws g.NextFactor i f = Made factor_shown f
+Good ws g.NextFactor i f = Made factor_derivation f
 Good ws g.Factor i f = Levelled 2 f
 Good ws g.NextPower i f = Tailed 1 k.Power f
-Good ws g.Postfix i f = (x : Expr) × ((shown x).level ≤ 1) × (raise 1 (shown x) ≡ f) × (rest : Forest) × (selected : Forest) × (f ≡ node g.Primary (leaf i (kind_at ws i) rest) selected)
-Good ws g.Selection i f = Made selector_shown f
-Good ws g.Primary i f = (x : Expr) × ((shown x).level ≡ 0) × (raise 0 (shown x) ≡ f) × (rest : Forest) × (f ≡ leaf i (kind_at ws i) rest)
-Good ws g.Arguments i f = (x : Expr) × (xs : List Expr) × (length xs ≤ length ws) × (node g.Expression (whole (shown x)) (row g.NextArgument (map argument (map shown xs)) done) ≡ f)
-Good ws g.NextArgument i f = (x : Expr) × (argument (shown x) ≡ f)
+Good ws g.Postfix i f = (x : Expr) × ((derivation_of x).level ≤ 1) × (raise 1 (derivation_of x) ≡ f) × (rest : Forest) × (selected : Forest) × (f ≡ node g.Primary (leaf i (kind_at ws i) rest) selected)
+Good ws g.Selection i f = Made selector_derivation f
+Good ws g.Primary i f = (x : Expr) × ((derivation_of x).level ≡ 0) × (raise 0 (derivation_of x) ≡ f) × (rest : Forest) × (f ≡ leaf i (kind_at ws i) rest)
+Good ws g.Arguments i f = (x : Expr) × (xs : List Expr) × (length xs ≤ length ws) × (node g.Expression (whole (derivation_of x)) (row g.NextArgument (map argument (map derivation_of xs)) done) ≡ f)
+Good ws g.NextArgument i f = (x : Expr) × (argument (derivation_of x) ≡ f)
 
 -- what a repeated part gave
 abbrev pub Items : List Token → Part → List Forest → Type 0

@@ -31,10 +31,10 @@ use Rattle.sim_tree.specs.Terminal.{terminal_of}
 use Rattle.sim_tree.specs.Grammar as g
 use Rattle.sim_tree.specs.Grammar.{Any, Here, Kept, Many, Mark, Maybe, Of, Once, Part, Symbol, assignments, begins_statement, chosen, is, just, one_of, rows}
 use Rattle.sim_tree.specs.Reading.{Forest, done, kind_at, leaf, node, place}
-use Rattle.sim_tree.specs.Shown.{Shown, arguments, identifier, raise, row, selector_shown, shown}
-use Rattle.sim_tree.specs.ShownProgram.{Plain, acted, activation_kind, assigned_shown, assignment_kind, begun, block_shown, contents, decl_shown, expr, joined, next_for_element, next_reference_element, next_segment, next_statement, next_variable, prior_shown, protection_shown, stmt_shown, timing_inside, when_shown}
+use Rattle.sim_tree.specs.Derivation.{Derivation, arguments, identifier, raise, row, selector_derivation, derivation_of}
+use Rattle.sim_tree.specs.ProgramDerivation.{Plain, acted, activation_kind, assigned_derivation, assignment_kind, begun, block_derivation, contents, declaration_derivation, expr, joined, next_for_element, next_reference_element, next_segment, next_statement, next_variable, prior_derivation, protection_derivation, statement_derivation, timing_inside, when_derivation}
 use Rattle.sim_tree.proofs.StatementLemmas as says
-use Rattle.sim_tree.proofs.ShownLemmas as shows
+use Rattle.sim_tree.proofs.DerivationLemmas as shows
 use Rattle.sim_readings.proofs.Expressions.{actuals, selected_of}
 use Rattle.sim_readings.proofs.Making.{at, boxed, gather, leaf-is, level-made, listed, maps, name_of, named, node-is, row-is, word}
 use Rattle.sim_readings.proofs.Parts.{Begun, Good, Items, Levelled, Row, absent, here, kept, many, mark, nil, once, passed, there}
@@ -53,7 +53,7 @@ activation_in k.Activate h = (activation.Activate, refl)
 activation_in k.Reactivate h = (activation.Reactivate, refl)
 activation_in _ h = absurd (false≢true h)
 
-time_in : (i : ℕ) (x : TokenKind) → one_of (t.At ∷ t.Delay ∷ []) (terminal_of x) ≡ true → (v : Expr) (prior : Option TokenNo) → (a : Timing) × (timing_inside a ≡ leaf i x (expr v (prior_shown prior)))
+time_in : (i : ℕ) (x : TokenKind) → one_of (t.At ∷ t.Delay ∷ []) (terminal_of x) ≡ true → (v : Expr) (prior : Option TokenNo) → (a : Timing) × (timing_inside a ≡ leaf i x (expr v (prior_derivation prior)))
 unfolding is
 time_in i k.At h v prior = (timing.At (at i) v prior, refl)
 time_in i k.Delay h v prior = (timing.Delay (at i) v prior, refl)
@@ -96,22 +96,22 @@ joined_row : (n : Part) (fs : List Forest) (rest : Forest) → joined (row n fs 
 joined_row n [] rest = refl
 joined_row n (f ∷ fs) rest = ap (node n f) (joined_row n fs rest)
 
-joined_arguments : (l : List Shown) (rest : Forest) → joined (arguments l done) rest ≡ arguments l rest
+joined_arguments : (l : List Derivation) (rest : Forest) → joined (arguments l done) rest ≡ arguments l rest
 joined_arguments [] rest = refl
 joined_arguments (x ∷ xs) rest = refl
 
-acted_named : (x : Identifier) (l : List Shown) (fs : List Forest) (rest : Forest)
+acted_named : (x : Identifier) (l : List Derivation) (fs : List Forest) (rest : Forest)
     → acted (node g.Primary (identifier x (arguments l done)) (row g.Selection fs done)) rest ≡ identifier x (arguments l (node g.AfterFirstOperand (row g.Selection fs rest) done))
 acted_named x l fs rest =
     ap (λ z. leaf x.token.0 (k.Identifier x.name) (joined (arguments l done) (node g.AfterFirstOperand z done))) (joined_row g.Selection fs rest)
     ∙ ap (leaf x.token.0 (k.Identifier x.name)) (joined_arguments l (node g.AfterFirstOperand (row g.Selection fs rest) done))
 
 -- a call, or assignments
-operation : (left : Expr) {h : Forest} → raise 1 (shown left) ≡ h → {xs : List Forest} (l : List Assigned) → map assigned_shown l ≡ xs → length l < 2 ^ 63 → (a : Stmt) × (stmt_shown a ≡ acted h (row g.Assigned xs done))
-operation left {h = h} is [] es some = (s.Call left, says.shown-Call left ∙ ap (λ z. acted z done) is ∙ ap (λ l. acted h (row g.Assigned l done)) es)
+operation : (left : Expr) {h : Forest} → raise 1 (derivation_of left) ≡ h → {xs : List Forest} (l : List Assigned) → map assigned_derivation l ≡ xs → length l < 2 ^ 63 → (a : Stmt) × (statement_derivation a ≡ acted h (row g.Assigned xs done))
+operation left {h = h} is [] es some = (s.Call left, says.derivation-Call left ∙ ap (λ z. acted z done) is ∙ ap (λ l. acted h (row g.Assigned l done)) es)
 operation left {h = h} is (y ∷ ys) es some = (
   s.Assignment left (listed (y ∷ ys) some),
-  says.shown-Assignment left (listed (y ∷ ys) some) ∙ ap (λ z. acted z (row g.Assigned (map assigned_shown (y ∷ ys)) done)) is ∙ ap (λ l. acted h (row g.Assigned l done)) es,
+  says.derivation-Assignment left (listed (y ∷ ys) some) ∙ ap (λ z. acted z (row g.Assigned (map assigned_derivation (y ∷ ys)) done)) is ∙ ap (λ l. acted h (row g.Assigned l done)) es,
 )
 
 module _ (ws : List Token) (room : (n : ℕ) → n ≤ length ws + 1 → n < 2 ^ 63) where
@@ -121,7 +121,7 @@ module _ (ws : List Token) (room : (n : ℕ) → n ≤ length ws + 1 → n < 2 ^
   compound {i = i} (kept h (passed past (once a ahead took nil))) =
       let ds = listed a.0 (room (length a.0) (omega (arith, a.3))) in
       let ss = listed a.1 (room (length a.1) a.4) in
-      (roll-Block (record { token = at i; declarations = ds; statements = ss; end = a.2 }), says.shown-block (at i) ds ss a.2 ∙ leaf-is (sym (word (kind_at ws i) k.Begin refl h)) (node-is g.Block a.5 refl))
+      (roll-Block (record { token = at i; declarations = ds; statements = ss; end = a.2 }), says.derivation-block (at i) ds ss a.2 ∙ leaf-is (sym (word (kind_at ws i) k.Begin refl h)) (node-is g.Block a.5 refl))
 
   pub declared_row : {i : ℕ} {f : Forest} → Row ws (Of Once g.Declaration ∷ Of Once g.AfterDeclaration ∷ Any t.Semicolon ∷ Of Once g.Block ∷ []) i f → Good ws g.Block i f
   declared_row (once d ahead took (once a ahead' took' (passed past (once b ahead'' took'' nil)))) =
@@ -131,7 +131,7 @@ module _ (ws : List Token) (room : (n : ℕ) → n ≤ length ws + 1 → n < 2 ^
         b.2,
         omega (arith, some.0, some.1, ahead', past, b.3),
         b.4,
-        ap (λ z. contents (z ∷ map decl_shown b.0) (map stmt_shown b.1) b.2.0) d.1 ∙ node-is g.Declaration refl (node-is g.AfterDeclaration (sym a) (node-is g.Block b.5 refl)),
+        ap (λ z. contents (z ∷ map declaration_derivation b.0) (map statement_derivation b.1) b.2.0) d.1 ∙ node-is g.Declaration refl (node-is g.AfterDeclaration (sym a) (node-is g.Block b.5 refl)),
       )
 
   pub identified_row : {i : ℕ} {f : Forest} → Row ws (Kept (just t.Identifier) ∷ Of Once g.AfterIdentifier ∷ []) i f → Good ws g.Block i f
@@ -143,8 +143,8 @@ module _ (ws : List Token) (room : (n : ℕ) → n ≤ length ws + 1 → n < 2 ^
   end_row {i = i} (kept h nil) = ([], [], at i, omega arith, omega arith, leaf-is (sym (word (kind_at ws i) k.End refl h)) refl)
 
   -- further statements
-  more : (xs : List Forest) → Items ws g.NextStatement xs → (l : List Stmt) × (map next_statement (map stmt_shown l) ≡ xs) × (length l ≡ length xs)
-  more xs its = let l = gather ws (λ x. next_statement (stmt_shown x)) g.NextStatement (λ i f x. x) xs its in (l.0, maps next_statement stmt_shown l.0 ∙ l.1, l.2)
+  more : (xs : List Forest) → Items ws g.NextStatement xs → (l : List Stmt) × (map next_statement (map statement_derivation l) ≡ xs) × (length l ≡ length xs)
+  more xs its = let l = gather ws (λ x. next_statement (statement_derivation x)) g.NextStatement (λ i f x. x) xs its in (l.0, maps next_statement statement_derivation l.0 ∙ l.1, l.2)
 
   pub statement_list : {i : ℕ} {f : Forest} → chosen (rows g.Block) (terminal_of (kind_at ws i)) ≡ Some statements_row → Row ws statements_row i f → Good ws g.Block i f
   statement_list {i = i} e (once {x = x} a ahead took (many xs its small (kept {i = j} h nil))) =
@@ -154,8 +154,8 @@ module _ (ws : List Token) (room : (n : ℕ) → n ≤ length ws + 1 → n < 2 ^
         at j,
         omega arith,
         omega (arith, l.2, small),
-        ap (λ z. begun z (row g.NextStatement (map next_statement (map stmt_shown l.0)) (leaf j k.End done))) a.1
-            ∙ begun_none ws i x (row g.NextStatement (map next_statement (map stmt_shown l.0)) (leaf j k.End done)) a.2 e
+        ap (λ z. begun z (row g.NextStatement (map next_statement (map statement_derivation l.0)) (leaf j k.End done))) a.1
+            ∙ begun_none ws i x (row g.NextStatement (map next_statement (map statement_derivation l.0)) (leaf j k.End done)) a.2 e
             ∙ node-is g.Statement refl (row-is g.NextStatement l.1 (leaf-is (sym (word (kind_at ws j) k.End refl h)) refl)),
       )
 
@@ -167,7 +167,7 @@ module _ (ws : List Token) (room : (n : ℕ) → n ≤ length ws + 1 → n < 2 ^
         b.2,
         omega (arith, some.0, some.1, ahead', past, b.3),
         b.4,
-        ap (λ z. contents (z ∷ map decl_shown b.0) (map stmt_shown b.1) b.2.0) (says.shown-Class-prefixed x (at i) c.0)
+        ap (λ z. contents (z ∷ map declaration_derivation b.0) (map statement_derivation b.1) b.2.0) (says.derivation-Class-prefixed x (at i) c.0)
             ∙ leaf-is refl (node-is g.AfterIdentifier (leaf-is (sym (word (kind_at ws i) k.Class refl h)) (node-is g.Class c.1 (node-is g.AfterDeclaration (sym a) (node-is g.Block b.5 refl)))) refl),
       )
 
@@ -180,7 +180,7 @@ module _ (ws : List Token) (room : (n : ℕ) → n ≤ length ws + 1 → n < 2 ^
         at j,
         omega arith,
         omega (arith, l.2, small),
-        ap (λ z. begun z (row g.NextStatement (map next_statement (map stmt_shown l.0)) (leaf j k.End done))) y.1
+        ap (λ z. begun z (row g.NextStatement (map next_statement (map statement_derivation l.0)) (leaf j k.End done))) y.1
             ∙ leaf-is refl (node-is g.AfterIdentifier (node-is g.StatementOfIdentifier refl (row-is g.NextStatement l.1 (leaf-is (sym (word (kind_at ws j) k.End refl h)) refl))) refl),
       )
 
@@ -197,16 +197,16 @@ module _ (ws : List Token) (room : (n : ℕ) → n ≤ length ws + 1 → n < 2 ^
 
   pub procedure_row : {i : ℕ} {f : Forest} → Row ws (Kept (just t.Procedure) ∷ Of Once g.Procedure ∷ []) i f → Good ws g.Declaration i f
   procedure_row {i = i} (kept h (once a ahead took nil)) =
-      (decl.Procedure None (at i) a.0, says.shown-Procedure (at i) a.0 ∙ ap Plain (leaf-is (sym (word (kind_at ws i) k.Procedure refl h)) (node-is g.Procedure a.1 refl)))
+      (decl.Procedure None (at i) a.0, says.derivation-Procedure (at i) a.0 ∙ ap Plain (leaf-is (sym (word (kind_at ws i) k.Procedure refl h)) (node-is g.Procedure a.1 refl)))
 
   pub class_row : {i : ℕ} {f : Forest} → Row ws (Kept (just t.Class) ∷ Of Once g.Class ∷ []) i f → Good ws g.Declaration i f
   class_row {i = i} (kept h (once a ahead took nil)) =
-      (decl.Class None (at i) a.0, says.shown-Class (at i) a.0 ∙ ap Plain (leaf-is (sym (word (kind_at ws i) k.Class refl h)) (node-is g.Class a.1 refl)))
+      (decl.Class None (at i) a.0, says.derivation-Class (at i) a.0 ∙ ap Plain (leaf-is (sym (word (kind_at ws i) k.Class refl h)) (node-is g.Class a.1 refl)))
 
   pub typed_procedure : {i : ℕ} {f : Forest} → Row ws (Kept (just t.Procedure) ∷ Of Once g.Procedure ∷ []) i f → Good ws g.TypedDeclaration i f
   typed_procedure {i = i} (kept h (once a ahead took nil)) x = (
     decl.Procedure (Some x) (at i) a.0,
-    says.shown-Procedure-typed x (at i) a.0 ∙ ap Plain (node-is g.TypeName refl (node-is g.TypedDeclaration (leaf-is (sym (word (kind_at ws i) k.Procedure refl h)) (node-is g.Procedure a.1 refl)) refl)),
+    says.derivation-Procedure-typed x (at i) a.0 ∙ ap Plain (node-is g.TypeName refl (node-is g.TypedDeclaration (leaf-is (sym (word (kind_at ws i) k.Procedure refl h)) (node-is g.Procedure a.1 refl)) refl)),
   )
 
   pub arrays : {i : ℕ} {f : Forest} → Row ws (Kept (just t.Array) ∷ Of Once g.ArraySegment ∷ Of Many g.NextArraySegment ∷ []) i f → Good ws g.TypedDeclaration i f
@@ -214,7 +214,7 @@ module _ (ws : List Token) (room : (n : ℕ) → n ≤ length ws + 1 → n < 2 ^
       let l = gather ws next_segment g.NextArraySegment (λ i f y. y) xs its in
       let v = listed (a.0 ∷ l.0) (room (suc (length l.0)) (omega (arith, l.2, small))) in (
         decl.Arrays x (at i) v,
-        says.shown-Arrays x (at i) v
+        says.derivation-Arrays x (at i) v
             ∙ ap Plain (node-is g.TypeName refl (node-is g.TypedDeclaration (leaf-is (sym (word (kind_at ws i) k.Array refl h)) (node-is g.ArraySegment a.1 (row-is g.NextArraySegment l.1 refl))) refl)),
       )
 
@@ -222,7 +222,7 @@ module _ (ws : List Token) (room : (n : ℕ) → n ≤ length ws + 1 → n < 2 ^
   variables (once a ahead took (many xs its small nil)) x =
       let l = gather ws next_variable g.NextVariable (λ i f y. y) xs its in
       let v = listed (a.0 ∷ l.0) (room (suc (length l.0)) (omega (arith, l.2, small))) in
-      (decl.Variables x v, says.shown-Variables x v ∙ ap Plain (node-is g.TypeName refl (node-is g.TypedDeclaration (node-is g.Variable a.1 (row-is g.NextVariable l.1 refl)) refl)))
+      (decl.Variables x v, says.derivation-Variables x v ∙ ap Plain (node-is g.TypeName refl (node-is g.TypedDeclaration (node-is g.Variable a.1 (row-is g.NextVariable l.1 refl)) refl)))
 
   pub procedure : {i : ℕ} {f : Forest} → Row ws (Kept (just t.Identifier) ∷ Of Once g.Heading ∷ Of Once g.Statement ∷ Here ∷ []) i f → Good ws g.Procedure i f
   procedure {i = i} (kept h (once a ahead took (once b ahead' took' (here {i = j} nil)))) =
@@ -231,7 +231,7 @@ module _ (ws : List Token) (room : (n : ℕ) → n ≤ length ws + 1 → n < 2 ^
       let ms = listed a.1 (room (length a.1) a.4) in
       let ss = listed a.2 (room (length a.2) a.5) in (
         roll-Procedure (record { name = named i x.0; parameters = ps; modes = ms; specifications = ss; body = boxed b.0; end = at j }),
-        says.shown-procedure (named i x.0) ps ms ss (boxed b.0) (at j) ∙ leaf-is (sym x.1) (node-is g.Heading a.6 (node-is g.Statement b.1 refl)),
+        says.derivation-procedure (named i x.0) ps ms ss (boxed b.0) (at j) ∙ leaf-is (sym x.1) (node-is g.Heading a.6 (node-is g.Statement b.1 refl)),
       )
 
   pub class : {i : ℕ} {f : Forest} → Row ws (Kept (just t.Identifier) ∷ Of Once g.Heading ∷ Of Many g.Protection ∷ Of Maybe g.Virtuals ∷ Of Once g.Statement ∷ Here ∷ []) i f → Good ws g.Class i f
@@ -240,23 +240,23 @@ module _ (ws : List Token) (room : (n : ℕ) → n ≤ length ws + 1 → n < 2 ^
       let ps = listed a.0 (room (length a.0) a.3) in
       let ms = listed a.1 (room (length a.1) a.4) in
       let ss = listed a.2 (room (length a.2) a.5) in
-      let l = gather ws protection_shown g.Protection (λ i f y. y) xs its in
+      let l = gather ws protection_derivation g.Protection (λ i f y. y) xs its in
       let rs = listed l.0 (room (length l.0) (omega (arith, l.2, small))) in
       let vs : Vec VirtualSpecification Global = listed [] (room 0 (omega arith)) in (
         roll-Class (record { name = named i x.0; parameters = ps; modes = ms; specifications = ss; protections = rs; virtuals = vs; body = boxed b.0; end = at j }),
-        says.shown-class (named i x.0) ps ms ss rs vs (boxed b.0) (at j) ∙ leaf-is (sym x.1) (node-is g.Heading a.6 (row-is g.Protection l.1 (node-is g.Statement b.1 refl))),
+        says.derivation-class (named i x.0) ps ms ss rs vs (boxed b.0) (at j) ∙ leaf-is (sym x.1) (node-is g.Heading a.6 (row-is g.Protection l.1 (node-is g.Statement b.1 refl))),
       )
   class {i = i} (kept h (once a ahead took (many xs its small (there c (once b ahead' took' (here {i = j} nil)))))) =
       let x = name_of (kind_at ws i) h in
       let ps = listed a.0 (room (length a.0) a.3) in
       let ms = listed a.1 (room (length a.1) a.4) in
       let ss = listed a.2 (room (length a.2) a.5) in
-      let l = gather ws protection_shown g.Protection (λ i f y. y) xs its in
+      let l = gather ws protection_derivation g.Protection (λ i f y. y) xs its in
       let rs = listed l.0 (room (length l.0) (omega (arith, l.2, small))) in
       let vs = listed c.0 (room (length c.0) c.1) in (
         roll-Class (record { name = named i x.0; parameters = ps; modes = ms; specifications = ss; protections = rs; virtuals = vs; body = boxed b.0; end = at j }),
-        says.shown-class (named i x.0) ps ms ss rs vs (boxed b.0) (at j)
-            ∙ leaf-is (sym x.1) (node-is g.Heading a.6 (row-is g.Protection l.1 (c.2 (node g.Statement (stmt_shown b.0) (place j done)) ∙ node-is g.Virtuals refl (node-is g.Statement b.1 refl)))),
+        says.derivation-class (named i x.0) ps ms ss rs vs (boxed b.0) (at j)
+            ∙ leaf-is (sym x.1) (node-is g.Heading a.6 (row-is g.Protection l.1 (c.2 (node g.Statement (statement_derivation b.0) (place j done)) ∙ node-is g.Virtuals refl (node-is g.Statement b.1 refl)))),
       )
 
   -- ---- statements
@@ -265,7 +265,7 @@ module _ (ws : List Token) (room : (n : ℕ) → n ≤ length ws + 1 → n < 2 ^
   next_statement_row (mark (once a ahead took nil)) = (a.0, node-is g.Statement a.1 refl)
 
   pub begin_row : {i : ℕ} {f : Forest} → Row ws (Of Once g.Compound ∷ []) i f → Good ws g.Statement i f
-  begin_row (once a ahead took nil) = (s.Block a.0, says.shown-Block a.0 ∙ node-is g.Compound a.1 refl, tt)
+  begin_row (once a ahead took nil) = (s.Block a.0, says.derivation-Block a.0 ∙ node-is g.Compound a.1 refl, tt)
 
   pub identifier_row : {i : ℕ} {f : Forest} → Row ws (Kept (just t.Identifier) ∷ Of Maybe g.Arguments ∷ Of Once g.AfterFirstOperand ∷ []) i f → Good ws g.Statement i f
   identifier_row {i = i} (kept h (absent (once a ahead took nil))) =
@@ -285,85 +285,85 @@ module _ (ws : List Token) (room : (n : ℕ) → n ≤ length ws + 1 → n < 2 ^
   pub prefixed_block : {i : ℕ} {f : Forest} → Row ws (Of Once g.Compound ∷ []) i f → Good ws g.AfterFirstOperand i f
   prefixed_block (once a ahead took nil) x es small =
       let p : BlockPrefix = record { class = x; arguments = listed es (room (length es) small) } in
-      (s.PrefixedBlock p a.0, says.shown-PrefixedBlock p a.0 ∙ ap (λ z. identifier x (arguments (map shown es) z)) (node-is g.AfterFirstOperand (node-is g.Compound a.1 refl) refl))
+      (s.PrefixedBlock p a.0, says.derivation-PrefixedBlock p a.0 ∙ ap (λ z. identifier x (arguments (map derivation_of es) z)) (node-is g.AfterFirstOperand (node-is g.Compound a.1 refl) refl))
 
   pub operated_row : {i : ℕ} {f : Forest} → Row ws (Of Many g.Selection ∷ Of Many g.Assigned ∷ []) i f → Good ws g.AfterFirstOperand i f
   operated_row (many xs its small (many ys its' small' nil)) x es few =
       let v = listed es (room (length es) few) in
-      let selectors = gather ws selector_shown g.Selection (λ i f y. y) xs its in
-      let front : Levelled 0 (identifier x (arguments (map shown es) done)) = level-made 0 (e.Named x v) (identifier x (arguments (map shown es) done)) (shows.shown-Named x v) refl in
+      let selectors = gather ws selector_derivation g.Selection (λ i f y. y) xs its in
+      let front : Levelled 0 (identifier x (arguments (map derivation_of es) done)) = level-made 0 (e.Named x v) (identifier x (arguments (map derivation_of es) done)) (shows.derivation-Named x v) refl in
       let left = selected_of ws room selectors.0 selectors.1 (room (length selectors.0) (omega (arith, selectors.2, small))) front in
-      let l = gather ws assigned_shown g.Assigned (λ i f y. y) ys its' in
-      let a = operation left.0 left.2 l.0 l.1 (room (length l.0) (omega (arith, l.2, small'))) in (a.0, a.1 ∙ acted_named x (map shown es) xs (row g.Assigned ys done))
+      let l = gather ws assigned_derivation g.Assigned (λ i f y. y) ys its' in
+      let a = operation left.0 left.2 l.0 l.1 (room (length l.0) (omega (arith, l.2, small'))) in (a.0, a.1 ∙ acted_named x (map derivation_of es) xs (row g.Assigned ys done))
 
   pub inner_row : {i : ℕ} {f : Forest} → Row ws (Kept (just t.Inner) ∷ []) i f → Good ws g.Statement i f
-  inner_row {i = i} (kept h nil) = (s.Inner (at i), says.shown-Inner (at i) ∙ leaf-is (sym (word (kind_at ws i) k.Inner refl h)) refl, refl)
+  inner_row {i = i} (kept h nil) = (s.Inner (at i), says.derivation-Inner (at i) ∙ leaf-is (sym (word (kind_at ws i) k.Inner refl h)) refl, refl)
 
   pub operand_statement : {i : ℕ} {f : Forest} → chosen (rows g.Statement) (terminal_of (kind_at ws i)) ≡ Some operand_row → Row ws operand_row i f → Good ws g.Statement i f
   operand_statement {i = i} e (once a ahead took (many xs its small nil)) =
-      let l = gather ws assigned_shown g.Assigned (λ i f y. y) xs its in
+      let l = gather ws assigned_derivation g.Assigned (λ i f y. y) xs its in
       let b = operation a.0 (a.2 ∙ a.5) l.0 l.1 (room (length l.0) (omega (arith, l.2, small))) in
       (b.0, b.1 ∙ acted_other i (kind_at ws i) a.3 a.4 (row g.Assigned xs done) e ∙ node-is g.Postfix (sym a.5) refl, tt)
 
   pub if_row : {i : ℕ} {f : Forest} → Row ws (Kept (just t.If) ∷ Of Once g.Expression ∷ Mark t.Then ∷ Of Once g.Statement ∷ Of Maybe g.ElseBranch ∷ []) i f → Good ws g.Statement i f
   if_row {i = i} (kept h (once a ahead took (mark (once b ahead' took' (absent nil))))) =
-      (s.If (at i) a.0 (boxed b.0) None, says.shown-If (at i) a.0 (boxed b.0) ∙ leaf-is (sym (word (kind_at ws i) k.If refl h)) (node-is g.Expression a.2 (node-is g.Statement b.1 refl)), refl)
+      (s.If (at i) a.0 (boxed b.0) None, says.derivation-If (at i) a.0 (boxed b.0) ∙ leaf-is (sym (word (kind_at ws i) k.If refl h)) (node-is g.Expression a.2 (node-is g.Statement b.1 refl)), refl)
   if_row {i = i} (kept h (once a ahead took (mark (once b ahead' took' (there c nil))))) = (
     s.If (at i) a.0 (boxed b.0) (Some (boxed c.0)),
-    says.shown-If-two (at i) a.0 (boxed b.0) (boxed c.0) ∙ leaf-is (sym (word (kind_at ws i) k.If refl h)) (node-is g.Expression a.2 (node-is g.Statement b.1 (node-is g.ElseBranch c.1 refl))),
+    says.derivation-If-two (at i) a.0 (boxed b.0) (boxed c.0) ∙ leaf-is (sym (word (kind_at ws i) k.If refl h)) (node-is g.Expression a.2 (node-is g.Statement b.1 (node-is g.ElseBranch c.1 refl))),
     refl,
   )
 
   pub while_row : {i : ℕ} {f : Forest} → Row ws (Kept (just t.While) ∷ Of Once g.Expression ∷ Mark t.Do ∷ Of Once g.Statement ∷ []) i f → Good ws g.Statement i f
   while_row {i = i} (kept h (once a ahead took (mark (once b ahead' took' nil)))) =
-      (s.While (at i) a.0 (boxed b.0), says.shown-While (at i) a.0 (boxed b.0) ∙ leaf-is (sym (word (kind_at ws i) k.While refl h)) (node-is g.Expression a.2 (node-is g.Statement b.1 refl)), refl)
+      (s.While (at i) a.0 (boxed b.0), says.derivation-While (at i) a.0 (boxed b.0) ∙ leaf-is (sym (word (kind_at ws i) k.While refl h)) (node-is g.Expression a.2 (node-is g.Statement b.1 refl)), refl)
 
   pub for_row : {i : ℕ} {f : Forest} → Row ws (Kept (just t.For) ∷ Kept (just t.Identifier) ∷ Of Once g.ForList ∷ Mark t.Do ∷ Of Once g.Statement ∷ []) i f → Good ws g.Statement i f
   for_row {i = i} (kept h (kept c (once (inl a) ahead took (mark (once b ahead' took' nil))))) =
       let x = name_of (kind_at ws (i + 1)) c in
       let v = listed a.1 (room (length a.1) a.2) in (
         s.For (at i) (named (i + 1) x.0) a.0 v (boxed b.0),
-        says.shown-For (at i) (named (i + 1) x.0) a.0 v (boxed b.0) ∙ leaf-is (sym (word (kind_at ws i) k.For refl h)) (leaf-is (sym x.1) (node-is g.ForList a.3 (node-is g.Statement b.1 refl))),
+        says.derivation-For (at i) (named (i + 1) x.0) a.0 v (boxed b.0) ∙ leaf-is (sym (word (kind_at ws i) k.For refl h)) (leaf-is (sym x.1) (node-is g.ForList a.3 (node-is g.Statement b.1 refl))),
         refl,
       )
   for_row {i = i} (kept h (kept c (once (inr a) ahead took (mark (once b ahead' took' nil))))) =
       let x = name_of (kind_at ws (i + 1)) c in
       let v = listed a.1 (room (length a.1) a.2) in (
         s.ForReference (at i) (named (i + 1) x.0) a.0 v (boxed b.0),
-        says.shown-ForReference (at i) (named (i + 1) x.0) a.0 v (boxed b.0) ∙ leaf-is (sym (word (kind_at ws i) k.For refl h)) (leaf-is (sym x.1) (node-is g.ForList a.3 (node-is g.Statement b.1 refl))),
+        says.derivation-ForReference (at i) (named (i + 1) x.0) a.0 v (boxed b.0) ∙ leaf-is (sym (word (kind_at ws i) k.For refl h)) (leaf-is (sym x.1) (node-is g.ForList a.3 (node-is g.Statement b.1 refl))),
         refl,
       )
 
   pub inspect_row : {i : ℕ} {f : Forest} → Row ws (Kept (just t.Inspect) ∷ Of Once g.Expression ∷ Of Once g.Arms ∷ Of Maybe g.OtherwiseBranch ∷ []) i f → Good ws g.Statement i f
   inspect_row {i = i} (kept h (once a ahead took (once (inl b) ahead' took' (absent nil)))) = (
     s.Inspect (at i) a.0 b.0 (boxed b.1) b.2 None,
-    says.shown-Inspect (at i) a.0 b.0 (boxed b.1) b.2 ∙ leaf-is (sym (word (kind_at ws i) k.Inspect refl h)) (node-is g.Expression a.2 (node-is g.Arms b.3 refl)),
+    says.derivation-Inspect (at i) a.0 b.0 (boxed b.1) b.2 ∙ leaf-is (sym (word (kind_at ws i) k.Inspect refl h)) (node-is g.Expression a.2 (node-is g.Arms b.3 refl)),
     refl,
   )
   inspect_row {i = i} (kept h (once a ahead took (once (inl b) ahead' took' (there c nil)))) = (
     s.Inspect (at i) a.0 b.0 (boxed b.1) b.2 (Some (boxed c.0)),
-    says.shown-Inspect-two (at i) a.0 b.0 (boxed b.1) b.2 (boxed c.0) ∙ leaf-is (sym (word (kind_at ws i) k.Inspect refl h)) (node-is g.Expression a.2 (node-is g.Arms b.3 (node-is g.OtherwiseBranch c.1 refl))),
+    says.derivation-Inspect-two (at i) a.0 b.0 (boxed b.1) b.2 (boxed c.0) ∙ leaf-is (sym (word (kind_at ws i) k.Inspect refl h)) (node-is g.Expression a.2 (node-is g.Arms b.3 (node-is g.OtherwiseBranch c.1 refl))),
     refl,
   )
   inspect_row {i = i} (kept h (once a ahead took (once (inr b) ahead' took' (absent nil)))) =
       let v = listed b.0 (room (length b.0) b.1) in
-      (s.InspectWhen (at i) a.0 v None, says.shown-InspectWhen (at i) a.0 v ∙ leaf-is (sym (word (kind_at ws i) k.Inspect refl h)) (node-is g.Expression a.2 (node-is g.Arms b.2 refl)), refl)
+      (s.InspectWhen (at i) a.0 v None, says.derivation-InspectWhen (at i) a.0 v ∙ leaf-is (sym (word (kind_at ws i) k.Inspect refl h)) (node-is g.Expression a.2 (node-is g.Arms b.2 refl)), refl)
   inspect_row {i = i} (kept h (once a ahead took (once (inr b) ahead' took' (there c nil)))) =
       let v = listed b.0 (room (length b.0) b.1) in (
         s.InspectWhen (at i) a.0 v (Some (boxed c.0)),
-        says.shown-InspectWhen-two (at i) a.0 v (boxed c.0) ∙ leaf-is (sym (word (kind_at ws i) k.Inspect refl h)) (node-is g.Expression a.2 (node-is g.Arms b.2 (node-is g.OtherwiseBranch c.1 refl))),
+        says.derivation-InspectWhen-two (at i) a.0 v (boxed c.0) ∙ leaf-is (sym (word (kind_at ws i) k.Inspect refl h)) (node-is g.Expression a.2 (node-is g.Arms b.2 (node-is g.OtherwiseBranch c.1 refl))),
         refl,
       )
 
   pub activate_row : {i : ℕ} {f : Forest} → Row ws (Kept (t.Activate ∷ t.Reactivate ∷ []) ∷ Of Once g.Expression ∷ Of Maybe g.Timing ∷ []) i f → Good ws g.Statement i f
   activate_row {i = i} (kept h (once a ahead took (absent nil))) =
-      let w = activation_in (kind_at ws i) h in (s.Activation (at i) w.0 a.0 None, says.shown-Activation (at i) w.0 a.0 None ∙ leaf-is (sym w.1) (node-is g.Expression a.2 refl), refl)
+      let w = activation_in (kind_at ws i) h in (s.Activation (at i) w.0 a.0 None, says.derivation-Activation (at i) w.0 a.0 None ∙ leaf-is (sym w.1) (node-is g.Expression a.2 refl), refl)
   activate_row {i = i} (kept h (once a ahead took (there b nil))) =
       let w = activation_in (kind_at ws i) h in
-      (s.Activation (at i) w.0 a.0 (Some b.0), says.shown-Activation (at i) w.0 a.0 (Some b.0) ∙ leaf-is (sym w.1) (node-is g.Expression a.2 (node-is g.Timing b.1 refl)), refl)
+      (s.Activation (at i) w.0 a.0 (Some b.0), says.derivation-Activation (at i) w.0 a.0 (Some b.0) ∙ leaf-is (sym w.1) (node-is g.Expression a.2 (node-is g.Timing b.1 refl)), refl)
 
   pub empty_row : {i : ℕ} {f : Forest} → Row ws (Here ∷ []) i f → Good ws g.Statement i f
-  empty_row {i = i} (here nil) = (s.Empty (at i), says.shown-Empty (at i), tt)
+  empty_row {i = i} (here nil) = (s.Empty (at i), says.derivation-Empty (at i), tt)
 
   -- ---- parts of statements
 
@@ -397,7 +397,7 @@ module _ (ws : List Token) (room : (n : ℕ) → n ≤ length ws + 1 → n < 2 ^
 
   pub arms_row : {i : ℕ} {f : Forest} → Row ws (Of Once g.WhenArm ∷ Of Many g.WhenArm ∷ []) i f → Good ws g.Arms i f
   arms_row (once a ahead took (many xs its small nil)) =
-      let l = gather ws when_shown g.WhenArm (λ i f y. y) xs its in inr (a.0 ∷ l.0, omega (arith, l.2, small), node-is g.WhenArm a.1 (row-is g.WhenArm l.1 refl))
+      let l = gather ws when_derivation g.WhenArm (λ i f y. y) xs its in inr (a.0 ∷ l.0, omega (arith, l.2, small), node-is g.WhenArm a.1 (row-is g.WhenArm l.1 refl))
 
   pub element : {i : ℕ} {f : Forest} → Row ws (Of Once g.Expression ∷ Of Maybe g.ForElementTail ∷ []) i f → Good ws g.ForElement i f
   element (once a ahead took (absent nil)) = (for_element.Value a.0, node-is g.Expression a.2 refl)
@@ -423,7 +423,7 @@ module _ (ws : List Token) (room : (n : ℕ) → n ≤ length ws + 1 → n < 2 ^
   when_row {i = i} (kept h (kept c (kept d (once a ahead took (here {i = j} nil))))) =
       let x = name_of (kind_at ws (i + 1)) c in (
         roll-When (record { token = at i; class = named (i + 1) x.0; opening = at (i + 1 + 1); body = a.0; end = at j }),
-        says.shown-when (at i) (named (i + 1) x.0) (at (i + 1 + 1)) a.0 (at j)
+        says.derivation-when (at i) (named (i + 1) x.0) (at (i + 1 + 1)) a.0 (at j)
             ∙ leaf-is (sym (word (kind_at ws i) k.When refl h)) (leaf-is (sym x.1) (leaf-is (sym (word (kind_at ws (i + 1 + 1)) k.Do refl d)) (node-is g.Statement a.1 refl))),
       )
 
@@ -449,5 +449,5 @@ module _ (ws : List Token) (room : (n : ℕ) → n ≤ length ws + 1 → n < 2 ^
       (Some (record { class = named i x.0; arguments = listed [] (room 0 (omega arith)) }), a.0, leaf-is (sym x.1) (node-is g.Compound a.1 refl))
   prefixed_program {i = i} (kept h (there b (once {x = z} a ahead took (passed past (mark nil))))) =
       let x = name_of (kind_at ws i) h in
-      let l = actuals ws room i b (node g.Compound (block_shown a.0) done) in
+      let l = actuals ws room i b (node g.Compound (block_derivation a.0) done) in
       (Some (record { class = named i x.0; arguments = listed l.0 (room (length l.0) l.1) }), a.0, leaf-is (sym x.1) (l.2 ∙ node-is g.Arguments refl (node-is g.Compound a.1 refl)))

@@ -12,29 +12,29 @@ use Rattle.sim_tree.specs.Reading.{Fails, Fault, Forest, Reads, terminal_at}
 use Rattle.sim_tree.specs.Tree.{IsEnded, IsTree, limit}
 
 -- symbols of the grammar have a derivation from a token on, or a fault
-pub data ReadsOrFails (limit : ℕ) (ws : List Token) (depth : ℕ) (s : List Symbol) (i : ℕ) : Type 0 where
-  reads : (f : Forest) (j : ℕ) → Reads limit ws depth s i f j → ReadsOrFails limit ws depth s i
-  fails : (e : Fault) → Fails limit ws depth s i e → ReadsOrFails limit ws depth s i
+pub data ReadsOrFails (limit : ℕ) (tokens : List Token) (depth : ℕ) (s : List Symbol) (start : ℕ) : Type 0 where
+  reads : (f : Forest) (end : ℕ) → Reads limit tokens depth s start f end → ReadsOrFails limit tokens depth s start
+  fails : (e : Fault) → Fails limit tokens depth s start e → ReadsOrFails limit tokens depth s start
 
 -- the last token ends the source, and no other does
-pub record EndsOnce (ws : List Token) : Type 0 where
-  pub ended : IsEnded ws
-  pub only : (i : ℕ) → i < length ws → terminal_at ws i ≡ t.EndOfSource → i + 1 ≡ length ws
+pub record EndsOnce (tokens : List Token) : Type 0 where
+  pub ended : IsEnded tokens
+  pub only : (at : ℕ) → at < length tokens → terminal_at tokens at ≡ t.EndOfSource → at + 1 ≡ length tokens
 
 -- the fault that tokens come to where they are read as a program
 abbrev pub ProgramFails : List Token → Fault → Type 0
-ProgramFails ws e = Fails limit ws 0 (one g.Program) 0 e
+ProgramFails tokens e = Fails limit tokens 0 (one g.Program) 0 e
 
 -- the tokens have a tree, or a fault
-pub data TreeOrFault (ws : List Token) : Type 0 where
-  tree : (p : Program) → IsTree ws p → TreeOrFault ws
-  fault : (e : Fault) → ProgramFails ws e → TreeOrFault ws
+pub data TreeOrFault (tokens : List Token) : Type 0 where
+  tree : (p : Program) → IsTree tokens p → TreeOrFault tokens
+  fault : (e : Fault) → ProgramFails tokens e → TreeOrFault tokens
 
 -- a source breaks a rule of spelling, or its tokens come to a fault, or they have a tree
 pub data SourceOutcome (source : List ℕ) : Type 0 where
   misspelt : (rule : Rule) (place : ℕ) → Spells source (Broken rule place) → SourceOutcome source
-  faulty : (ws : List Token) (e : Fault) → Spells source (Spelled ws) → ProgramFails ws e → SourceOutcome source
-  program : (ws : List Token) (p : Program) → Spells source (Spelled ws) → IsTree ws p → SourceOutcome source
+  faulty : (tokens : List Token) (e : Fault) → Spells source (Spelled tokens) → ProgramFails tokens e → SourceOutcome source
+  program : (tokens : List Token) (p : Program) → Spells source (Spelled tokens) → IsTree tokens p → SourceOutcome source
 
 abbrev pub place_of : Token → ℕ
 place_of w = w.place

@@ -17,16 +17,16 @@ use sim_tree::grammar::{one_fault, one_tree};
 /// From each token of each list, each part of the grammar has a derivation or comes to a fault, however deep it may nest. That there is no
 /// more than one of both is said by the laws of the grammar.
 pub fn every_list_reads_or_fails()
-    ensures { (limit : ℕ) (ws : List Token) (depth i : ℕ) (n : Part) → ReadsOrFails limit ws depth (one n) i }
+    ensures { (limit : ℕ) (tokens : List Token) (depth start : ℕ) (n : Part) → ReadsOrFails limit tokens depth (one n) start }
 {}
 
 /// Each list of tokens that ends once has exactly one tree or exactly one fault, and never both: its derivation, where there is one, is
 /// that of a tree. Two trees of it have the same abstract syntax. (The number of a token has 32 bits.)
 pub fn one_tree_or_one_fault()
-    ensures either { (ws : List Token) → EndsOnce ws → length ws < 2 ^ 32 → TreeOrFault ws }
-    ensures never_both { (ws : List Token) (p : Tree) (e : Fault) → IsTree ws p → ProgramFails ws e → ⊥ }
-    ensures one_tree { (ws : List Token) (p q : Tree) → IsTree ws p → IsTree ws q → program_syntax p ≡ program_syntax q }
-    ensures one_fault { (ws : List Token) (e h : Fault) → ProgramFails ws e → ProgramFails ws h → e ≡ h }
+    ensures either { (tokens : List Token) → EndsOnce tokens → length tokens < 2 ^ 32 → TreeOrFault tokens }
+    ensures never_both { (tokens : List Token) (p : Tree) (e : Fault) → IsTree tokens p → ProgramFails tokens e → ⊥ }
+    ensures one_tree { (tokens : List Token) (p q : Tree) → IsTree tokens p → IsTree tokens q → program_syntax p ≡ program_syntax q }
+    ensures one_fault { (tokens : List Token) (e h : Fault) → ProgramFails tokens e → ProgramFails tokens h → e ≡ h }
 {
     one_tree();
     one_fault();
@@ -37,8 +37,8 @@ pub fn one_tree_or_one_fault()
 /// `one_tree_or_one_fault`.
 pub fn each_source_is_read()
     ensures outcome { (source : List ℕ) → SourceOutcome source }
-    ensures tokens { (source : List ℕ) (ws : List Token) → Spells source (Spelled ws) → EndsOnce ws × (length ws < 2 ^ 32) }
-    ensures ascend { (source : List ℕ) (ws : List Token) → Spells source (Spelled ws) → IsAscending (map place_of ws) }
+    ensures tokens { (source : List ℕ) (tokens : List Token) → Spells source (Spelled tokens) → EndsOnce tokens × (length tokens < 2 ^ 32) }
+    ensures ascend { (source : List ℕ) (tokens : List Token) → Spells source (Spelled tokens) → IsAscending (map place_of tokens) }
 {
     one_reading();
 }

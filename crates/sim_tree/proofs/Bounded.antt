@@ -124,7 +124,7 @@ within (reads-mark h r) le = reads-mark h (within r le)
 within (reads-any h r) le = reads-any h (within r le)
 within (reads-none h r) le = reads-none h (within r le)
 within (reads-here r) le = reads-here (within r le)
-within {other = other} {most = most} {ws = ws} (reads-part {d = d} {i = i} {m = m} {n = n} {right = right} {f = f} {g = g} b sh r q) le =
+within {other = other} {most = most} {ws = ws} (reads-part {depth = d} {start = i} {m = m} {n = n} {right = right} {f = f} {g = g} b sh r q) le =
     let there = counted (is_counted n) refl (is_empty right) refl (λ l. within r l) in
     reads-part b there.0 there.1 (within q (omega (arith, le)))
   where

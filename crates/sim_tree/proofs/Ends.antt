@@ -18,9 +18,9 @@ use Rattle.sim_tree.specs.Tree.{IsTree}
 use Rattle.sim_tree.proofs.Induction as induction
 use Rattle.sim_tree.proofs.Full.{reads_full}
 use Rattle.sim_tree.specs.Nesting.{has_token}
-use Rattle.sim_tree.specs.Shown.{arguments, Shown, shown, row}
-use Rattle.sim_tree.specs.ShownProgram as d
-use Rattle.sim_tree.specs.ShownProgram.{Declared, Plain, Prefixed, joined, acted, begun, contents, next_statement, assigned_shown, stmt_shown, decl_shown, block_shown, class_shown, procedure_shown, when_shown, program_shown}
+use Rattle.sim_tree.specs.Derivation.{arguments, Derivation, derivation_of, row}
+use Rattle.sim_tree.specs.ProgramDerivation as d
+use Rattle.sim_tree.specs.ProgramDerivation.{Declared, Plain, Prefixed, joined, acted, begun, contents, next_statement, assigned_derivation, statement_derivation, declaration_derivation, block_derivation, class_derivation, procedure_derivation, when_derivation, program_derivation}
 use Rattle.sim_tree.specs.Syntax.{Statement, Declaration, statements, declarations}
 use Rattle.sim_tree.specs.Syntax.{Block as BlockSyntax}
 use Rattle.sim_tree.specs.SyntaxOfProgram.{Arm, arms, Classed, Headed, statement_syntax, declaration_syntax, block_syntax, arm_syntax, program_syntax}
@@ -53,12 +53,12 @@ from_below (node n inside f) less low high le o = (o.0, from_below inside less l
 
 module _ {most : ℕ} {ws : List Token} where
   reads_ordered : {d i j : ℕ} {s : List Symbol} {f : Forest} → Reads most ws d s i f j → Ordered i f j
-  reads_ordered (reads-done {i = i}) = let z : i ≤ i = omega arith in z
-  reads_ordered (reads-kept {i = i} h r) = (let z : i ≤ i = omega arith in z, reads_ordered r)
-  reads_ordered (reads-mark {i = i} {j = j} {f = f} h r) = from_below f i (i + 1) j (omega arith) (reads_ordered r)
-  reads_ordered (reads-any {i = i} {j = j} {f = f} h r) = from_below f i (i + 1) j (omega arith) (reads_ordered r)
+  reads_ordered (reads-done {start = i}) = let z : i ≤ i = omega arith in z
+  reads_ordered (reads-kept {start = i} h r) = (let z : i ≤ i = omega arith in z, reads_ordered r)
+  reads_ordered (reads-mark {start = i} {end = j} {f = f} h r) = from_below f i (i + 1) j (omega arith) (reads_ordered r)
+  reads_ordered (reads-any {start = i} {end = j} {f = f} h r) = from_below f i (i + 1) j (omega arith) (reads_ordered r)
   reads_ordered (reads-none h r) = reads_ordered r
-  reads_ordered (reads-here {i = i} r) = (let z : i ≤ i = omega arith in z, reads_ordered r)
+  reads_ordered (reads-here {start = i} r) = (let z : i ≤ i = omega arith in z, reads_ordered r)
   reads_ordered (reads-part {m = m} b sh r o) = (m, reads_ordered r, reads_ordered o)
   reads_ordered (reads-skip b may r) = reads_ordered r
 
@@ -97,7 +97,7 @@ begun_ordered (leaf i (k.Identifier name) f) rest low high o = (o.1.1.0, o.1.0, 
 begun_ordered f rest low high o = (o.0, high, o.1, o.2)
 
 -- what is behind actual parameters, and behind parts of one kind
-behind_arguments : (xs : List Shown) (f : Forest) (low high : ℕ) → Ordered low (arguments xs f) high → (m : ℕ) × Ordered m f high
+behind_arguments : (xs : List Derivation) (f : Forest) (low high : ℕ) → Ordered low (arguments xs f) high → (m : ℕ) × Ordered m f high
 behind_arguments [] f low high o = (low, o)
 behind_arguments (x ∷ xs) f low high o = (o.0, o.2)
 
@@ -106,9 +106,9 @@ behind_row n [] f low high o = (low, let z : low ≤ low = omega arith in z, o)
 behind_row n (x ∷ xs) f low high o =
     let h = behind_row n xs f o.0 high o.2 in let a = upward x low o.0 o.1 in let b = h.1 in (h.0, let z : low ≤ h.0 = omega (arith, a, b) in z, h.2)
 
-behind_virtuals : (vs : List VirtualSpecification) (f : Forest) (low high : ℕ) → Ordered low (d.virtuals_shown vs f) high → (m : ℕ) × (low ≤ m) × Ordered m f high
+behind_virtuals : (vs : List VirtualSpecification) (f : Forest) (low high : ℕ) → Ordered low (d.virtuals_derivation vs f) high → (m : ℕ) × (low ≤ m) × Ordered m f high
 behind_virtuals [] f low high o = (low, let z : low ≤ low = omega arith in z, o)
-behind_virtuals (v ∷ vs) f low high o = (o.0, upward (row g.VirtualSpecification (map d.virtual_shown (v ∷ vs)) done) low o.0 o.1, o.2)
+behind_virtuals (v ∷ vs) f low high o = (o.0, upward (row g.VirtualSpecification (map d.virtual_derivation (v ∷ vs)) done) low o.0 o.1, o.2)
 
 -- Blocks.
 more_statements : (fs : List Forest) (es : List Statement) (end : ℕ) → EachStatement fs es → (low high : ℕ) → Full (row g.NextStatement (map next_statement fs) (leaf end k.End done))
@@ -194,7 +194,7 @@ first_procedure x = x.0
 abbrev first_when : WhenPair → When
 first_when x = x.0
 
-arms_end : (xs : List WhenPair) (low high : ℕ) → Full (row g.WhenArm (map when_shown (map first_when xs)) done) → Ordered low (row g.WhenArm (map when_shown (map first_when xs)) done) high
+arms_end : (xs : List WhenPair) (low high : ℕ) → Full (row g.WhenArm (map when_derivation (map first_when xs)) done) → Ordered low (row g.WhenArm (map when_derivation (map first_when xs)) done) high
     → InArms (arms (map arm_syntax (map first_when xs)))
 arms_end [] low high full o = tt
 arms_end (x ∷ xs) low high full o = let h = x.1 full.1 low o.0 o.1 in (h.0, h.1, arms_end xs o.0 high full.2 o.2)
@@ -206,9 +206,9 @@ stmt_step : induction.StmtStep Says Declares Blocks Classes Procedures Arms
 stmt_step (Stmt-F.Empty i) token full low high o = tt
 stmt_step (Stmt-F.Block b) token full low high o = b.1 full.1 low o.0 o.1
 stmt_step (Stmt-F.PrefixedBlock p b) token full low high o =
-    let f = node g.AfterFirstOperand (node g.Compound (block_shown b.0) done) done in
-    let inner = full_behind_arguments (map shown p.arguments.items) f full in
-    let q = behind_arguments (map shown p.arguments.items) f (p.class.token.0 + 1) high o.1 in
+    let f = node g.AfterFirstOperand (node g.Compound (block_derivation b.0) done) done in
+    let inner = full_behind_arguments (map derivation_of p.arguments.items) f full in
+    let q = behind_arguments (map derivation_of p.arguments.items) f (p.class.token.0 + 1) high o.1 in
     b.1 inner.1.1 q.0 q.1.1.0 q.1.1.1
 stmt_step (Stmt-F.Inner i) token full low high o = tt
 stmt_step (Stmt-F.Call e) token full low high o = tt
@@ -220,11 +220,11 @@ stmt_step (Stmt-F.While i e a) token full low high o = a.value.1 full.2.0 full.2
 stmt_step (Stmt-F.For i x n v a) token full low high o = let q = o.1.1 in a.value.1 full.2.0 full.2.1 q.0 q.2.0 q.2.1
 stmt_step (Stmt-F.ForReference i x n v a) token full low high o = let q = o.1.1 in a.value.1 full.2.0 full.2.1 q.0 q.2.0 q.2.1
 stmt_step (Stmt-F.Inspect i e n a m None) token full low high o =
-    let q = o.1.2 in (connected (stmt_shown a.value.0) n.0 m.0 o.1.0 q.0 q.1, a.value.1 full.2.1.0 full.2.1.1 (n.0 + 1) q.1.1.0 q.1.1.1, tt)
+    let q = o.1.2 in (connected (statement_derivation a.value.0) n.0 m.0 o.1.0 q.0 q.1, a.value.1 full.2.1.0 full.2.1.1 (n.0 + 1) q.1.1.0 q.1.1.1, tt)
 stmt_step (Stmt-F.Inspect i e n a m (Some b)) token full low high o =
     let q = o.1.2 in
     let r = q.2.1 in
-    (connected (stmt_shown a.value.0) n.0 m.0 o.1.0 q.0 q.1, a.value.1 full.2.1.0 full.2.1.1 (n.0 + 1) q.1.1.0 q.1.1.1, (b.value.1 full.2.2.1.0 full.2.2.1.1 q.0 r.0 r.1, tt))
+    (connected (statement_derivation a.value.0) n.0 m.0 o.1.0 q.0 q.1, a.value.1 full.2.1.0 full.2.1.1 (n.0 + 1) q.1.1.0 q.1.1.1, (b.value.1 full.2.2.1.0 full.2.2.1.1 q.0 r.0 r.1, tt))
 stmt_step (Stmt-F.InspectWhen i e v None) token full low high o = let q = o.1.2 in (arms_end v.items o.1.0 q.0 full.2.1 q.1, tt)
 stmt_step (Stmt-F.InspectWhen i e v (Some b)) token full low high o =
     let q = o.1.2 in let r = q.2.1 in (arms_end v.items o.1.0 q.0 full.2.1 q.1, (b.value.1 full.2.2.1.0 full.2.2.1.1 q.0 r.0 r.1, tt))
@@ -244,7 +244,7 @@ decl_step (Decl-F.Class (Some x) i c) = λ full low high below o. c.1 full (Some
 block_step : induction.BlockStep Says Declares Blocks Classes Procedures Arms
 block_step b full low high o =
     let h =
-    contents_end (map decl_shown (map first_decl b.declarations.items)) (map declaration_syntax (map first_decl b.declarations.items)) (map stmt_shown (map first_stmt b.statements.items))
+    contents_end (map declaration_derivation (map first_decl b.declarations.items)) (map declaration_syntax (map first_decl b.declarations.items)) (map statement_derivation (map first_stmt b.statements.items))
     (map statement_syntax (map first_stmt b.statements.items)) b.end.0 (induction.each_declaration Says Declares Blocks Classes Procedures Arms b.declarations.items) (induction.each_statement Says Declares Blocks Classes Procedures Arms b.statements.items) (b.token.0 + 1) o.1.0 full.1 o.1.1 in
     let a = h.0 in
     (let z : b.token.0 < b.end.0 = omega (arith, a) in z, h.1, h.2)
@@ -256,46 +256,46 @@ ended x heading body end i low a b c high below first one le two last =
 
 class_step : induction.ClassStep Says Declares Blocks Classes Procedures Arms
 class_step c full prefix i low high below o =
-    let body = stmt_shown c.body.value.0 in
+    let body = statement_derivation c.body.value.0 in
     let last = node g.Statement body (place c.end.0 done) in
-    let middle = d.virtuals_shown c.virtuals.items last in
-    let ps = map d.protection_shown c.protections.items in
+    let middle = d.virtuals_derivation c.virtuals.items last in
+    let ps = map d.protection_derivation c.protections.items in
     let end = full_behind_virtuals c.virtuals.items last (full_behind_row g.Protection ps middle full.2) in
     let q = o.1 in
     let r = behind_row g.Protection ps middle q.0 high q.2 in
     let v = behind_virtuals c.virtuals.items last r.0 high r.2 in
     let w = v.2 in
-    (ended c.name.token.0 (d.heading_shown c.parameters.items c.modes.items c.specifications.items) body c.end.0 i low q.0 v.0 w.0 high below o.0 q.1 (let a = r.1 in let b = v.1 in let z : q.0 ≤ v.0 = omega (arith, a, b) in z) w.1 w.2, c.body.value.1 end.0 end.1 v.0 w.0 w.1)
+    (ended c.name.token.0 (d.heading_derivation c.parameters.items c.modes.items c.specifications.items) body c.end.0 i low q.0 v.0 w.0 high below o.0 q.1 (let a = r.1 in let b = v.1 in let z : q.0 ≤ v.0 = omega (arith, a, b) in z) w.1 w.2, c.body.value.1 end.0 end.1 v.0 w.0 w.1)
 
 procedure_step : induction.ProcedureStep Says Declares Blocks Classes Procedures Arms
 procedure_step p full result i low high below o =
     let q = o.1 in
     let w = q.2 in (
-      ended p.name.token.0 (d.heading_shown p.parameters.items p.modes.items p.specifications.items) (stmt_shown p.body.value.0) p.end.0 i low q.0 q.0 w.0 high below o.0 q.1 (let z : q.0 ≤ q.0 = omega arith in z) w.1 w.2,
+      ended p.name.token.0 (d.heading_derivation p.parameters.items p.modes.items p.specifications.items) (statement_derivation p.body.value.0) p.end.0 i low q.0 q.0 w.0 high below o.0 q.1 (let z : q.0 ≤ q.0 = omega arith in z) w.1 w.2,
       p.body.value.1 full.2.0 full.2.1 q.0 w.0 w.1,
     )
 
 when_step : induction.WhenStep Says Declares Blocks Classes Procedures Arms
 when_step w full low high o =
-    let q = o.1.1 in (connected (stmt_shown w.body.0) w.opening.0 w.end.0 (w.class.token.0 + 1) high q, w.body.1 full.0 full.1 (w.opening.0 + 1) q.1.0 q.1.1)
+    let q = o.1.1 in (connected (statement_derivation w.body.0) w.opening.0 w.end.0 (w.class.token.0 + 1) high q, w.body.1 full.0 full.1 (w.opening.0 + 1) q.1.0 q.1.1)
 
-end_block : (b : Block) → Blocks (block_shown b) (block_syntax b)
+end_block : (b : Block) → Blocks (block_derivation b) (block_syntax b)
 end_block = induction.each_block Says Declares Blocks Classes Procedures Arms stmt_step decl_step block_step class_step procedure_step when_step
 
 pub ends_behind : (ws : List Token) (p : ProgramTree) → IsTree ws p → EndsBehind (program_syntax p)
 unfolding program_syntax
 ends_behind ws p tree =
-    let f = node g.Program (program_shown p) done in
+    let f = node g.Program (program_derivation p) done in
     let full = is_full-Full f (reads_full tree.reads) in
     let all = reads_ordered tree.reads in
     go p.prefix full.1 0 all.0 all.1
   where
     f : Forest
-    f = block_shown p.block
+    f = block_derivation p.block
 
-    go : (x : Option BlockPrefix) → Full (d.prefixed x (node g.Compound (block_shown p.block) done)) → (low high : ℕ) → Ordered low (d.prefixed x (node g.Compound (block_shown p.block) done)) high → InBlock (block_syntax p.block)
+    go : (x : Option BlockPrefix) → Full (d.prefixed x (node g.Compound (block_derivation p.block) done)) → (low high : ℕ) → Ordered low (d.prefixed x (node g.Compound (block_derivation p.block) done)) high → InBlock (block_syntax p.block)
     go None full low high o = end_block p.block full.1 low o.0 o.1
     go (Some x) full low high o =
-        let inner = full_behind_arguments (map shown x.arguments.items) (node g.Compound f done) full in
-        let q = behind_arguments (map shown x.arguments.items) (node g.Compound f done) (x.class.token.0 + 1) high o.1 in
+        let inner = full_behind_arguments (map derivation_of x.arguments.items) (node g.Compound f done) full in
+        let q = behind_arguments (map derivation_of x.arguments.items) (node g.Compound f done) (x.class.token.0 + 1) high o.1 in
         end_block p.block inner.1 q.0 q.1.0 q.1.1

@@ -20,9 +20,9 @@ use Rattle.sim_tree.specs.Filled.{Filled, FilledBlock, FilledDeclaration, Filled
 use Rattle.sim_tree.specs.Grammar as g
 use Rattle.sim_tree.specs.Nesting.{has_token}
 use Rattle.sim_tree.specs.Reading.{Forest, done, leaf, node}
-use Rattle.sim_tree.specs.Shown.{Shown, arguments, row, shown}
-use Rattle.sim_tree.specs.ShownProgram as d
-use Rattle.sim_tree.specs.ShownProgram.{Declared, Plain, Prefixed, block_shown, contents, decl_shown, next_statement, program_shown, stmt_shown}
+use Rattle.sim_tree.specs.Derivation.{Derivation, arguments, row, derivation_of}
+use Rattle.sim_tree.specs.ProgramDerivation as d
+use Rattle.sim_tree.specs.ProgramDerivation.{Declared, Plain, Prefixed, block_derivation, contents, declaration_derivation, next_statement, program_derivation, statement_derivation}
 use Rattle.sim_tree.specs.Syntax.{Block as BlockSyntax}
 use Rattle.sim_tree.specs.Syntax.{Declaration, Statement, declarations, statements}
 use Rattle.sim_tree.specs.SyntaxOfProgram as t
@@ -100,7 +100,7 @@ next_filled : (xs : List ArraySegment) → Full (row g.NextArraySegment (map d.n
 next_filled [] full = tt
 next_filled (x ∷ xs) full = (ids_filled x.names.items full.1.1.0, next_filled xs full.2)
 
-segments_filled : (xs : List ArraySegment) → Full (d.segments_shown xs) → FilledSegments (map t.segment_syntax xs)
+segments_filled : (xs : List ArraySegment) → Full (d.segments_derivation xs) → FilledSegments (map t.segment_syntax xs)
 segments_filled [] full = tt
 segments_filled (x ∷ xs) full = (ids_filled x.names.items full.1.0, next_filled xs full.2)
 
@@ -145,7 +145,7 @@ decl_step (Decl-F.Class (Some x) i c) = λ full. c.1 full (Some x) i.0
 
 block_step : induction.BlockStep Says Declares Blocks Classes Procedures Arms
 block_step b full =
-    contents_filled (map decl_shown (map first_decl b.declarations.items)) (map declaration_syntax (map first_decl b.declarations.items)) (map stmt_shown (map first_stmt b.statements.items))
+    contents_filled (map declaration_derivation (map first_decl b.declarations.items)) (map declaration_syntax (map first_decl b.declarations.items)) (map statement_derivation (map first_stmt b.statements.items))
     (map statement_syntax (map first_stmt b.statements.items)) b.end.0 (induction.each_declaration Says Declares Blocks Classes Procedures Arms b.declarations.items) (induction.each_statement Says Declares Blocks Classes Procedures Arms b.statements.items) full.1
 
 class_step : induction.ClassStep Says Declares Blocks Classes Procedures Arms
@@ -157,17 +157,17 @@ procedure_step p full result i = p.body.value.1 full.2.0 full.2.1
 when_step : induction.WhenStep Says Declares Blocks Classes Procedures Arms
 when_step w = tt
 
-block_filled : (b : Block) → Blocks (block_shown b) (block_syntax b)
+block_filled : (b : Block) → Blocks (block_derivation b) (block_syntax b)
 block_filled = induction.each_block Says Declares Blocks Classes Procedures Arms stmt_step decl_step block_step class_step procedure_step when_step
 
-behind_arguments : (xs : List Shown) (f : Forest) → Full (arguments xs f) → Full f
+behind_arguments : (xs : List Derivation) (f : Forest) → Full (arguments xs f) → Full f
 behind_arguments [] f full = full
 behind_arguments (x ∷ xs) f full = full.2
 
 pub filled : (ws : List Token) (p : ProgramTree) → IsTree ws p → Filled (program_syntax p)
 unfolding program_syntax
-filled ws p tree = let full = is_full-Full (node g.Program (program_shown p) done) (reads_full tree.reads) in go p.prefix full.1
+filled ws p tree = let full = is_full-Full (node g.Program (program_derivation p) done) (reads_full tree.reads) in go p.prefix full.1
   where
-    go : (x : Option BlockPrefix) → Full (d.prefixed x (node g.Compound (block_shown p.block) done)) → FilledBlock (block_syntax p.block)
+    go : (x : Option BlockPrefix) → Full (d.prefixed x (node g.Compound (block_derivation p.block) done)) → FilledBlock (block_syntax p.block)
     go None full = block_filled p.block full.1
-    go (Some x) full = let behind = behind_arguments (map shown x.arguments.items) (node g.Compound (block_shown p.block) done) full in block_filled p.block behind.1
+    go (Some x) full = let behind = behind_arguments (map derivation_of x.arguments.items) (node g.Compound (block_derivation p.block) done) full in block_filled p.block behind.1

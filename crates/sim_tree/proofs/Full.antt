@@ -92,6 +92,6 @@ module _ {most : ℕ} {ws : List Token} where
   reads_full (reads-any h r) = reads_full r
   reads_full (reads-none h r) = reads_full r
   reads_full (reads-here r) = reads_full r
-  reads_full (reads-part {i = i} {n = n} {right = right} {f = f} {g = g} b sh r q) =
+  reads_full (reads-part {start = i} {n = n} {right = right} {f = f} {g = g} b sh r q) =
       all_true (has_token n f) (is_full f) (is_full g) (part_token n (right_fits n ws i right b) r) (reads_full r) (reads_full q)
   reads_full (reads-skip b k r) = reads_full r

@@ -10,8 +10,8 @@ use Rattle.sim_tree.specs.declared.stmt.Procedure.{Procedure}
 use Rattle.sim_tree.specs.declared.stmt.Stmt.{Stmt}
 use Rattle.sim_tree.specs.declared.stmt.When.{When}
 use Rattle.sim_tree.specs.Reading.{Forest}
-use Rattle.sim_tree.specs.ShownProgram as d
-use Rattle.sim_tree.specs.ShownProgram.{Declared, Plain, Prefixed, acted, begun, contents, next_statement, assigned_shown, stmt_shown, decl_shown, block_shown, class_shown, procedure_shown, when_shown, program_shown}
+use Rattle.sim_tree.specs.ProgramDerivation as d
+use Rattle.sim_tree.specs.ProgramDerivation.{Declared, Plain, Prefixed, acted, begun, contents, next_statement, assigned_derivation, statement_derivation, declaration_derivation, block_derivation, class_derivation, procedure_derivation, when_derivation, program_derivation}
 use Rattle.sim_tree.specs.Syntax.{Statement, Declaration}
 use Rattle.sim_tree.specs.Syntax.{Block as BlockSyntax}
 use Rattle.sim_tree.specs.SyntaxOfProgram as t
@@ -30,22 +30,22 @@ module _ (Says : Forest → Statement → Type 0) (Declares : Declared → Decla
   EachDeclaration _ _ = ⊥
 
   abbrev pub StmtClaim : Stmt → Type 0
-  StmtClaim x = Says (stmt_shown x) (statement_syntax x)
+  StmtClaim x = Says (statement_derivation x) (statement_syntax x)
 
   abbrev pub DeclClaim : Decl → Type 0
-  DeclClaim x = Declares (decl_shown x) (declaration_syntax x)
+  DeclClaim x = Declares (declaration_derivation x) (declaration_syntax x)
 
   abbrev pub BlockClaim : Block → Type 0
-  BlockClaim x = Blocks (block_shown x) (block_syntax x)
+  BlockClaim x = Blocks (block_derivation x) (block_syntax x)
 
   abbrev pub ClassClaim : Class → Type 0
-  ClassClaim x = Classes (class_shown x) (class_syntax x)
+  ClassClaim x = Classes (class_derivation x) (class_syntax x)
 
   abbrev pub ProcedureClaim : Procedure → Type 0
-  ProcedureClaim x = Procedures (procedure_shown x) (procedure_syntax x)
+  ProcedureClaim x = Procedures (procedure_derivation x) (procedure_syntax x)
 
   abbrev pub WhenClaim : When → Type 0
-  WhenClaim x = Arms (when_shown x) (arm_syntax x)
+  WhenClaim x = Arms (when_derivation x) (arm_syntax x)
 
   abbrev pub StmtPair : Type 0
   StmtPair = (x : Stmt) × StmtClaim x
@@ -83,11 +83,11 @@ module _ (Says : Forest → Statement → Type 0) (Declares : Declared → Decla
   abbrev pub first_when : WhenPair → When
   first_when x = x.0
 
-  pub each_statement : (xs : List StmtPair) → EachStatement (map stmt_shown (map first_stmt xs)) (map statement_syntax (map first_stmt xs))
+  pub each_statement : (xs : List StmtPair) → EachStatement (map statement_derivation (map first_stmt xs)) (map statement_syntax (map first_stmt xs))
   each_statement [] = tt
   each_statement (x ∷ xs) = (x.1, each_statement xs)
 
-  pub each_declaration : (xs : List DeclPair) → EachDeclaration (map decl_shown (map first_decl xs)) (map declaration_syntax (map first_decl xs))
+  pub each_declaration : (xs : List DeclPair) → EachDeclaration (map declaration_derivation (map first_decl xs)) (map declaration_syntax (map first_decl xs))
   each_declaration [] = tt
   each_declaration (x ∷ xs) = (x.1, each_declaration xs)
 
@@ -100,14 +100,14 @@ module _ (Says : Forest → Statement → Type 0) (Declares : Declared → Decla
   abbrev pub StmtLayer : UnderStmt → Type 0
   StmtLayer x =
       Says
-      (d.stmt_layer (map-Stmt Decl Stmt Block Class Procedure When Declared Forest Forest Forest Forest Forest decl_shown stmt_shown block_shown class_shown procedure_shown when_shown x))
+      (d.stmt_layer (map-Stmt Decl Stmt Block Class Procedure When Declared Forest Forest Forest Forest Forest declaration_derivation statement_derivation block_derivation class_derivation procedure_derivation when_derivation x))
       (t.stmt_layer (map-Stmt Decl Stmt Block Class Procedure When Declaration Statement BlockSyntax Classed Headed Arm declaration_syntax statement_syntax block_syntax class_syntax procedure_syntax arm_syntax x))
 
   stmt_rolled : (x : UnderStmt) → StmtLayer x → StmtClaim (roll-Stmt x)
   unfolding statement_syntax declaration_syntax block_syntax class_syntax procedure_syntax arm_syntax
   stmt_rolled x h =
       subst (λ z. Says z (statement_syntax (roll-Stmt x))) (sym (fold-roll-Stmt Declared Forest Forest Forest Forest Forest d.decl_layer d.stmt_layer d.block_layer d.class_layer d.procedure_layer d.when_layer x))
-      (subst (λ z. Says (d.stmt_layer (map-Stmt Decl Stmt Block Class Procedure When Declared Forest Forest Forest Forest Forest decl_shown stmt_shown block_shown class_shown procedure_shown when_shown x)) z)
+      (subst (λ z. Says (d.stmt_layer (map-Stmt Decl Stmt Block Class Procedure When Declared Forest Forest Forest Forest Forest declaration_derivation statement_derivation block_derivation class_derivation procedure_derivation when_derivation x)) z)
       (sym (fold-roll-Stmt Declaration Statement BlockSyntax Classed Headed Arm t.decl_layer t.stmt_layer t.block_layer t.class_layer t.procedure_layer t.when_layer x)) h)
 
   abbrev pub UnderDecl : Type 0
@@ -119,14 +119,14 @@ module _ (Says : Forest → Statement → Type 0) (Declares : Declared → Decla
   abbrev pub DeclLayer : UnderDecl → Type 0
   DeclLayer x =
       Declares
-      (d.decl_layer (map-Decl Decl Stmt Block Class Procedure When Declared Forest Forest Forest Forest Forest decl_shown stmt_shown block_shown class_shown procedure_shown when_shown x))
+      (d.decl_layer (map-Decl Decl Stmt Block Class Procedure When Declared Forest Forest Forest Forest Forest declaration_derivation statement_derivation block_derivation class_derivation procedure_derivation when_derivation x))
       (t.decl_layer (map-Decl Decl Stmt Block Class Procedure When Declaration Statement BlockSyntax Classed Headed Arm declaration_syntax statement_syntax block_syntax class_syntax procedure_syntax arm_syntax x))
 
   decl_rolled : (x : UnderDecl) → DeclLayer x → DeclClaim (roll-Decl x)
   unfolding statement_syntax declaration_syntax block_syntax class_syntax procedure_syntax arm_syntax
   decl_rolled x h =
       subst (λ z. Declares z (declaration_syntax (roll-Decl x))) (sym (fold-roll-Decl Declared Forest Forest Forest Forest Forest d.decl_layer d.stmt_layer d.block_layer d.class_layer d.procedure_layer d.when_layer x))
-      (subst (λ z. Declares (d.decl_layer (map-Decl Decl Stmt Block Class Procedure When Declared Forest Forest Forest Forest Forest decl_shown stmt_shown block_shown class_shown procedure_shown when_shown x)) z)
+      (subst (λ z. Declares (d.decl_layer (map-Decl Decl Stmt Block Class Procedure When Declared Forest Forest Forest Forest Forest declaration_derivation statement_derivation block_derivation class_derivation procedure_derivation when_derivation x)) z)
       (sym (fold-roll-Decl Declaration Statement BlockSyntax Classed Headed Arm t.decl_layer t.stmt_layer t.block_layer t.class_layer t.procedure_layer t.when_layer x)) h)
 
   abbrev pub UnderBlock : Type 0
@@ -138,14 +138,14 @@ module _ (Says : Forest → Statement → Type 0) (Declares : Declared → Decla
   abbrev pub BlockLayer : UnderBlock → Type 0
   BlockLayer x =
       Blocks
-      (d.block_layer (map-Block Decl Stmt Block Class Procedure When Declared Forest Forest Forest Forest Forest decl_shown stmt_shown block_shown class_shown procedure_shown when_shown x))
+      (d.block_layer (map-Block Decl Stmt Block Class Procedure When Declared Forest Forest Forest Forest Forest declaration_derivation statement_derivation block_derivation class_derivation procedure_derivation when_derivation x))
       (t.block_layer (map-Block Decl Stmt Block Class Procedure When Declaration Statement BlockSyntax Classed Headed Arm declaration_syntax statement_syntax block_syntax class_syntax procedure_syntax arm_syntax x))
 
   block_rolled : (x : UnderBlock) → BlockLayer x → BlockClaim (roll-Block x)
   unfolding statement_syntax declaration_syntax block_syntax class_syntax procedure_syntax arm_syntax
   block_rolled x h =
       subst (λ z. Blocks z (block_syntax (roll-Block x))) (sym (fold-roll-Block Declared Forest Forest Forest Forest Forest d.decl_layer d.stmt_layer d.block_layer d.class_layer d.procedure_layer d.when_layer x))
-      (subst (λ z. Blocks (d.block_layer (map-Block Decl Stmt Block Class Procedure When Declared Forest Forest Forest Forest Forest decl_shown stmt_shown block_shown class_shown procedure_shown when_shown x)) z)
+      (subst (λ z. Blocks (d.block_layer (map-Block Decl Stmt Block Class Procedure When Declared Forest Forest Forest Forest Forest declaration_derivation statement_derivation block_derivation class_derivation procedure_derivation when_derivation x)) z)
       (sym (fold-roll-Block Declaration Statement BlockSyntax Classed Headed Arm t.decl_layer t.stmt_layer t.block_layer t.class_layer t.procedure_layer t.when_layer x)) h)
 
   abbrev pub UnderClass : Type 0
@@ -157,14 +157,14 @@ module _ (Says : Forest → Statement → Type 0) (Declares : Declared → Decla
   abbrev pub ClassLayer : UnderClass → Type 0
   ClassLayer x =
       Classes
-      (d.class_layer (map-Class Decl Stmt Block Class Procedure When Declared Forest Forest Forest Forest Forest decl_shown stmt_shown block_shown class_shown procedure_shown when_shown x))
+      (d.class_layer (map-Class Decl Stmt Block Class Procedure When Declared Forest Forest Forest Forest Forest declaration_derivation statement_derivation block_derivation class_derivation procedure_derivation when_derivation x))
       (t.class_layer (map-Class Decl Stmt Block Class Procedure When Declaration Statement BlockSyntax Classed Headed Arm declaration_syntax statement_syntax block_syntax class_syntax procedure_syntax arm_syntax x))
 
   class_rolled : (x : UnderClass) → ClassLayer x → ClassClaim (roll-Class x)
   unfolding statement_syntax declaration_syntax block_syntax class_syntax procedure_syntax arm_syntax
   class_rolled x h =
       subst (λ z. Classes z (class_syntax (roll-Class x))) (sym (fold-roll-Class Declared Forest Forest Forest Forest Forest d.decl_layer d.stmt_layer d.block_layer d.class_layer d.procedure_layer d.when_layer x))
-      (subst (λ z. Classes (d.class_layer (map-Class Decl Stmt Block Class Procedure When Declared Forest Forest Forest Forest Forest decl_shown stmt_shown block_shown class_shown procedure_shown when_shown x)) z)
+      (subst (λ z. Classes (d.class_layer (map-Class Decl Stmt Block Class Procedure When Declared Forest Forest Forest Forest Forest declaration_derivation statement_derivation block_derivation class_derivation procedure_derivation when_derivation x)) z)
       (sym (fold-roll-Class Declaration Statement BlockSyntax Classed Headed Arm t.decl_layer t.stmt_layer t.block_layer t.class_layer t.procedure_layer t.when_layer x)) h)
 
   abbrev pub UnderProcedure : Type 0
@@ -176,14 +176,14 @@ module _ (Says : Forest → Statement → Type 0) (Declares : Declared → Decla
   abbrev pub ProcedureLayer : UnderProcedure → Type 0
   ProcedureLayer x =
       Procedures
-      (d.procedure_layer (map-Procedure Decl Stmt Block Class Procedure When Declared Forest Forest Forest Forest Forest decl_shown stmt_shown block_shown class_shown procedure_shown when_shown x))
+      (d.procedure_layer (map-Procedure Decl Stmt Block Class Procedure When Declared Forest Forest Forest Forest Forest declaration_derivation statement_derivation block_derivation class_derivation procedure_derivation when_derivation x))
       (t.procedure_layer (map-Procedure Decl Stmt Block Class Procedure When Declaration Statement BlockSyntax Classed Headed Arm declaration_syntax statement_syntax block_syntax class_syntax procedure_syntax arm_syntax x))
 
   procedure_rolled : (x : UnderProcedure) → ProcedureLayer x → ProcedureClaim (roll-Procedure x)
   unfolding statement_syntax declaration_syntax block_syntax class_syntax procedure_syntax arm_syntax
   procedure_rolled x h =
       subst (λ z. Procedures z (procedure_syntax (roll-Procedure x))) (sym (fold-roll-Procedure Declared Forest Forest Forest Forest Forest d.decl_layer d.stmt_layer d.block_layer d.class_layer d.procedure_layer d.when_layer x))
-      (subst (λ z. Procedures (d.procedure_layer (map-Procedure Decl Stmt Block Class Procedure When Declared Forest Forest Forest Forest Forest decl_shown stmt_shown block_shown class_shown procedure_shown when_shown x)) z)
+      (subst (λ z. Procedures (d.procedure_layer (map-Procedure Decl Stmt Block Class Procedure When Declared Forest Forest Forest Forest Forest declaration_derivation statement_derivation block_derivation class_derivation procedure_derivation when_derivation x)) z)
       (sym (fold-roll-Procedure Declaration Statement BlockSyntax Classed Headed Arm t.decl_layer t.stmt_layer t.block_layer t.class_layer t.procedure_layer t.when_layer x)) h)
 
   abbrev pub UnderWhen : Type 0
@@ -195,14 +195,14 @@ module _ (Says : Forest → Statement → Type 0) (Declares : Declared → Decla
   abbrev pub WhenLayer : UnderWhen → Type 0
   WhenLayer x =
       Arms
-      (d.when_layer (map-When Decl Stmt Block Class Procedure When Declared Forest Forest Forest Forest Forest decl_shown stmt_shown block_shown class_shown procedure_shown when_shown x))
+      (d.when_layer (map-When Decl Stmt Block Class Procedure When Declared Forest Forest Forest Forest Forest declaration_derivation statement_derivation block_derivation class_derivation procedure_derivation when_derivation x))
       (t.when_layer (map-When Decl Stmt Block Class Procedure When Declaration Statement BlockSyntax Classed Headed Arm declaration_syntax statement_syntax block_syntax class_syntax procedure_syntax arm_syntax x))
 
   when_rolled : (x : UnderWhen) → WhenLayer x → WhenClaim (roll-When x)
   unfolding statement_syntax declaration_syntax block_syntax class_syntax procedure_syntax arm_syntax
   when_rolled x h =
       subst (λ z. Arms z (arm_syntax (roll-When x))) (sym (fold-roll-When Declared Forest Forest Forest Forest Forest d.decl_layer d.stmt_layer d.block_layer d.class_layer d.procedure_layer d.when_layer x))
-      (subst (λ z. Arms (d.when_layer (map-When Decl Stmt Block Class Procedure When Declared Forest Forest Forest Forest Forest decl_shown stmt_shown block_shown class_shown procedure_shown when_shown x)) z)
+      (subst (λ z. Arms (d.when_layer (map-When Decl Stmt Block Class Procedure When Declared Forest Forest Forest Forest Forest declaration_derivation statement_derivation block_derivation class_derivation procedure_derivation when_derivation x)) z)
       (sym (fold-roll-When Declaration Statement BlockSyntax Classed Headed Arm t.decl_layer t.stmt_layer t.block_layer t.class_layer t.procedure_layer t.when_layer x)) h)
 
   abbrev pub StmtStep : Type 0

@@ -34,7 +34,7 @@ module _ (limit : ℕ) (ws : List Token) where
   one_reading (reads-none h r) (reads-any h' r') = absurd (true_or_false h' h)
   one_reading (reads-none h r) (reads-none h' r') = one_reading r r'
   one_reading {i = i} (reads-here r) (reads-here r') = let e = one_reading r r' in (ap (place i) e.0, e.1)
-  one_reading (reads-part {d = d} {i = i} {t = t} {n = n} {right = x} {s = s} {f = f} {g = g} b sh r q) (reads-part {m = m'} {j = j'} {right = y} {f = f'} {g = g'} b' sh' r' q') =
+  one_reading (reads-part {depth = d} {start = i} {t = t} {n = n} {right = x} {s = s} {f = f} {g = g} b sh r q) (reads-part {m = m'} {end = j'} {right = y} {f = f'} {g = g'} b' sh' r' q') =
       let e = one_reading r (subst (λ z. Reads limit ws (inside_depth n d) z i f' m') (same_right b b') r') in
       let e' = one_reading q (subst (λ z. Reads limit ws d (after t n s) z g' j') (sym e.1) q') in
       (two_nodes n f f' g g' e.0 e'.0, e'.1)
@@ -55,9 +55,9 @@ module _ (limit : ℕ) (ws : List Token) where
   never_both (reads-none h r) (after-none h' r') = never_both r r'
   never_both (reads-here r) (after-here r') = never_both r r'
   never_both (reads-part b sh r q) (fails-part b' k) = none_or_some b' b
-  never_both (reads-part {d = d} {n = n} b sh r q) (fails-deep b' deep) = true_or_false deep (subst (λ z. is_too_deep limit n d z ≡ false) (same_right b' b) sh)
-  never_both (reads-part {d = d} {i = i} {n = n} b sh r q) (fails-inside {e = e} b' sh' r') = never_both r (subst (λ z. Fails limit ws (inside_depth n d) z i e) (same_right b b') r')
-  never_both (reads-part {d = d} {i = i} {t = t} {n = n} {s = s} b sh r q) (after-part {m = m'} {e = e} {f = f'} b' sh' r' q') =
+  never_both (reads-part {depth = d} {n = n} b sh r q) (fails-deep b' deep) = true_or_false deep (subst (λ z. is_too_deep limit n d z ≡ false) (same_right b' b) sh)
+  never_both (reads-part {depth = d} {start = i} {n = n} b sh r q) (fails-inside {e = e} b' sh' r') = never_both r (subst (λ z. Fails limit ws (inside_depth n d) z i e) (same_right b b') r')
+  never_both (reads-part {depth = d} {start = i} {t = t} {n = n} {s = s} b sh r q) (after-part {m = m'} {e = e} {f = f'} b' sh' r' q') =
       let e' = one_reading r (subst (λ z. Reads limit ws (inside_depth n d) z i f' m') (same_right b b') r') in
       never_both q (subst (λ z. Fails limit ws d (after t n s) z e) (sym e'.1) q')
   never_both (reads-part b sh r q) (after-skip b' k r') = none_or_some b' b
@@ -90,13 +90,13 @@ module _ (limit : ℕ) (ws : List Token) where
   one_fault (fails-part b k) (after-skip b' k' r') = absurd (true_or_false k' k)
   one_fault (fails-deep b deep) (fails-part b' k') = absurd (none_or_some b' b)
   one_fault (fails-deep b deep) (fails-deep b' deep') = refl
-  one_fault (fails-deep {d = d} {n = n} b deep) (fails-inside b' sh' r') = absurd (true_or_false deep (subst (λ z. is_too_deep limit n d z ≡ false) (same_right b b') sh'))
-  one_fault (fails-deep {d = d} {n = n} b deep) (after-part b' sh' r' q') = absurd (true_or_false deep (subst (λ z. is_too_deep limit n d z ≡ false) (same_right b b') sh'))
+  one_fault (fails-deep {depth = d} {n = n} b deep) (fails-inside b' sh' r') = absurd (true_or_false deep (subst (λ z. is_too_deep limit n d z ≡ false) (same_right b b') sh'))
+  one_fault (fails-deep {depth = d} {n = n} b deep) (after-part b' sh' r' q') = absurd (true_or_false deep (subst (λ z. is_too_deep limit n d z ≡ false) (same_right b b') sh'))
   one_fault (fails-deep b deep) (after-skip b' k' r') = absurd (none_or_some b' b)
   one_fault (fails-inside b sh r) (fails-part b' k') = absurd (none_or_some b' b)
-  one_fault (fails-inside {d = d} {n = n} b sh r) (fails-deep b' deep) = absurd (true_or_false deep (subst (λ z. is_too_deep limit n d z ≡ false) (same_right b' b) sh))
-  one_fault (fails-inside {d = d} {i = i} {n = n} b sh r) (fails-inside {e = e'} b' sh' r') = one_fault r (subst (λ z. Fails limit ws (inside_depth n d) z i e') (same_right b b') r')
-  one_fault (fails-inside {d = d} {i = i} {e = e} {n = n} b sh r) (after-part b' sh' r' q') = absurd (never_both r' (subst (λ z. Fails limit ws (inside_depth n d) z i e) (same_right b' b) r))
+  one_fault (fails-inside {depth = d} {n = n} b sh r) (fails-deep b' deep) = absurd (true_or_false deep (subst (λ z. is_too_deep limit n d z ≡ false) (same_right b' b) sh))
+  one_fault (fails-inside {depth = d} {start = i} {n = n} b sh r) (fails-inside {e = e'} b' sh' r') = one_fault r (subst (λ z. Fails limit ws (inside_depth n d) z i e') (same_right b b') r')
+  one_fault (fails-inside {depth = d} {start = i} {e = e} {n = n} b sh r) (after-part b' sh' r' q') = absurd (never_both r' (subst (λ z. Fails limit ws (inside_depth n d) z i e) (same_right b' b) r))
   one_fault (fails-inside b sh r) (after-skip b' k' r') = absurd (none_or_some b' b)
   one_fault (after-kept h r) (fails-kept h') = absurd (true_or_false h h')
   one_fault (after-kept h r) (after-kept h' r') = one_fault r r'
@@ -108,9 +108,9 @@ module _ (limit : ℕ) (ws : List Token) where
   one_fault (after-none h r) (after-none h' r') = one_fault r r'
   one_fault (after-here r) (after-here r') = one_fault r r'
   one_fault (after-part b sh r q) (fails-part b' k') = absurd (none_or_some b' b)
-  one_fault (after-part {d = d} {n = n} b sh r q) (fails-deep b' deep) = absurd (true_or_false deep (subst (λ z. is_too_deep limit n d z ≡ false) (same_right b' b) sh))
-  one_fault (after-part {d = d} {i = i} {n = n} b sh r q) (fails-inside {e = e'} b' sh' r') = absurd (never_both r (subst (λ z. Fails limit ws (inside_depth n d) z i e') (same_right b b') r'))
-  one_fault (after-part {d = d} {i = i} {t = t} {n = n} {s = s} b sh r q) (after-part {m = m'} {e = e'} {f = f'} b' sh' r' q') =
+  one_fault (after-part {depth = d} {n = n} b sh r q) (fails-deep b' deep) = absurd (true_or_false deep (subst (λ z. is_too_deep limit n d z ≡ false) (same_right b' b) sh))
+  one_fault (after-part {depth = d} {start = i} {n = n} b sh r q) (fails-inside {e = e'} b' sh' r') = absurd (never_both r (subst (λ z. Fails limit ws (inside_depth n d) z i e') (same_right b b') r'))
+  one_fault (after-part {depth = d} {start = i} {t = t} {n = n} {s = s} b sh r q) (after-part {m = m'} {e = e'} {f = f'} b' sh' r' q') =
       let o = one_reading r (subst (λ z. Reads limit ws (inside_depth n d) z i f' m') (same_right b b') r') in
       one_fault q (subst (λ z. Fails limit ws d (after t n s) z e') (sym o.1) q')
   one_fault (after-part b sh r q) (after-skip b' k' r') = absurd (none_or_some b' b)
@@ -149,7 +149,7 @@ module _ (limit more : ℕ) (le : limit ≤ more) where
   reads_more (reads-any h r) = reads-any h (reads_more r)
   reads_more (reads-none h r) = reads-none h (reads_more r)
   reads_more (reads-here r) = reads-here (reads_more r)
-  reads_more (reads-part {d = d} {n = n} {right = x} b sh r q) = reads-part b (shallow_more n d x sh) (reads_more r) (reads_more q)
+  reads_more (reads-part {depth = d} {n = n} {right = x} b sh r q) = reads-part b (shallow_more n d x sh) (reads_more r) (reads_more q)
   reads_more (reads-skip b k r) = reads-skip b k (reads_more r)
 
   pub fails_more : {ws : List Token} {d i k : ℕ} {s : List Symbol} {e : Fault} → e ≡ Unexpected k → Fails limit ws d s i e → Fails more ws d s i e
@@ -160,13 +160,13 @@ module _ (limit more : ℕ) (le : limit ≤ more) where
     where
       no_deep : {a b : ℕ} → TooDeep a ≡ Unexpected b → ⊥
       no_deep h = cc
-  fails_more u (fails-inside {d = d} {n = n} {right = x} b sh r) = fails-inside b (shallow_more n d x sh) (fails_more u r)
+  fails_more u (fails-inside {depth = d} {n = n} {right = x} b sh r) = fails-inside b (shallow_more n d x sh) (fails_more u r)
   fails_more u (after-kept h r) = after-kept h (fails_more u r)
   fails_more u (after-mark h r) = after-mark h (fails_more u r)
   fails_more u (after-any h r) = after-any h (fails_more u r)
   fails_more u (after-none h r) = after-none h (fails_more u r)
   fails_more u (after-here r) = after-here (fails_more u r)
-  fails_more u (after-part {d = d} {n = n} {right = x} b sh r q) = after-part b (shallow_more n d x sh) (reads_more r) (fails_more u q)
+  fails_more u (after-part {depth = d} {n = n} {right = x} b sh r q) = after-part b (shallow_more n d x sh) (reads_more r) (fails_more u q)
   fails_more u (after-skip b k r) = after-skip b k (fails_more u r)
 
 -- A reading and a fault look at no token after the next one.
@@ -184,24 +184,24 @@ module _ (limit : ℕ) (ws us : List Token) where
 
   pub reads_local : {d i : ℕ} {s : List Symbol} {f : Forest} {j : ℕ} → Reads limit ws d s i f j → Same j → Reads limit us d s i f j
   reads_local reads-done same = reads-done
-  reads_local (reads-kept {d = d} {i = i} {j = j} {any = any} {s = s} {f = f} h r) same =
+  reads_local (reads-kept {depth = d} {start = i} {end = j} {any = any} {s = s} {f = f} h r) same =
       let le : i ≤ j = omega (arith, reads_ahead limit ws r) in
       subst (λ x. Reads limit us d (Kept any ∷ s) i (leaf i x f) j) (sym (same_kind i (same i le)))
       (reads-kept (subst (λ b. one_of any b ≡ true) (same_terminal i (same i le)) h) (reads_local r same))
-  reads_local (reads-mark {i = i} {j = j} {a = a} h r) same =
+  reads_local (reads-mark {start = i} {end = j} {a = a} h r) same =
       let le : i ≤ j = omega (arith, reads_ahead limit ws r) in
       reads-mark (subst (λ b. is b a ≡ true) (same_terminal i (same i le)) h) (reads_local r same)
-  reads_local (reads-any {i = i} {j = j} {a = a} h r) same =
+  reads_local (reads-any {start = i} {end = j} {a = a} h r) same =
       let le : i ≤ j = omega (arith, reads_ahead limit ws r) in
       reads-any (subst (λ b. is b a ≡ true) (same_terminal i (same i le)) h) (reads_local r same)
-  reads_local (reads-none {i = i} {j = j} {a = a} h r) same =
+  reads_local (reads-none {start = i} {end = j} {a = a} h r) same =
       reads-none (subst (λ b. is b a ≡ false) (same_terminal i (same i (reads_ahead limit ws r))) h) (reads_local r same)
   reads_local (reads-here r) same = reads-here (reads_local r same)
-  reads_local (reads-part {i = i} {m = m} {j = j} {n = n} {right = x} b sh r q) same =
+  reads_local (reads-part {start = i} {m = m} {end = j} {n = n} {right = x} b sh r q) same =
       let le : i ≤ j = omega (arith, reads_ahead limit ws r, reads_ahead limit ws q) in
       reads-part (subst (λ b. right_side n b ≡ Some x) (same_terminal i (same i le)) b) sh
       (reads_local r (λ o h. same o (omega (arith, h, reads_ahead limit ws q)))) (reads_local q same)
-  reads_local (reads-skip {i = i} {n = n} b k r) same =
+  reads_local (reads-skip {start = i} {n = n} b k r) same =
       reads-skip (subst (λ b. right_side n b ≡ None) (same_terminal i (same i (reads_ahead limit ws r))) b) k (reads_local r same)
 
 -- the last token that a fault depends on
@@ -222,7 +222,7 @@ module _ (limit : ℕ) (ws us : List Token) where
   fails_ahead (fails-kept h) = omega arith
   fails_ahead (fails-mark h) = omega arith
   fails_ahead (fails-part b may) = omega arith
-  fails_ahead (fails-deep {i = i} {n = n} b deep) = first_near n i
+  fails_ahead (fails-deep {start = i} {n = n} b deep) = first_near n i
   fails_ahead (fails-inside b sh r) = fails_ahead r
   fails_ahead (after-kept h r) = omega (arith, fails_ahead r)
   fails_ahead (after-mark h r) = omega (arith, fails_ahead r)
@@ -234,25 +234,25 @@ module _ (limit : ℕ) (ws us : List Token) where
 
   pub fails_local : {d i : ℕ} {s : List Symbol} {e : Fault} → Fails limit ws d s i e
       → ((m : ℕ) → m ≤ last_at e → slice_index_or ws m finish ≡ slice_index_or us m finish) → Fails limit us d s i e
-  fails_local (fails-kept {i = i} {any = any} h) same = fails-kept (subst (λ b. one_of any b ≡ false) (same_terminal limit ws us i (same i (omega arith))) h)
-  fails_local (fails-mark {i = i} {a = a} h) same = fails-mark (subst (λ b. is b a ≡ false) (same_terminal limit ws us i (same i (omega arith))) h)
-  fails_local (fails-part {i = i} {n = n} b k) same = fails-part (subst (λ b. right_side n b ≡ None) (same_terminal limit ws us i (same i (omega arith))) b) k
-  fails_local (fails-deep {i = i} {n = n} {right = x} b deep) same = fails-deep (subst (λ b. right_side n b ≡ Some x) (same_terminal limit ws us i (same i (first_near n i))) b) deep
-  fails_local (fails-inside {i = i} {n = n} {right = x} b sh r) same =
+  fails_local (fails-kept {start = i} {any = any} h) same = fails-kept (subst (λ b. one_of any b ≡ false) (same_terminal limit ws us i (same i (omega arith))) h)
+  fails_local (fails-mark {start = i} {a = a} h) same = fails-mark (subst (λ b. is b a ≡ false) (same_terminal limit ws us i (same i (omega arith))) h)
+  fails_local (fails-part {start = i} {n = n} b k) same = fails-part (subst (λ b. right_side n b ≡ None) (same_terminal limit ws us i (same i (omega arith))) b) k
+  fails_local (fails-deep {start = i} {n = n} {right = x} b deep) same = fails-deep (subst (λ b. right_side n b ≡ Some x) (same_terminal limit ws us i (same i (first_near n i))) b) deep
+  fails_local (fails-inside {start = i} {n = n} {right = x} b sh r) same =
       fails-inside (subst (λ b. right_side n b ≡ Some x) (same_terminal limit ws us i (same i (fails_ahead r))) b) sh (fails_local r same)
-  fails_local (after-kept {i = i} {any = any} h r) same =
+  fails_local (after-kept {start = i} {any = any} h r) same =
       after-kept (subst (λ b. one_of any b ≡ true) (same_terminal limit ws us i (same i (omega (arith, fails_ahead r)))) h) (fails_local r same)
-  fails_local (after-mark {i = i} {a = a} h r) same =
+  fails_local (after-mark {start = i} {a = a} h r) same =
       after-mark (subst (λ b. is b a ≡ true) (same_terminal limit ws us i (same i (omega (arith, fails_ahead r)))) h) (fails_local r same)
-  fails_local (after-any {i = i} {a = a} h r) same =
+  fails_local (after-any {start = i} {a = a} h r) same =
       after-any (subst (λ b. is b a ≡ true) (same_terminal limit ws us i (same i (omega (arith, fails_ahead r)))) h) (fails_local r same)
-  fails_local (after-none {i = i} {a = a} h r) same =
+  fails_local (after-none {start = i} {a = a} h r) same =
       after-none (subst (λ b. is b a ≡ false) (same_terminal limit ws us i (same i (fails_ahead r))) h) (fails_local r same)
   fails_local (after-here r) same = after-here (fails_local r same)
-  fails_local (after-part {i = i} {n = n} {right = x} b sh r q) same =
+  fails_local (after-part {start = i} {n = n} {right = x} b sh r q) same =
       after-part (subst (λ b. right_side n b ≡ Some x) (same_terminal limit ws us i (same i (omega (arith, reads_ahead limit ws r, fails_ahead q)))) b) sh
       (reads_local limit ws us r (λ o h. same o (omega (arith, h, fails_ahead q)))) (fails_local q same)
-  fails_local (after-skip {i = i} {n = n} b k r) same =
+  fails_local (after-skip {start = i} {n = n} b k r) same =
       after-skip (subst (λ b. right_side n b ≡ None) (same_terminal limit ws us i (same i (fails_ahead r))) b) k (fails_local r same)
 
 -- With the unexpected token the tokens begin nothing.

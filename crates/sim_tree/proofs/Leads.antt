@@ -55,9 +55,9 @@ module _ {most : ℕ} {ws : List Token} where
   first_kept e (reads-any h r) = absurd (false≢true e)
   first_kept e (reads-none h r) = absurd (false≢true e)
   first_kept e (reads-here r) = absurd (false≢true e)
-  first_kept e (reads-part {i = i} {t = Once} {n = n} {right = right} b sh r q) = first_kept (inside_leads n ws i right e b) r
-  first_kept e (reads-part {i = i} {t = Maybe} {n = n} {right = right} {s = s} b sh r q) = first_kept (inside_leads n ws i right (left_true (leading n) (leads s) e) b) r
-  first_kept e (reads-part {i = i} {t = Many} {n = n} {right = right} {s = s} b sh r q) = first_kept (inside_leads n ws i right (left_true (leading n) (leads s) e) b) r
+  first_kept e (reads-part {start = i} {t = Once} {n = n} {right = right} b sh r q) = first_kept (inside_leads n ws i right e b) r
+  first_kept e (reads-part {start = i} {t = Maybe} {n = n} {right = right} {s = s} b sh r q) = first_kept (inside_leads n ws i right (left_true (leading n) (leads s) e) b) r
+  first_kept e (reads-part {start = i} {t = Many} {n = n} {right = right} {s = s} b sh r q) = first_kept (inside_leads n ws i right (left_true (leading n) (leads s) e) b) r
   first_kept e (reads-skip {t = Once} b may r) = absurd (false≢true may)
   first_kept e (reads-skip {t = Maybe} {n = n} {s = s} b may r) = first_kept (right_true (leading n) (leads s) e) r
   first_kept e (reads-skip {t = Many} {n = n} {s = s} b may r) = first_kept (right_true (leading n) (leads s) e) r

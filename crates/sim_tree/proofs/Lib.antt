@@ -8,7 +8,7 @@ pub mod Leads
 pub mod Leaf
 pub mod Nests
 pub mod Prefix
-pub mod ShownLemmas
+pub mod DerivationLemmas
 pub mod Sizes
 pub mod StatementLemmas
 pub mod Statements

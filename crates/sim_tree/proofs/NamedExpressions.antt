@@ -22,8 +22,8 @@ use Rattle.sim_tree.specs.Reading.{Forest, done, leaf, place, node}
 use Rattle.sim_tree.specs.Named.{named, all_named}
 use Rattle.sim_tree.specs.Tree.{is_bare}
 use Rattle.sim_tree.specs.Nesting.{has_token}
-use Rattle.sim_tree.specs.Shown as d
-use Rattle.sim_tree.specs.Shown.{Shown, level_part, raise, whole, row, shown, operand_shown, term_shown, factor_shown, selector_shown, argument, arguments}
+use Rattle.sim_tree.specs.Derivation as d
+use Rattle.sim_tree.specs.Derivation.{Derivation, level_part, raise, whole, row, derivation_of, operand_derivation, term_derivation, factor_derivation, selector_derivation, argument, arguments}
 use Rattle.sim_tree.specs.Syntax as s
 use Rattle.sim_tree.specs.Syntax.{Expression, expressions}
 use Rattle.sim_tree.specs.SyntaxOf as t
@@ -71,10 +71,10 @@ puts_none (leaf i kind f) = skip (puts_none f)
 puts_none (place i f) = puts_none f
 puts_none (node n inside f) = both (puts_none inside) (puts_none f)
 
-pub record Claim (x : Shown) (e : Expression) : Type 0 where
+pub record Claim (x : Derivation) (e : Expression) : Type 0 where
   pub known : not (is_bare x.inside) ≡ true → Full x.inside → Puts (named e) (leaves x.inside)
 
-raised : (m : ℕ) (x : Shown) (e : Expression) → m ≤ 14 → Claim x e → not (is_bare (raise m x)) ≡ true → Full (raise m x) → Puts (named e) (leaves (raise m x))
+raised : (m : ℕ) (x : Derivation) (e : Expression) → m ≤ 14 → Claim x e → not (is_bare (raise m x)) ≡ true → Full (raise m x) → Puts (named e) (leaves (raise m x))
 unfolding raise
 raised zero x e le h = go (nat_eq x.level 0)
   where
@@ -93,13 +93,13 @@ raised (suc m) x e le h = go (nat_eq x.level (suc m)) (λ bare full. raised m x 
     go true later bare full = h.known bare full
     go false later bare full = later (sym ((level_plain m low).1 (raise m x)) ∙ full.0) full.1
 
-pub leveled : (m : ℕ) {x : Shown} {e : Expression} → m < 14 → Claim x e → has_token (level_part m) (raise m x) ≡ true → Full (raise m x) → Puts (named e) (leaves (raise m x))
+pub leveled : (m : ℕ) {x : Derivation} {e : Expression} → m < 14 → Claim x e → has_token (level_part m) (raise m x) ≡ true → Full (raise m x) → Puts (named e) (leaves (raise m x))
 leveled m {x} {e} le h token full = raised m x e (omega (arith, le)) h (sym ((level_plain m le).1 (raise m x)) ∙ token) full
 
-pub valued : {x : Shown} {e : Expression} → Claim x e → not (is_bare (whole x)) ≡ true → Full (whole x) → Puts (named e) (leaves (whole x))
+pub valued : {x : Derivation} {e : Expression} → Claim x e → not (is_bare (whole x)) ≡ true → Full (whole x) → Puts (named e) (leaves (whole x))
 valued {x} {e} h bare full = raised 14 x e (omega arith) h bare full
 
-pub operand_named : {x : Shown} {e : Expression} → Claim x e → not (is_bare (raise 1 x)) ≡ true → Full (raise 1 x) → Puts (named e) (leaves (raise 1 x))
+pub operand_named : {x : Derivation} {e : Expression} → Claim x e → not (is_bare (raise 1 x)) ≡ true → Full (raise 1 x) → Puts (named e) (leaves (raise 1 x))
 operand_named {x} {e} h bare full = raised 1 x e (omega arith) h bare full
 
 -- Items behind a level's first operand.
@@ -129,18 +129,18 @@ steps_row n (f ∷ fs) [] each full = absurd each
 steps_row n (f ∷ fs) (x ∷ xs) each full = both (each.0 full.1) (steps_row n fs xs each.1 full.2)
 
 abbrev pub ExprClaim : Expr → Type 0
-ExprClaim e = Claim (shown e) (syntax_of e)
+ExprClaim e = Claim (derivation_of e) (syntax_of e)
 
 record OperandClaim (x : Operand) : Type 0 where
   pub operand : Expression
-  pub claim : Claim (operand_shown x).operand operand
-  pub is : (operator : Operator) → operand_syntax x operator ≡ record { operator = operator; token = (operand_shown x).token; operand = operand }
+  pub claim : Claim (operand_derivation x).operand operand
+  pub is : (operator : Operator) → operand_syntax x operator ≡ record { operator = operator; token = (operand_derivation x).token; operand = operand }
 
 abbrev TermClaim : Term → Type 0
-TermClaim x = StepClaim (term_shown x) (term_syntax x)
+TermClaim x = StepClaim (term_derivation x) (term_syntax x)
 
 abbrev FactorClaim : Factor → Type 0
-FactorClaim x = StepClaim (factor_shown x) (factor_syntax x)
+FactorClaim x = StepClaim (factor_derivation x) (factor_syntax x)
 
 abbrev selection_named : Selection → List ℕ → List ℕ
 selection_named (Take i name es) l = i ∷ name.token.0 ∷ all_named es l
@@ -156,7 +156,7 @@ named-selected e (Take i name es ∷ xs) l = named-selected (s.Dot i e name es) 
 named-selected e (Cast i class ∷ xs) l = named-selected (s.Qua i e class) xs l
 
 abbrev SelectorClaim : Selector → Type 0
-SelectorClaim x = Full (selector_shown x) → Puts (selection_named (selector_syntax x)) (leaves (selector_shown x))
+SelectorClaim x = Full (selector_derivation x) → Puts (selection_named (selector_syntax x)) (leaves (selector_derivation x))
 
 -- Levels of operators.
 vacant : (e : Expression) → Claim d.nothing e
@@ -165,34 +165,34 @@ vacant e = record { known = λ bare full. absurd (false≢true bare) }
 abbrev OperandPair : Type 0
 OperandPair = (x : Operand) × OperandClaim x
 
-item_steps : (l : ℕ) (w : TokenKind) (op : Operator) → l < 14 → (x : OperandPair) → StepClaim (d.item l w (operand_shown x.0)) (with_operator op (operand_syntax x.0))
+item_steps : (l : ℕ) (w : TokenKind) (op : Operator) → l < 14 → (x : OperandPair) → StepClaim (d.item l w (operand_derivation x.0)) (with_operator op (operand_syntax x.0))
 item_steps l w op le x full =
     along (λ r. ap (λ z. tail_named z r) (x.1.is op)) (keep (leveled l le x.1.claim full.0 full.1))
 
 each_operand : (l : ℕ) (w : TokenKind) (op : Operator) → l < 14 → (xs : List OperandPair)
-    → EachStep (map (d.item l w) (map operand_shown (map (λ x. x.0) xs))) (map (with_operator op) (map operand_syntax (map (λ x. x.0) xs)))
+    → EachStep (map (d.item l w) (map operand_derivation (map (λ x. x.0) xs))) (map (with_operator op) (map operand_syntax (map (λ x. x.0) xs)))
 each_operand l w op le [] = tt
 each_operand l w op le (x ∷ xs) = (item_steps l w op le x, each_operand l w op le xs)
 
-in_operated : (l : ℕ) (w : TokenKind) (op : Operator) (n : Part) → l < 14 → {x : Shown} {e : Expression} → Claim x e → (xs : List OperandPair)
-    → Claim (d.operated l w n x (map operand_shown (map (λ x. x.0) xs))) (chain e (map (with_operator op) (map operand_syntax (map (λ x. x.0) xs))))
+in_operated : (l : ℕ) (w : TokenKind) (op : Operator) (n : Part) → l < 14 → {x : Derivation} {e : Expression} → Claim x e → (xs : List OperandPair)
+    → Claim (d.operated l w n x (map operand_derivation (map (λ x. x.0) xs))) (chain e (map (with_operator op) (map operand_syntax (map (λ x. x.0) xs))))
 in_operated l w op n le {e = e} h [] = vacant e
 in_operated l w op n le {x} {e} h (y ∷ ys) = record {
   known = λ bare full.
-      let fs : List Forest = map (d.item l w) (map operand_shown (map (λ x. x.0) (y ∷ ys))) in
+      let fs : List Forest = map (d.item l w) (map operand_derivation (map (λ x. x.0) (y ∷ ys))) in
       let xs = map (with_operator op) (map operand_syntax (map (λ x. x.0) (y ∷ ys))) in
       along (named-chain e xs) (both (leveled l le h full.0 full.1) (steps_row n fs xs (each_operand l w op le (y ∷ ys)) full.2));
 }
 
-each_term : (xs : List ((x : Term) × TermClaim x)) → EachStep (map term_shown (map (λ x. x.0) xs)) (map term_syntax (map (λ x. x.0) xs))
+each_term : (xs : List ((x : Term) × TermClaim x)) → EachStep (map term_derivation (map (λ x. x.0) xs)) (map term_syntax (map (λ x. x.0) xs))
 each_term [] = tt
 each_term (x ∷ xs) = (x.1, each_term xs)
 
-each_factor : (xs : List ((x : Factor) × FactorClaim x)) → EachStep (map factor_shown (map (λ x. x.0) xs)) (map factor_syntax (map (λ x. x.0) xs))
+each_factor : (xs : List ((x : Factor) × FactorClaim x)) → EachStep (map factor_derivation (map (λ x. x.0) xs)) (map factor_syntax (map (λ x. x.0) xs))
 each_factor [] = tt
 each_factor (x ∷ xs) = (x.1, each_factor xs)
 
-in_summed : (sign : Option LeadingSign) (fs : List Forest) (xs : List Tail) → EachStep fs xs → {x : Shown} {e : Expression} → Claim x e → Claim (d.summed sign x fs) (chain (t.signed sign e) xs)
+in_summed : (sign : Option LeadingSign) (fs : List Forest) (xs : List Tail) → EachStep fs xs → {x : Derivation} {e : Expression} → Claim x e → Claim (d.summed sign x fs) (chain (t.signed sign e) xs)
 in_summed None [] xs each {e = e} h = vacant (chain e xs)
 in_summed None (f ∷ fs) xs each {e = e} h = record {
   known = λ bare full.
@@ -203,7 +203,7 @@ in_summed (Some y) fs xs each {e = e} h = record {
       along (named-chain (s.Signed y.sign y.token.0 e) xs) (keep (both (leveled 3 (omega arith) h full.2.0 full.2.1) (steps_row g.NextTerm fs xs each full.2.2)));
 }
 
-in_multiplied : (fs : List Forest) (xs : List Tail) → EachStep fs xs → {x : Shown} {e : Expression} → Claim x e → Claim (d.multiplied x fs) (chain e xs)
+in_multiplied : (fs : List Forest) (xs : List Tail) → EachStep fs xs → {x : Derivation} {e : Expression} → Claim x e → Claim (d.multiplied x fs) (chain e xs)
 in_multiplied [] xs each {e = e} h = vacant (chain e xs)
 in_multiplied (f ∷ fs) xs each {e = e} h = record {
   known = λ bare full.
@@ -214,13 +214,13 @@ in_multiplied (f ∷ fs) xs each {e = e} h = record {
 abbrev SelectorPair : Type 0
 SelectorPair = (x : Selector) × SelectorClaim x
 
-selections_row : (xs : List SelectorPair) → Full (row g.Selection (map selector_shown (map (λ x. x.0) xs)) done)
-    → Puts (selections_named (map selector_syntax (map (λ x. x.0) xs))) (leaves (row g.Selection (map selector_shown (map (λ x. x.0) xs)) done))
+selections_row : (xs : List SelectorPair) → Full (row g.Selection (map selector_derivation (map (λ x. x.0) xs)) done)
+    → Puts (selections_named (map selector_syntax (map (λ x. x.0) xs))) (leaves (row g.Selection (map selector_derivation (map (λ x. x.0) xs)) done))
 selections_row [] full = none
 selections_row (x ∷ xs) full = both (x.1 full.1) (selections_row xs full.2)
 
-in_selected : (xs : List SelectorPair) → {x : Shown} {e : Expression} → Claim x e
-    → Claim (d.selected x (map selector_shown (map (λ x. x.0) xs))) (selected e (map selector_syntax (map (λ x. x.0) xs)))
+in_selected : (xs : List SelectorPair) → {x : Derivation} {e : Expression} → Claim x e
+    → Claim (d.selected x (map selector_derivation (map (λ x. x.0) xs))) (selected e (map selector_syntax (map (λ x. x.0) xs)))
 in_selected [] {e = e} h = vacant e
 in_selected (y ∷ ys) {e = e} h = record {
   known = λ bare full.
@@ -236,7 +236,7 @@ full_behind_nots : (is : List TokenNo) (f : Forest) → Full (row g.NotSign (map
 full_behind_nots [] f full = full
 full_behind_nots (i ∷ is) f full = full_behind_nots is f full.2
 
-in_negated : (is : List TokenNo) {x : Shown} {e : Expression} → Claim x e → Claim (d.negated is x) (t.negated is e)
+in_negated : (is : List TokenNo) {x : Derivation} {e : Expression} → Claim x e → Claim (d.negated is x) (t.negated is e)
 in_negated [] {e = e} h = vacant e
 in_negated (i ∷ is) {x} {e} h = record {
   known = λ bare full.
@@ -245,19 +245,19 @@ in_negated (i ∷ is) {x} {e} h = record {
 }
 
 -- Actual parameters.
-abbrev pub Each : List Shown → List Expression → Type 0
+abbrev pub Each : List Derivation → List Expression → Type 0
 Each [] [] = Unit {0}
 Each (x ∷ xs) (e ∷ es) = Claim x e × Each xs es
 Each _ _ = ⊥
 
-more_arguments : (xs : List Shown) (es : List Expression) → Each xs es → Full (row g.NextArgument (map argument xs) done) → Puts (all_named (expressions es)) (leaves (row g.NextArgument (map argument xs) done))
+more_arguments : (xs : List Derivation) (es : List Expression) → Each xs es → Full (row g.NextArgument (map argument xs) done) → Puts (all_named (expressions es)) (leaves (row g.NextArgument (map argument xs) done))
 more_arguments [] [] each full = none
 more_arguments [] (e ∷ es) each full = absurd each
 more_arguments (x ∷ xs) [] each full = absurd each
 more_arguments (x ∷ xs) (e ∷ es) each full = both (valued each.0 full.1.0 full.1.1) (more_arguments xs es each.1 full.2)
 
 -- the actual parameters, and what is put there behind them
-pub arguments_named : (xs : List Shown) (es : List Expression) (f : Forest) (h : List ℕ → List ℕ) → Each xs es → Full (arguments xs f) → (Full f → Puts h (leaves f)) → Puts (λ r. all_named (expressions es) (h r)) (leaves (arguments xs f))
+pub arguments_named : (xs : List Derivation) (es : List Expression) (f : Forest) (h : List ℕ → List ℕ) → Each xs es → Full (arguments xs f) → (Full f → Puts h (leaves f)) → Puts (λ r. all_named (expressions es) (h r)) (leaves (arguments xs f))
 arguments_named [] [] f h each full rest = rest full
 arguments_named [] (e ∷ es) f h each full rest = absurd each
 arguments_named (x ∷ xs) [] f h each full rest = absurd each
@@ -267,7 +267,7 @@ arguments_named (x ∷ xs) (e ∷ es) f h each full rest =
 abbrev ExprPair : Type 0
 ExprPair = (e : Expr) × ExprClaim e
 
-pub each_pair : (xs : List ExprPair) → Each (map shown (map (λ x. x.0) xs)) (map syntax_of (map (λ x. x.0) xs))
+pub each_pair : (xs : List ExprPair) → Each (map derivation_of (map (λ x. x.0) xs)) (map syntax_of (map (λ x. x.0) xs))
 each_pair [] = tt
 each_pair (x ∷ xs) = (x.1, each_pair xs)
 
@@ -296,14 +296,14 @@ first_term x = x.0
 abbrev LayerClaim : Expr-F Expr Selector Factor Operand Term → Type 0
 LayerClaim x =
     Claim
-    (d.expr_layer (map-Expr Expr Selector Factor Operand Term Shown Forest Forest d.Item Forest shown selector_shown factor_shown operand_shown term_shown x))
+    (d.expr_layer (map-Expr Expr Selector Factor Operand Term Derivation Forest Forest d.Item Forest derivation_of selector_derivation factor_derivation operand_derivation term_derivation x))
     (t.expr_layer (map-Expr Expr Selector Factor Operand Term Expression Selection Tail Operands Tail syntax_of selector_syntax factor_syntax operand_syntax term_syntax x))
 
 abbrev under : Expr-F ExprPair SelectorPair FactorPair OperandPair TermPair → Expr-F Expr Selector Factor Operand Term
 under y = map-Expr ExprPair SelectorPair FactorPair OperandPair TermPair Expr Selector Factor Operand Term first_expr first_selector first_factor first_operand first_term y
 
-actuals : (v : List ExprPair) → Full (arguments (map shown (map first_expr v)) done) → Puts (all_named (expressions (map syntax_of (map first_expr v)))) (leaves (arguments (map shown (map first_expr v)) done))
-actuals v full = arguments_named (map shown (map first_expr v)) (map syntax_of (map first_expr v)) done (λ r. r) (each_pair v) full (λ full. none)
+actuals : (v : List ExprPair) → Full (arguments (map derivation_of (map first_expr v)) done) → Puts (all_named (expressions (map syntax_of (map first_expr v)))) (leaves (arguments (map derivation_of (map first_expr v)) done))
+actuals v full = arguments_named (map derivation_of (map first_expr v)) (map syntax_of (map first_expr v)) done (λ r. r) (each_pair v) full (λ full. none)
 
 expr_step : (y : Expr-F ExprPair SelectorPair FactorPair OperandPair TermPair) → LayerClaim (under y)
 expr_step (Expr-F.If i a b c) = record {
@@ -319,8 +319,8 @@ expr_step (Expr-F.Not v a) = in_negated v.items a.value.1
 expr_step (Expr-F.Related a i r b) = record { known = λ bare full. both (leveled 5 (omega arith) a.value.1 full.0 full.1) (keep (leveled 5 (omega arith) b.value.1 full.2.1.0 full.2.1.1)) }
 expr_step (Expr-F.Member a i m x) = record { known = λ bare full. both (leveled 5 (omega arith) a.value.1 full.0 full.1) (keep (skip none)) }
 expr_step (Expr-F.Concatenation a v) = in_operated 4 k.Ampersand o.Concatenate g.NextConcatenated (omega arith) a.value.1 v.items
-expr_step (Expr-F.Sum y a v) = in_summed y (map term_shown (map first_term v.items)) (map term_syntax (map first_term v.items)) (each_term v.items) a.value.1
-expr_step (Expr-F.Product a v) = in_multiplied (map factor_shown (map first_factor v.items)) (map factor_syntax (map first_factor v.items)) (each_factor v.items) a.value.1
+expr_step (Expr-F.Sum y a v) = in_summed y (map term_derivation (map first_term v.items)) (map term_syntax (map first_term v.items)) (each_term v.items) a.value.1
+expr_step (Expr-F.Product a v) = in_multiplied (map factor_derivation (map first_factor v.items)) (map factor_syntax (map first_factor v.items)) (each_factor v.items) a.value.1
 expr_step (Expr-F.Power a v) = in_operated 1 k.Power o.Power g.NextPower (omega arith) a.value.1 v.items
 expr_step (Expr-F.Postfix a v) = in_selected v.items a.value.1
 expr_step (Expr-F.Integer i n) = record { known = λ bare full. keep none }
@@ -338,13 +338,13 @@ expr_step (Expr-F.Parentheses i a) = record { known = λ bare full. keep (valued
 layer : (x : Expr-F Expr Selector Factor Operand Term) → LayerClaim x → ExprClaim (roll-Expr x)
 unfolding syntax_of operand_syntax term_syntax factor_syntax selector_syntax
 layer x h =
-    subst (λ z. Claim z (syntax_of (roll-Expr x))) (sym (fold-roll-Expr Shown Forest Forest d.Item Forest d.expr_layer d.selector_layer d.factor_layer d.operand_layer d.term_layer x))
-    (subst (λ z. Claim (d.expr_layer (map-Expr Expr Selector Factor Operand Term Shown Forest Forest d.Item Forest shown selector_shown factor_shown operand_shown term_shown x)) z)
+    subst (λ z. Claim z (syntax_of (roll-Expr x))) (sym (fold-roll-Expr Derivation Forest Forest d.Item Forest d.expr_layer d.selector_layer d.factor_layer d.operand_layer d.term_layer x))
+    (subst (λ z. Claim (d.expr_layer (map-Expr Expr Selector Factor Operand Term Derivation Forest Forest d.Item Forest derivation_of selector_derivation factor_derivation operand_derivation term_derivation x)) z)
     (sym (fold-roll-Expr Expression Selection Tail Operands Tail t.expr_layer t.selector_layer t.factor_layer t.operand_layer t.term_layer x)) h)
 
 abbrev SelectorLayer : Selector-F Expr Selector Factor Operand Term → Type 0
 SelectorLayer x =
-    let f = d.selector_layer (map-Selector Expr Selector Factor Operand Term Shown Forest Forest d.Item Forest shown selector_shown factor_shown operand_shown term_shown x) in
+    let f = d.selector_layer (map-Selector Expr Selector Factor Operand Term Derivation Forest Forest d.Item Forest derivation_of selector_derivation factor_derivation operand_derivation term_derivation x) in
     Full f → Puts (selection_named (t.selector_layer (map-Selector Expr Selector Factor Operand Term Expression Selection Tail Operands Tail syntax_of selector_syntax factor_syntax operand_syntax term_syntax x))) (leaves f)
 
 selector_step : (y : Selector-F ExprPair SelectorPair FactorPair OperandPair TermPair)
@@ -355,19 +355,19 @@ selector_step (Selector-F.Qua i x) full = keep (skip none)
 selector_layer : (x : Selector-F Expr Selector Factor Operand Term) → SelectorLayer x → SelectorClaim (roll-Selector x)
 unfolding syntax_of operand_syntax term_syntax factor_syntax selector_syntax
 selector_layer x h =
-    let f = sym (fold-roll-Selector Shown Forest Forest d.Item Forest d.expr_layer d.selector_layer d.factor_layer d.operand_layer d.term_layer x) in
+    let f = sym (fold-roll-Selector Derivation Forest Forest d.Item Forest d.expr_layer d.selector_layer d.factor_layer d.operand_layer d.term_layer x) in
     let e = sym (fold-roll-Selector Expression Selection Tail Operands Tail t.expr_layer t.selector_layer t.factor_layer t.operand_layer t.term_layer x) in
     subst (λ z. Full z → Puts (selection_named (selector_syntax (roll-Selector x))) (leaves z)) f
     (subst
     (λ z.
-    let f = d.selector_layer (map-Selector Expr Selector Factor Operand Term Shown Forest Forest d.Item Forest shown selector_shown factor_shown operand_shown term_shown x) in
+    let f = d.selector_layer (map-Selector Expr Selector Factor Operand Term Derivation Forest Forest d.Item Forest derivation_of selector_derivation factor_derivation operand_derivation term_derivation x) in
     Full f → Puts (selection_named z) (leaves f))
     e h)
 
 operand_layer : (x : Operand-F Expr Selector Factor Operand Term) → ExprClaim x.operand → OperandClaim (roll-Operand x)
 unfolding syntax_of operand_syntax term_syntax factor_syntax selector_syntax
 operand_layer x h =
-    let f = sym (fold-roll-Operand Shown Forest Forest d.Item Forest d.expr_layer d.selector_layer d.factor_layer d.operand_layer d.term_layer x) in
+    let f = sym (fold-roll-Operand Derivation Forest Forest d.Item Forest d.expr_layer d.selector_layer d.factor_layer d.operand_layer d.term_layer x) in
     let e = fold-roll-Operand Expression Selection Tail Operands Tail t.expr_layer t.selector_layer t.factor_layer t.operand_layer t.term_layer x in
     record {
       operand = syntax_of x.operand;
@@ -381,13 +381,13 @@ step_along {f} {h} {x} {y} e i c = subst (λ z. StepClaim z x) (sym e) (subst (�
 term_layer : (x : Term-F Expr Selector Factor Operand Term) → ExprClaim x.term → TermClaim (roll-Term x)
 unfolding syntax_of operand_syntax term_syntax factor_syntax selector_syntax
 term_layer x h =
-    step_along (fold-roll-Term Shown Forest Forest d.Item Forest d.expr_layer d.selector_layer d.factor_layer d.operand_layer d.term_layer x)
+    step_along (fold-roll-Term Derivation Forest Forest d.Item Forest d.expr_layer d.selector_layer d.factor_layer d.operand_layer d.term_layer x)
     (fold-roll-Term Expression Selection Tail Operands Tail t.expr_layer t.selector_layer t.factor_layer t.operand_layer t.term_layer x) (λ full. keep (leveled 3 (omega arith) h full.0 full.1))
 
 factor_layer : (x : Factor-F Expr Selector Factor Operand Term) → ExprClaim x.factor → FactorClaim (roll-Factor x)
 unfolding syntax_of operand_syntax term_syntax factor_syntax selector_syntax
 factor_layer x h =
-    step_along (fold-roll-Factor Shown Forest Forest d.Item Forest d.expr_layer d.selector_layer d.factor_layer d.operand_layer d.term_layer x)
+    step_along (fold-roll-Factor Derivation Forest Forest d.Item Forest d.expr_layer d.selector_layer d.factor_layer d.operand_layer d.term_layer x)
     (fold-roll-Factor Expression Selection Tail Operands Tail t.expr_layer t.selector_layer t.factor_layer t.operand_layer t.term_layer x) (λ full. keep (leveled 2 (omega arith) h full.0 full.1))
 
 pub name_expr : (e : Expr) → ExprClaim e
@@ -397,6 +397,6 @@ name_expr =
     (λ x y is. subst (λ z. OperandClaim (roll-Operand z)) is (operand_layer (map-Operand ExprPair SelectorPair FactorPair OperandPair TermPair Expr Selector Factor Operand Term first_expr first_selector first_factor first_operand first_term y) y.operand.1))
     (λ x y is. subst (λ z. TermClaim (roll-Term z)) is (term_layer (map-Term ExprPair SelectorPair FactorPair OperandPair TermPair Expr Selector Factor Operand Term first_expr first_selector first_factor first_operand first_term y) y.term.1))
 
-pub each_expr : (xs : List Expr) → Each (map shown xs) (map syntax_of xs)
+pub each_expr : (xs : List Expr) → Each (map derivation_of xs) (map syntax_of xs)
 each_expr [] = tt
 each_expr (x ∷ xs) = (name_expr x, each_expr xs)

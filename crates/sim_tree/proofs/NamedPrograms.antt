@@ -22,9 +22,9 @@ use Rattle.sim_tree.specs.Tree.{is_bare, IsTree}
 use Rattle.sim_tree.proofs.Induction as induction
 use Rattle.sim_tree.proofs.Full.{reads_full}
 use Rattle.sim_tree.specs.Nesting.{has_token}
-use Rattle.sim_tree.specs.Shown.{shown, raise, row, expression}
-use Rattle.sim_tree.specs.ShownProgram as d
-use Rattle.sim_tree.specs.ShownProgram.{Declared, Plain, Prefixed, joined, acted, begun, contents, next_statement, assigned_shown, stmt_shown, decl_shown, block_shown, class_shown, procedure_shown, when_shown, program_shown}
+use Rattle.sim_tree.specs.Derivation.{derivation_of, raise, row, expression}
+use Rattle.sim_tree.specs.ProgramDerivation as d
+use Rattle.sim_tree.specs.ProgramDerivation.{Declared, Plain, Prefixed, joined, acted, begun, contents, next_statement, assigned_derivation, statement_derivation, declaration_derivation, block_derivation, class_derivation, procedure_derivation, when_derivation, program_derivation}
 use Rattle.sim_tree.specs.Syntax.{Statement, Declaration, statements, declarations}
 use Rattle.sim_tree.specs.Syntax.{Block as BlockSyntax}
 use Rattle.sim_tree.specs.SyntaxOf.{syntax_of}
@@ -102,9 +102,9 @@ row_none : (n : g.Part) (fs : List Forest) (f : Forest) {h : List ℕ → List �
 row_none n [] f full rest = rest full
 row_none n (x ∷ xs) f full rest = both (puts_none x) (row_none n xs f full.2 rest)
 
-virtuals_none : (vs : List VirtualSpecification) (f : Forest) {h : List ℕ → List ℕ} → Full (d.virtuals_shown vs f) → (Full f → Puts h (leaves f)) → Puts h (leaves (d.virtuals_shown vs f))
+virtuals_none : (vs : List VirtualSpecification) (f : Forest) {h : List ℕ → List ℕ} → Full (d.virtuals_derivation vs f) → (Full f → Puts h (leaves f)) → Puts h (leaves (d.virtuals_derivation vs f))
 virtuals_none [] f full rest = rest full
-virtuals_none (v ∷ vs) f full rest = both (puts_none (row g.VirtualSpecification (map d.virtual_shown (v ∷ vs)) done)) (rest full.2)
+virtuals_none (v ∷ vs) f full rest = both (puts_none (row g.VirtualSpecification (map d.virtual_derivation (v ∷ vs)) done)) (rest full.2)
 
 -- an expression
 expr_named : (e : Expr) → not (is_bare (expression e)) ≡ true → Full (expression e) → Puts (named (syntax_of e)) (leaves (expression e))
@@ -116,21 +116,21 @@ each_row : {A B : Type 0} (n : g.Part) (f : A → Forest) (t : A → B) (i : B �
 each_row n f t i [] one full = none
 each_row n f t i (x ∷ xs) one full = both (one x full.1) (each_row n f t i xs one full.2)
 
-bounds_named : (b : Bounds) → Full (d.bounds_shown b) → Puts (in_bounds (t.bound_pair_syntax b)) (leaves (d.bounds_shown b))
+bounds_named : (b : Bounds) → Full (d.bounds_derivation b) → Puts (in_bounds (t.bound_pair_syntax b)) (leaves (d.bounds_derivation b))
 bounds_named b full = both (expr_named b.lower full.0 full.1) (expr_named b.upper full.2.0 full.2.1)
 
 dimensions_named : (bs : List Bounds) → Full (d.dimensions bs) → Puts (in_each in_bounds (map t.bound_pair_syntax bs)) (leaves (d.dimensions bs))
 dimensions_named [] full = none
 dimensions_named (b ∷ bs) full = both (bounds_named b full.1) (each_row g.NextBounds d.next_bounds t.bound_pair_syntax in_bounds bs (λ x full. bounds_named x full.1) full.2)
 
-segment_named : (x : ArraySegment) → Full (d.segment_shown x) → Puts (in_segment (t.segment_syntax x)) (leaves (d.segment_shown x))
+segment_named : (x : ArraySegment) → Full (d.segment_derivation x) → Puts (in_segment (t.segment_syntax x)) (leaves (d.segment_derivation x))
 segment_named x full = both (puts_none (d.ids x.names.items)) (dimensions_named x.bounds.items full.2)
 
-segments_named : (xs : List ArraySegment) → Full (d.segments_shown xs) → Puts (in_each in_segment (map t.segment_syntax xs)) (leaves (d.segments_shown xs))
+segments_named : (xs : List ArraySegment) → Full (d.segments_derivation xs) → Puts (in_each in_segment (map t.segment_syntax xs)) (leaves (d.segments_derivation xs))
 segments_named [] full = none
 segments_named (x ∷ xs) full = both (segment_named x full.1) (each_row g.NextArraySegment d.next_segment t.segment_syntax in_segment xs (λ x full. segment_named x full.1) full.2)
 
-element_named : (x : ForElement) → Full (d.for_element_shown x) → Puts (in_element (t.element_syntax x)) (leaves (d.for_element_shown x))
+element_named : (x : ForElement) → Full (d.for_element_derivation x) → Puts (in_element (t.element_syntax x)) (leaves (d.for_element_derivation x))
 element_named (for_element.Value e) full = expr_named e full.0 full.1
 element_named (for_element.Step e i a b) full = both (expr_named e full.0 full.1) (skip (both (expr_named a full.2.1.0 full.2.1.1) (expr_named b full.2.1.2.0 full.2.1.2.1)))
 element_named (for_element.While e i a) full = both (expr_named e full.0 full.1) (skip (expr_named a full.2.1.0 full.2.1.1))
@@ -139,7 +139,7 @@ elements_named : (xs : List ForElement) → Full (d.for_elements xs) → Puts (i
 elements_named [] full = none
 elements_named (x ∷ xs) full = both (element_named x full.1) (each_row g.NextForElement d.next_for_element t.element_syntax in_element xs (λ x full. element_named x full.1) full.2)
 
-reference_element_named : (x : ReferenceElement) → Full (d.reference_element_shown x) → Puts (in_element (t.reference_element_syntax x)) (leaves (d.reference_element_shown x))
+reference_element_named : (x : ReferenceElement) → Full (d.reference_element_derivation x) → Puts (in_element (t.reference_element_syntax x)) (leaves (d.reference_element_derivation x))
 reference_element_named (reference_element.Value e) full = expr_named e full.0 full.1
 reference_element_named (reference_element.While e i a) full = both (expr_named e full.0 full.1) (skip (expr_named a full.2.1.0 full.2.1.1))
 
@@ -148,16 +148,16 @@ reference_elements_named [] full = none
 reference_elements_named (x ∷ xs) full =
     both (reference_element_named x full.1) (each_row g.NextReferenceElement d.next_reference_element t.reference_element_syntax in_element xs (λ x full. reference_element_named x full.1) full.2)
 
-timing_named : (x : Option Timing) → Full (d.timing_shown x) → Puts (in_schedule (t.schedule_syntax x)) (leaves (d.timing_shown x))
+timing_named : (x : Option Timing) → Full (d.timing_derivation x) → Puts (in_schedule (t.schedule_syntax x)) (leaves (d.timing_derivation x))
 timing_named None full = none
-timing_named (Some (timing.At i e p)) full = skip (both (expr_named e full.1.0 full.1.1) (puts_none (d.prior_shown p)))
-timing_named (Some (timing.Delay i e p)) full = skip (both (expr_named e full.1.0 full.1.1) (puts_none (d.prior_shown p)))
+timing_named (Some (timing.At i e p)) full = skip (both (expr_named e full.1.0 full.1.1) (puts_none (d.prior_derivation p)))
+timing_named (Some (timing.Delay i e p)) full = skip (both (expr_named e full.1.0 full.1.1) (puts_none (d.prior_derivation p)))
 timing_named (Some (timing.Before i e)) full = skip (expr_named e full.1.0 full.1.1)
 timing_named (Some (timing.After i e)) full = skip (expr_named e full.1.0 full.1.1)
 
-called : (e : Expr) (rest : Forest) {h : List ℕ → List ℕ} → Full (acted (raise 1 (shown e)) rest) → (Full rest → Puts h (leaves rest)) → Puts (λ r. named (syntax_of e) (h r)) (leaves (acted (raise 1 (shown e)) rest))
+called : (e : Expr) (rest : Forest) {h : List ℕ → List ℕ} → Full (acted (raise 1 (derivation_of e)) rest) → (Full rest → Puts h (leaves rest)) → Puts (λ r. named (syntax_of e) (h r)) (leaves (acted (raise 1 (derivation_of e)) rest))
 called e rest full h =
-    let f = raise 1 (shown e) in
+    let f = raise 1 (derivation_of e) in
     let all = acted_full f rest full in
     same_leaves (leaves-acted f rest) (both (operand_named (name_expr e) all.0 all.1) (h all.2))
 
@@ -165,8 +165,8 @@ assigned_named : (e : Expr) (xs : List Assigned) → has_token g.Statement (d.as
     → Puts (λ r. named (syntax_of e) (in_each in_side (map t.right_side_syntax xs) r)) (leaves (d.assigning e xs))
 assigned_named e [] token full = absurd (false≢true token)
 assigned_named e (x ∷ xs) token full =
-    called e (row g.Assigned (map assigned_shown (x ∷ xs)) done) full
-    (λ full. each_row g.Assigned assigned_shown t.right_side_syntax in_side (x ∷ xs) (λ x full. skip (expr_named x.value full.0 full.1)) full)
+    called e (row g.Assigned (map assigned_derivation (x ∷ xs)) done) full
+    (λ full. each_row g.Assigned assigned_derivation t.right_side_syntax in_side (x ∷ xs) (λ x full. skip (expr_named x.value full.0 full.1)) full)
 
 -- Blocks.
 more_statements : (fs : List Forest) (es : List Statement) (end : ℕ) → EachStatement fs es → Full (row g.NextStatement (map next_statement fs) (leaf end k.End done))
@@ -231,8 +231,8 @@ first_procedure x = x.0
 abbrev first_when : WhenPair → When
 first_when x = x.0
 
-arms_named : (xs : List WhenPair) → Full (row g.WhenArm (map when_shown (map first_when xs)) done)
-    → Puts (in_arms (arms (map arm_syntax (map first_when xs)))) (leaves (row g.WhenArm (map when_shown (map first_when xs)) done))
+arms_named : (xs : List WhenPair) → Full (row g.WhenArm (map when_derivation (map first_when xs)) done)
+    → Puts (in_arms (arms (map arm_syntax (map first_when xs)))) (leaves (row g.WhenArm (map when_derivation (map first_when xs)) done))
 arms_named [] full = none
 arms_named (x ∷ xs) full = both (x.1 full.1) (arms_named xs full.2)
 
@@ -241,7 +241,7 @@ stmt_step (Stmt-F.Empty i) token full = none
 stmt_step (Stmt-F.Block b) token full = b.1 full.1
 stmt_step (Stmt-F.PrefixedBlock p b) token full =
     skip
-    (arguments_named (map shown p.arguments.items) (map syntax_of p.arguments.items) (node g.AfterFirstOperand (node g.Compound (block_shown b.0) done) done) (in_block (block_syntax b.0)) (each_expr p.arguments.items) full
+    (arguments_named (map derivation_of p.arguments.items) (map syntax_of p.arguments.items) (node g.AfterFirstOperand (node g.Compound (block_derivation b.0) done) done) (in_block (block_syntax b.0)) (each_expr p.arguments.items) full
     (λ full. b.1 full.1.1))
 stmt_step (Stmt-F.Inner i) token full = skip none
 stmt_step (Stmt-F.Call e) token full = called e done full (λ full. none)
@@ -258,47 +258,47 @@ stmt_step (Stmt-F.InspectWhen i e v (Some b)) token full = skip (both (expr_name
 stmt_step (Stmt-F.Activation i w e o) token full = skip (both (expr_named e full.0 full.1) (timing_named o full.2))
 
 decl_step : induction.DeclStep Says Declares Blocks Classes Procedures Arms
-decl_step (Decl-F.Variables n v) = λ full. puts_none (node g.TypeName (d.type_shown n) (node g.TypedDeclaration (d.variables_shown v.items) done))
-decl_step (Decl-F.Arrays n i v) = λ full. both (puts_none (d.type_shown n)) (skip (segments_named v.items full.2.1))
+decl_step (Decl-F.Variables n v) = λ full. puts_none (node g.TypeName (d.type_derivation n) (node g.TypedDeclaration (d.variables_derivation v.items) done))
+decl_step (Decl-F.Arrays n i v) = λ full. both (puts_none (d.type_derivation n)) (skip (segments_named v.items full.2.1))
 decl_step (Decl-F.Procedure None i p) = λ full. skip (p.1 full.1 None i.0)
-decl_step (Decl-F.Procedure (Some n) i p) = λ full. both (puts_none (d.type_shown n)) (skip (p.1 full.2.1.1 (Some n) i.0))
+decl_step (Decl-F.Procedure (Some n) i p) = λ full. both (puts_none (d.type_derivation n)) (skip (p.1 full.2.1.1 (Some n) i.0))
 decl_step (Decl-F.Class None i c) = λ full. skip (c.1 full.1 None i.0)
 decl_step (Decl-F.Class (Some x) i c) = λ full. c.1 full (Some x) i.0
 
 block_step : induction.BlockStep Says Declares Blocks Classes Procedures Arms
 block_step b full =
     skip
-    (contents_named (map decl_shown (map first_decl b.declarations.items)) (map declaration_syntax (map first_decl b.declarations.items)) (map stmt_shown (map first_stmt b.statements.items))
+    (contents_named (map declaration_derivation (map first_decl b.declarations.items)) (map declaration_syntax (map first_decl b.declarations.items)) (map statement_derivation (map first_stmt b.statements.items))
     (map statement_syntax (map first_stmt b.statements.items)) b.end.0 (induction.each_declaration Says Declares Blocks Classes Procedures Arms b.declarations.items) (induction.each_statement Says Declares Blocks Classes Procedures Arms b.statements.items) full.1)
 
 class_step : induction.ClassStep Says Declares Blocks Classes Procedures Arms
 class_step c full prefix i =
-    let last = node g.Statement (stmt_shown c.body.value.0) (place c.end.0 done) in
-    let middle = d.virtuals_shown c.virtuals.items last in
+    let last = node g.Statement (statement_derivation c.body.value.0) (place c.end.0 done) in
+    let middle = d.virtuals_derivation c.virtuals.items last in
     skip
-    (both (puts_none (d.heading_shown c.parameters.items c.modes.items c.specifications.items))
-    (row_none g.Protection (map d.protection_shown c.protections.items) middle full.2 (λ full. virtuals_none c.virtuals.items last full (λ full. c.body.value.1 full.0 full.1))))
+    (both (puts_none (d.heading_derivation c.parameters.items c.modes.items c.specifications.items))
+    (row_none g.Protection (map d.protection_derivation c.protections.items) middle full.2 (λ full. virtuals_none c.virtuals.items last full (λ full. c.body.value.1 full.0 full.1))))
 
 procedure_step : induction.ProcedureStep Says Declares Blocks Classes Procedures Arms
-procedure_step p full result i = skip (both (puts_none (d.heading_shown p.parameters.items p.modes.items p.specifications.items)) (p.body.value.1 full.2.0 full.2.1))
+procedure_step p full result i = skip (both (puts_none (d.heading_derivation p.parameters.items p.modes.items p.specifications.items)) (p.body.value.1 full.2.0 full.2.1))
 
 when_step : induction.WhenStep Says Declares Blocks Classes Procedures Arms
 when_step w full = skip (skip (skip (w.body.1 full.0 full.1)))
 
-name_block : (b : Block) → Blocks (block_shown b) (block_syntax b)
+name_block : (b : Block) → Blocks (block_derivation b) (block_syntax b)
 name_block = induction.each_block Says Declares Blocks Classes Procedures Arms stmt_step decl_step block_step class_step procedure_step when_step
 
 -- a program
-name_program : (p : ProgramTree) → Full (program_shown p) → Puts (λ r. in_prefix (program_syntax p).prefix (in_block (program_syntax p).block r)) (leaves (program_shown p))
+name_program : (p : ProgramTree) → Full (program_derivation p) → Puts (λ r. in_prefix (program_syntax p).prefix (in_block (program_syntax p).block r)) (leaves (program_derivation p))
 unfolding program_syntax
 name_program p full = go p.prefix full
   where
-    go : (x : Option BlockPrefix) → Full (d.prefixed x (node g.Compound (block_shown p.block) done))
-        → Puts (λ r. in_prefix (option_map t.prefix_syntax x) (in_block (block_syntax p.block) r)) (leaves (d.prefixed x (node g.Compound (block_shown p.block) done)))
+    go : (x : Option BlockPrefix) → Full (d.prefixed x (node g.Compound (block_derivation p.block) done))
+        → Puts (λ r. in_prefix (option_map t.prefix_syntax x) (in_block (block_syntax p.block) r)) (leaves (d.prefixed x (node g.Compound (block_derivation p.block) done)))
     go None full = name_block p.block full.1
     go (Some x) full =
         skip
-        (arguments_named (map shown x.arguments.items) (map syntax_of x.arguments.items) (node g.Compound (block_shown p.block) done) (in_block (block_syntax p.block)) (each_expr x.arguments.items) full
+        (arguments_named (map derivation_of x.arguments.items) (map syntax_of x.arguments.items) (node g.Compound (block_derivation p.block) done) (in_block (block_syntax p.block)) (each_expr x.arguments.items) full
         (λ full. name_block p.block full.1))
 
 -- The tokens of what was read ascend.
@@ -313,9 +313,9 @@ weaker i j (x ∷ xs) le a = (let low = a.0 in omega (arith, le, low), a.1)
 module _ {most : ℕ} {ws : List Token} where
   reads_ascend : {d i j : ℕ} {s : List Symbol} {f : Forest} → Reads most ws d s i f j → (q : List ℕ) → Ascends j q → Ascends i (leaves f q)
   reads_ascend reads-done q a = a
-  reads_ascend (reads-kept {i = i} h r) q a = (let z : i ≤ i = omega arith in z, reads_ascend r q a)
-  reads_ascend (reads-mark {i = i} {f = f} h r) q a = weaker i (i + 1) (leaves f q) (omega arith) (reads_ascend r q a)
-  reads_ascend (reads-any {i = i} {f = f} h r) q a = weaker i (i + 1) (leaves f q) (omega arith) (reads_ascend r q a)
+  reads_ascend (reads-kept {start = i} h r) q a = (let z : i ≤ i = omega arith in z, reads_ascend r q a)
+  reads_ascend (reads-mark {start = i} {f = f} h r) q a = weaker i (i + 1) (leaves f q) (omega arith) (reads_ascend r q a)
+  reads_ascend (reads-any {start = i} {f = f} h r) q a = weaker i (i + 1) (leaves f q) (omega arith) (reads_ascend r q a)
   reads_ascend (reads-none h r) q a = reads_ascend r q a
   reads_ascend (reads-here r) q a = reads_ascend r q a
   reads_ascend (reads-part {g = h} b sh r o) q a = reads_ascend r (leaves h q) (reads_ascend o q a)
@@ -336,7 +336,7 @@ ascending i (x ∷ xs) a = (above x (x + 1) xs (omega arith) a.1, ascending (x +
 
 pub names_ascend : (ws : List Token) (p : ProgramTree) → IsTree ws p → IsAscending (named_tokens (program_syntax p))
 names_ascend ws p tree =
-    let f = node g.Program (program_shown p) done in
+    let f = node g.Program (program_derivation p) done in
     let full = is_full-Full f (reads_full tree.reads) in
     let all = (name_program p full.1).puts [] [] among-none in
     ascending 0 (named_tokens (program_syntax p)) (among_ascend 0 (named_tokens (program_syntax p)) (leaves f []) all (reads_ascend tree.reads [] tt))

@@ -13,8 +13,8 @@ use Rattle.sim_tree.specs.Grammar as g
 use Rattle.sim_tree.specs.Grammar.{Part, is_counted}
 use Rattle.sim_tree.specs.Reading.{Forest, done, leaf, place, node}
 use Rattle.sim_tree.specs.Tree.{is_bare, deepest}
-use Rattle.sim_tree.specs.Shown.{Shown, Item, level_part, raise, whole, nothing, row, item, operated, negated, not_mark, summed, multiplied, selected, argument, arguments, shown, operand_shown}
-use Rattle.sim_tree.specs.ShownProgram.{joined, acted, begun}
+use Rattle.sim_tree.specs.Derivation.{Derivation, Item, level_part, raise, whole, nothing, row, item, operated, negated, not_mark, summed, multiplied, selected, argument, arguments, derivation_of, operand_derivation}
+use Rattle.sim_tree.specs.ProgramDerivation.{joined, acted, begun}
 use Rattle.sim_tree.specs.Nesting.{capped, has_token, is_full, Nests, NestsInside, Largest, largest-none, largest-more}
 use Rattle.sim_tree.proofs.Full.{all_true}
 
@@ -43,7 +43,7 @@ same {f} e h = subst (λ n. Nests f n) e h
 pub along : {f h : Forest} {a : ℕ} → f ≡ h → Nests h a → Nests f a
 along {a = a} e x = subst (λ z. Nests z a) (sym e) x
 
-pub along_inside : {s t : Shown} {a : ℕ} → s ≡ t → NestsInside t a → NestsInside s a
+pub along_inside : {s t : Derivation} {a : ℕ} → s ≡ t → NestsInside t a → NestsInside s a
 along_inside {a = a} e x = subst (λ z. NestsInside z a) (sym e) x
 
 pub nests_done : Nests done 0
@@ -118,7 +118,7 @@ level_plain (suc (suc (suc (suc (suc (suc (suc (suc (suc (suc (suc (suc (suc zer
 level_plain (suc (suc (suc (suc (suc (suc (suc (suc (suc (suc (suc (suc (suc (suc m)))))))))))))) le = absurd (omega (arith, le))
 
 -- what is inside, raised to a level, where that has a token
-raised : (m : ℕ) (s : Shown) (a : ℕ) → m ≤ 14 → NestsInside s a → is_bare (raise m s) ≡ false → is_full (raise m s) ≡ true → a ≡ capped (deepest (raise m s))
+raised : (m : ℕ) (s : Derivation) (a : ℕ) → m ≤ 14 → NestsInside s a → is_bare (raise m s) ≡ false → is_full (raise m s) ≡ true → a ≡ capped (deepest (raise m s))
 unfolding raise
 raised zero s a le h = go (nat_eq s.level 0)
   where
@@ -139,7 +139,7 @@ raised (suc m) s a le h = go (nat_eq s.level (suc m)) (level_plain m (omega (ari
         let deep : deepest (node (level_part m) f done) ≡ max (deepest f) 0 = plain (level_part m) f done w.0 in
         omega (arith, one, deep)
 
-pub nests_level : (m : ℕ) {s : Shown} {a : ℕ} → m < 14 → NestsInside s a → Nests (node (level_part m) (raise m s) done) a
+pub nests_level : (m : ℕ) {s : Derivation} {a : ℕ} → m < 14 → NestsInside s a → Nests (node (level_part m) (raise m s) done) a
 nests_level m {s} {a} le h = record {
   known = λ full.
       let f = raise m s in
@@ -149,7 +149,7 @@ nests_level m {s} {a} le h = record {
       omega (arith, one, deep);
 }
 
-pub nests_argument : {s : Shown} {a : ℕ} → NestsInside s a → Nests (argument s) (capped (a + 1))
+pub nests_argument : {s : Derivation} {a : ℕ} → NestsInside s a → Nests (argument s) (capped (a + 1))
 nests_argument {s} {a} h = record {
   known = λ full.
       let f = whole s in
@@ -158,7 +158,7 @@ nests_argument {s} {a} h = record {
       part.known full;
 }
 
-pub within : {s : Shown} {a : ℕ} → Nests s.inside a → NestsInside s a
+pub within : {s : Derivation} {a : ℕ} → Nests s.inside a → NestsInside s a
 within h = record { known = λ bare full. h.known full }
 
 -- what begins no part
@@ -199,61 +199,61 @@ ends {Fits = Fits} xs i a le so =
 nests_item : (l : ℕ) (w : TokenKind) (i : Item) (a : ℕ) → l < 14 → NestsInside i.operand a → Nests (item l w i) a
 nests_item l w i a le h = nests_leaf (nests_level l le h)
 
-pub in_operated : (l : ℕ) (w : TokenKind) (m : Part) {s : Shown} {items : List Item} {a b : ℕ} → l < 14 → is_counted m ≡ false
+pub in_operated : (l : ℕ) (w : TokenKind) (m : Part) {s : Derivation} {items : List Item} {a b : ℕ} → l < 14 → is_counted m ≡ false
     → NestsInside s a → Largest (λ i. NestsInside i.operand) items b → NestsInside (operated l w m s items) (max a b)
 in_operated l w m {a = a} le e h largest-none = vacant (max a 0)
 in_operated l w m {s} {a = a} {b = b} le e h (largest-more one others) =
     within (followed (nests_level l le h) (same (let z : max b 0 ≡ b = omega arith in z) (rows m e (mapped (item l w) (λ i n x. nests_item l w i n le x) (largest-more one others)) nests_done)))
 
-pub in_negated : (tokens : List TokenNo) {s : Shown} {a : ℕ} → NestsInside s a → NestsInside (negated tokens s) a
+pub in_negated : (tokens : List TokenNo) {s : Derivation} {a : ℕ} → NestsInside s a → NestsInside (negated tokens s) a
 in_negated [] {a = a} h = vacant a
 in_negated (i ∷ is) h = within (flat_row g.NotSign not_mark (i ∷ is) refl (λ x. nests_leaf nests_done) (nests_level 6 (omega arith) h))
 
-pub in_summed : (sign : Option LeadingSign) {s : Shown} {fs : List Forest} {a b : ℕ} → NestsInside s a → Largest Nests fs b → NestsInside (summed sign s fs) (max a b)
+pub in_summed : (sign : Option LeadingSign) {s : Derivation} {fs : List Forest} {a b : ℕ} → NestsInside s a → Largest Nests fs b → NestsInside (summed sign s fs) (max a b)
 in_summed None {a = a} h largest-none = vacant (max a 0)
 in_summed None {b = b} h (largest-more one others) =
     within (followed (nests_level 3 (omega arith) h) (same (let z : max b 0 ≡ b = omega arith in z) (rows g.NextTerm refl (largest-more one others) nests_done)))
 in_summed (Some t) {a = a} {b = b} h fits =
     within (same (let z : max 0 (max a (max b 0)) ≡ max a b = omega arith in z) (nests_node refl (nests_leaf nests_done) (followed (nests_level 3 (omega arith) h) (rows g.NextTerm refl fits nests_done))))
 
-pub in_multiplied : {s : Shown} {fs : List Forest} {a b : ℕ} → NestsInside s a → Largest Nests fs b → NestsInside (multiplied s fs) (max a b)
+pub in_multiplied : {s : Derivation} {fs : List Forest} {a b : ℕ} → NestsInside s a → Largest Nests fs b → NestsInside (multiplied s fs) (max a b)
 in_multiplied {a = a} h largest-none = vacant (max a 0)
 in_multiplied {b = b} h (largest-more one others) =
     within (followed (nests_level 2 (omega arith) h) (same (let z : max b 0 ≡ b = omega arith in z) (rows g.NextFactor refl (largest-more one others) nests_done)))
 
-pub in_selected : {s : Shown} {fs : List Forest} {a b : ℕ} → NestsInside s a → Largest Nests fs b → NestsInside (selected s fs) (max a b)
+pub in_selected : {s : Derivation} {fs : List Forest} {a b : ℕ} → NestsInside s a → Largest Nests fs b → NestsInside (selected s fs) (max a b)
 in_selected {a = a} h largest-none = vacant (max a 0)
 in_selected {b = b} h (largest-more one others) =
     within (followed (nests_level 0 (omega arith) h) (same (let z : max b 0 ≡ b = omega arith in z) (rows g.Selection refl (largest-more one others) nests_done)))
 
-pub in_arguments : {ss : List Shown} {f : Forest} {a b : ℕ} → Largest (λ s. Nests (argument s)) ss a → Nests f b → Nests (arguments ss f) (max a b)
+pub in_arguments : {ss : List Derivation} {f : Forest} {a b : ℕ} → Largest (λ s. Nests (argument s)) ss a → Nests f b → Nests (arguments ss f) (max a b)
 in_arguments {b = b} largest-none h = same (let z : b ≡ max 0 b = omega arith in z) h
 in_arguments {b = b} (largest-more {a = x} {b = y} one others) h =
     same (let z : max (max x (max y 0)) b ≡ max (max x y) b = omega arith in z)
     (nests_node refl (followed one (rows g.NextArgument refl (mapped argument (λ s n w. w) others) nests_done)) h)
 
-pub at_argument : {e h : Expr} {a : ℕ} → e ≡ h → Nests (argument (shown e)) a → Nests (argument (shown h)) a
-at_argument {a = a} is x = subst (λ z. Nests (argument (shown z)) a) is x
+pub at_argument : {e h : Expr} {a : ℕ} → e ≡ h → Nests (argument (derivation_of e)) a → Nests (argument (derivation_of h)) a
+at_argument {a = a} is x = subst (λ z. Nests (argument (derivation_of z)) a) is x
 
-pub at_inside : {e h : Expr} {a : ℕ} → e ≡ h → NestsInside (shown e) a → NestsInside (shown h) a
-at_inside {a = a} is x = subst (λ z. NestsInside (shown z) a) is x
+pub at_inside : {e h : Expr} {a : ℕ} → e ≡ h → NestsInside (derivation_of e) a → NestsInside (derivation_of h) a
+at_inside {a = a} is x = subst (λ z. NestsInside (derivation_of z) a) is x
 
-pub same_inside : {s : Shown} {a b : ℕ} → a ≡ b → NestsInside s a → NestsInside s b
+pub same_inside : {s : Derivation} {a b : ℕ} → a ≡ b → NestsInside s a → NestsInside s b
 same_inside {s} e h = subst (λ n. NestsInside s n) e h
 
 pub at_list : {A : Type 0} {Fits : A → ℕ → Type 0} {xs ys : List A} {a : ℕ} → xs ≡ ys → Largest Fits xs a → Largest Fits ys a
 at_list {Fits = Fits} {a = a} is h = subst (λ z. Largest Fits z a) is h
 
 -- the actual parameters, with nothing behind them
-pub nests_actuals : (xs ys : List Expr) {a : ℕ} → xs ≡ ys → Largest (λ x. Nests (argument (shown x))) xs a → Nests (arguments (map shown ys) done) a
-nests_actuals xs ys {a} is h = same (let z : max a 0 ≡ a = omega arith in z) (in_arguments (mapped shown (λ x n w. w) (at_list is h)) nests_done)
+pub nests_actuals : (xs ys : List Expr) {a : ℕ} → xs ≡ ys → Largest (λ x. Nests (argument (derivation_of x))) xs a → Nests (arguments (map derivation_of ys) done) a
+nests_actuals xs ys {a} is h = same (let z : max a 0 ≡ a = omega arith in z) (in_arguments (mapped derivation_of (λ x n w. w) (at_list is h)) nests_done)
 
 -- an expression of a level that has one operator
 pub answer_operated : (e : Expr) (l : ℕ) (w : TokenKind) (m : Part) (h y : Expr) (os ys : List Operand) (a b r : ℕ) → l < 14 → is_counted m ≡ false
-    → shown e ≡ operated l w m (shown h) (map operand_shown os) → y ≡ h → NestsInside (shown y) a
-    → ys ≡ os → Largest (λ x. NestsInside (operand_shown x).operand) ys b → r ≡ max a b → NestsInside (shown e) r
+    → derivation_of e ≡ operated l w m (derivation_of h) (map operand_derivation os) → y ≡ h → NestsInside (derivation_of y) a
+    → ys ≡ os → Largest (λ x. NestsInside (operand_derivation x).operand) ys b → r ≡ max a b → NestsInside (derivation_of e) r
 answer_operated e l w m h y os ys a b r le plain is same first all rest sum =
-    let there = mapped operand_shown (λ x n z. z) (at_list all rest) in
+    let there = mapped operand_derivation (λ x n z. z) (at_list all rest) in
     same_inside (sym sum) (along_inside is (in_operated l w m le plain (at_inside same first) there))
 
 -- Statements.
@@ -277,8 +277,16 @@ deepest-joined (node n inside f) h =
     let e = deepest-joined f h in
     let z : max x (deepest (joined f h)) ≡ max (max x (deepest f)) (deepest h) = omega (arith, e) in z
 
+-- the statement that a left side or a call begins, where no identifier begins that
+nests_postfix : {e f : Forest} {a b : ℕ} → (is_bare e ≡ false → is_full e ≡ true → a ≡ capped (deepest e)) → Nests f b → Nests (node g.Statement (node g.Postfix e f) done) (capped (max a b + 1))
+nests_postfix {e} {f} {a} {b} known rest =
+    counted refl refl (λ full.
+    let left = known (no_token (is_bare e) (token_of (not (is_bare e)) (is_full e) (is_full f) full)) (inside_of (not (is_bare e)) (is_full e) (is_full f) full) in
+    let right = rest.known (rest_of (not (is_bare e)) (is_full e) (is_full f) full) in
+    omega (arith, left, right))
+
 -- the statement that a left side or a call begins
-pub nests_acted : (s : Shown) {f : Forest} {a b : ℕ} → NestsInside s a → Nests f b → Nests (node g.Statement (acted (raise 1 s) f) done) (capped (max a b + 1))
+pub nests_acted : (s : Derivation) {f : Forest} {a b : ℕ} → NestsInside s a → Nests f b → Nests (node g.Statement (acted (raise 1 s) f) done) (capped (max a b + 1))
 nests_acted s {f} {a} {b} h rest = go (raise 1 s) (λ bare full. raised 1 s a (omega arith) h bare full)
   where
     go : (e : Forest) → (is_bare e ≡ false → is_full e ≡ true → a ≡ capped (deepest e)) → Nests (node g.Statement (acted e f) done) (capped (max a b + 1))
@@ -294,11 +302,7 @@ nests_acted s {f} {a} {b} h rest = go (raise 1 s) (λ bare full. raised 1 s a (o
         let deep : deepest (joined actuals (node g.AfterFirstOperand (joined selected f) done)) ≡ max x (max (deepest (joined selected f)) 0) = deepest-joined actuals (node g.AfterFirstOperand (joined selected f) done) in
         let deep2 = deepest-joined selected f in
         omega (arith, left, right, deep, deep2))
-    go e known =
-        counted refl refl (λ full.
-        let left = known (no_token (is_bare e) (token_of (not (is_bare e)) (is_full e) (is_full f) full)) (inside_of (not (is_bare e)) (is_full e) (is_full f) full) in
-        let right = rest.known (rest_of (not (is_bare e)) (is_full e) (is_full f) full) in
-        omega (arith, left, right))
+    go e known = nests_postfix known rest
 
 -- the first statement of a block
 pub nests_begun : (f : Forest) {h : Forest} {a b : ℕ} → Nests (node g.Statement f done) a → Nests h b → Nests (begun f h) (max a b)

@@ -23,9 +23,9 @@ use Rattle.sim_tree.specs.Tree.{is_bare, IsTree}
 use Rattle.sim_tree.proofs.Induction as induction
 use Rattle.sim_tree.proofs.Full.{reads_full}
 use Rattle.sim_tree.specs.Nesting.{has_token}
-use Rattle.sim_tree.specs.Shown.{Shown, argument, arguments, expression, raise, row, shown, whole}
-use Rattle.sim_tree.specs.ShownProgram as d
-use Rattle.sim_tree.specs.ShownProgram.{Declared, Plain, Prefixed, joined, acted, begun, contents, next_statement, assigned_shown, stmt_shown, decl_shown, block_shown, class_shown, procedure_shown, when_shown, program_shown}
+use Rattle.sim_tree.specs.Derivation.{Derivation, argument, arguments, expression, raise, row, derivation_of, whole}
+use Rattle.sim_tree.specs.ProgramDerivation as d
+use Rattle.sim_tree.specs.ProgramDerivation.{Declared, Plain, Prefixed, joined, acted, begun, contents, next_statement, assigned_derivation, statement_derivation, declaration_derivation, block_derivation, class_derivation, procedure_derivation, when_derivation, program_derivation}
 use Rattle.sim_tree.specs.Syntax.{Statement, Declaration, statements, declarations}
 use Rattle.sim_tree.specs.Syntax.{Block as BlockSyntax}
 use Rattle.sim_tree.specs.SyntaxOf.{syntax_of}
@@ -99,12 +99,12 @@ row_none : (n : g.Part) (fs : List Forest) (f : Forest) {h : List Spot → List 
 row_none n [] f full rest = rest full
 row_none n (x ∷ xs) f full rest = both (lays_none x) (row_none n xs f full.2 rest)
 
-virtuals_none : (vs : List VirtualSpecification) (f : Forest) {h : List Spot → List Spot} → Full (d.virtuals_shown vs f) → (Full f → Lays h (spots f)) → Lays h (spots (d.virtuals_shown vs f))
+virtuals_none : (vs : List VirtualSpecification) (f : Forest) {h : List Spot → List Spot} → Full (d.virtuals_derivation vs f) → (Full f → Lays h (spots f)) → Lays h (spots (d.virtuals_derivation vs f))
 virtuals_none [] f full rest = rest full
-virtuals_none (v ∷ vs) f full rest = both (lays_none (row g.VirtualSpecification (map d.virtual_shown (v ∷ vs)) done)) (rest full.2)
+virtuals_none (v ∷ vs) f full rest = both (lays_none (row g.VirtualSpecification (map d.virtual_derivation (v ∷ vs)) done)) (rest full.2)
 
 -- nothing is kept of actual parameters
-behind_arguments : (xs : List Shown) (f : Forest) {h : List Spot → List Spot} → Full (arguments xs f) → (Full f → Lays h (spots f)) → Lays h (spots (arguments xs f))
+behind_arguments : (xs : List Derivation) (f : Forest) {h : List Spot → List Spot} → Full (arguments xs f) → (Full f → Lays h (spots f)) → Lays h (spots (arguments xs f))
 behind_arguments [] f full rest = rest full
 behind_arguments (x ∷ xs) f full rest = both (lays_none (node g.Expression (whole x) (row g.NextArgument (map argument xs) done))) (rest full.2)
 
@@ -118,7 +118,7 @@ each_row : {A B : Type 0} (n : g.Part) (f : A → Forest) (t : A → B) (i : B �
 each_row n f t i [] one full = none
 each_row n f t i (x ∷ xs) one full = both (one x full.1) (each_row n f t i xs one full.2)
 
-bounds_named : (b : Bounds) → Full (d.bounds_shown b) → Lays (in_bounds (t.bound_pair_syntax b)) (spots (d.bounds_shown b))
+bounds_named : (b : Bounds) → Full (d.bounds_derivation b) → Lays (in_bounds (t.bound_pair_syntax b)) (spots (d.bounds_derivation b))
 bounds_named b full = both (expr_named b.lower full.0 full.1) (expr_named b.upper full.2.0 full.2.1)
 
 dimensions_named : (bs : List Bounds) → Full (d.dimensions bs) → Lays (in_each in_bounds (map t.bound_pair_syntax bs)) (spots (d.dimensions bs))
@@ -133,35 +133,35 @@ ids_named : (xs : List Identifier) → Lays (in_each in_name xs) (spots (d.ids x
 ids_named [] = none
 ids_named (x ∷ xs) = keep (more_ids xs)
 
-variable_named : (x : Variable) → Lays (in_variable x) (spots (d.variable_shown x))
-variable_named x = keep (lays_none (d.value_shown x.value))
+variable_named : (x : Variable) → Lays (in_variable x) (spots (d.variable_derivation x))
+variable_named x = keep (lays_none (d.value_derivation x.value))
 
 more_variables : (xs : List Variable) → Lays (in_each in_variable xs) (spots (row g.NextVariable (map d.next_variable xs) done))
 more_variables [] = none
 more_variables (x ∷ xs) = both (variable_named x) (more_variables xs)
 
-variables_named : (xs : List Variable) → Lays (in_each in_variable xs) (spots (d.variables_shown xs))
+variables_named : (xs : List Variable) → Lays (in_each in_variable xs) (spots (d.variables_derivation xs))
 variables_named [] = none
 variables_named (x ∷ xs) = both (variable_named x) (more_variables xs)
 
-behind_ids : (ps : List Identifier) (ms : List ModePart) (ss : List Specification) → Lays (in_each in_name ps) (spots (node g.Identifiers (d.ids ps) (row g.Mode (map d.mode_shown ms) (row g.Specification (map d.specification_shown ss) done))))
-behind_ids ps ms ss = both (ids_named ps) (lays_none (row g.Mode (map d.mode_shown ms) (row g.Specification (map d.specification_shown ss) done)))
+behind_ids : (ps : List Identifier) (ms : List ModePart) (ss : List Specification) → Lays (in_each in_name ps) (spots (node g.Identifiers (d.ids ps) (row g.Mode (map d.mode_derivation ms) (row g.Specification (map d.specification_derivation ss) done))))
+behind_ids ps ms ss = both (ids_named ps) (lays_none (row g.Mode (map d.mode_derivation ms) (row g.Specification (map d.specification_derivation ss) done)))
 
 -- the parameters of a heading
-heading_named : (ps : List Identifier) (ms : List ModePart) (ss : List Specification) → Lays (in_each in_name ps) (spots (d.heading_shown ps ms ss))
+heading_named : (ps : List Identifier) (ms : List ModePart) (ss : List Specification) → Lays (in_each in_name ps) (spots (d.heading_derivation ps ms ss))
 heading_named [] [] [] = none
 heading_named [] [] (x ∷ ss) = behind_ids [] [] (x ∷ ss)
 heading_named [] (m ∷ ms) ss = behind_ids [] (m ∷ ms) ss
 heading_named (p ∷ ps) ms ss = behind_ids (p ∷ ps) ms ss
 
-segment_named : (x : ArraySegment) → Full (d.segment_shown x) → Lays (in_segment (t.segment_syntax x)) (spots (d.segment_shown x))
+segment_named : (x : ArraySegment) → Full (d.segment_derivation x) → Lays (in_segment (t.segment_syntax x)) (spots (d.segment_derivation x))
 segment_named x full = both (ids_named x.names.items) (dimensions_named x.bounds.items full.2)
 
-segments_named : (xs : List ArraySegment) → Full (d.segments_shown xs) → Lays (in_each in_segment (map t.segment_syntax xs)) (spots (d.segments_shown xs))
+segments_named : (xs : List ArraySegment) → Full (d.segments_derivation xs) → Lays (in_each in_segment (map t.segment_syntax xs)) (spots (d.segments_derivation xs))
 segments_named [] full = none
 segments_named (x ∷ xs) full = both (segment_named x full.1) (each_row g.NextArraySegment d.next_segment t.segment_syntax in_segment xs (λ x full. segment_named x full.1) full.2)
 
-element_named : (x : ForElement) → Full (d.for_element_shown x) → Lays (in_element (t.element_syntax x)) (spots (d.for_element_shown x))
+element_named : (x : ForElement) → Full (d.for_element_derivation x) → Lays (in_element (t.element_syntax x)) (spots (d.for_element_derivation x))
 element_named (for_element.Value e) full = expr_named e full.0 full.1
 element_named (for_element.Step e i a b) full = both (expr_named e full.0 full.1) (skip (both (expr_named a full.2.1.0 full.2.1.1) (expr_named b full.2.1.2.0 full.2.1.2.1)))
 element_named (for_element.While e i a) full = both (expr_named e full.0 full.1) (skip (expr_named a full.2.1.0 full.2.1.1))
@@ -170,7 +170,7 @@ elements_named : (xs : List ForElement) → Full (d.for_elements xs) → Lays (i
 elements_named [] full = none
 elements_named (x ∷ xs) full = both (element_named x full.1) (each_row g.NextForElement d.next_for_element t.element_syntax in_element xs (λ x full. element_named x full.1) full.2)
 
-reference_element_named : (x : ReferenceElement) → Full (d.reference_element_shown x) → Lays (in_element (t.reference_element_syntax x)) (spots (d.reference_element_shown x))
+reference_element_named : (x : ReferenceElement) → Full (d.reference_element_derivation x) → Lays (in_element (t.reference_element_syntax x)) (spots (d.reference_element_derivation x))
 reference_element_named (reference_element.Value e) full = expr_named e full.0 full.1
 reference_element_named (reference_element.While e i a) full = both (expr_named e full.0 full.1) (skip (expr_named a full.2.1.0 full.2.1.1))
 
@@ -179,9 +179,9 @@ reference_elements_named [] full = none
 reference_elements_named (x ∷ xs) full =
     both (reference_element_named x full.1) (each_row g.NextReferenceElement d.next_reference_element t.reference_element_syntax in_element xs (λ x full. reference_element_named x full.1) full.2)
 
-called : (e : Expr) (rest : Forest) {h : List Spot → List Spot} → Full (acted (raise 1 (shown e)) rest) → (Full rest → Lays h (spots rest)) → Lays (λ r. in_expression (syntax_of e) (h r)) (spots (acted (raise 1 (shown e)) rest))
+called : (e : Expr) (rest : Forest) {h : List Spot → List Spot} → Full (acted (raise 1 (derivation_of e)) rest) → (Full rest → Lays h (spots rest)) → Lays (λ r. in_expression (syntax_of e) (h r)) (spots (acted (raise 1 (derivation_of e)) rest))
 called e rest full h =
-    let f = raise 1 (shown e) in
+    let f = raise 1 (derivation_of e) in
     let all = acted_full f rest full in
     same_spots (spots-acted f rest) (both (expression_lays (syntax_of e) f (operand_named (name_expr e) all.0 all.1)) (h all.2))
 
@@ -189,8 +189,8 @@ assigned_named : (e : Expr) (xs : List Assigned) → has_token g.Statement (d.as
     → Lays (λ r. in_expression (syntax_of e) (in_each in_side (map t.right_side_syntax xs) r)) (spots (d.assigning e xs))
 assigned_named e [] token full = absurd (false≢true token)
 assigned_named e (x ∷ xs) token full =
-    called e (row g.Assigned (map assigned_shown (x ∷ xs)) done) full
-    (λ full. each_row g.Assigned assigned_shown t.right_side_syntax in_side (x ∷ xs) (λ x full. skip (expr_named x.value full.0 full.1)) full)
+    called e (row g.Assigned (map assigned_derivation (x ∷ xs)) done) full
+    (λ full. each_row g.Assigned assigned_derivation t.right_side_syntax in_side (x ∷ xs) (λ x full. skip (expr_named x.value full.0 full.1)) full)
 
 -- Blocks.
 more_statements : (fs : List Forest) (es : List Statement) (end : ℕ) → EachStatement fs es → Full (row g.NextStatement (map next_statement fs) (leaf end k.End done))
@@ -258,7 +258,7 @@ first_when x = x.0
 stmt_step : induction.StmtStep Says Declares Blocks Classes Procedures Arms
 stmt_step (Stmt-F.Empty i) token full = skip none
 stmt_step (Stmt-F.Block b) token full = b.1 full.1
-stmt_step (Stmt-F.PrefixedBlock p b) token full = skip (behind_arguments (map shown p.arguments.items) (node g.AfterFirstOperand (node g.Compound (block_shown b.0) done) done) full (λ full. b.1 full.1.1))
+stmt_step (Stmt-F.PrefixedBlock p b) token full = skip (behind_arguments (map derivation_of p.arguments.items) (node g.AfterFirstOperand (node g.Compound (block_derivation b.0) done) done) full (λ full. b.1 full.1.1))
 stmt_step (Stmt-F.Inner i) token full = skip none
 stmt_step (Stmt-F.Call e) token full = called e done full (λ full. none)
 stmt_step (Stmt-F.Assignment e v) token full = assigned_named e v.items token full
@@ -269,31 +269,31 @@ stmt_step (Stmt-F.For i x n v a) token full = skip (keep (skip (both (elements_n
 stmt_step (Stmt-F.ForReference i x n v a) token full = skip (keep (skip (both (reference_elements_named v.items full.1) (a.value.1 full.2.0 full.2.1))))
 stmt_step (Stmt-F.Inspect i e n a m None) token full = skip (both (lays_none (expression e)) (skip (both (a.value.1 full.2.1.0 full.2.1.1) (skip none))))
 stmt_step (Stmt-F.Inspect i e n a m (Some b)) token full = skip (both (lays_none (expression e)) (skip (both (a.value.1 full.2.1.0 full.2.1.1) (skip (b.value.1 full.2.2.1.0 full.2.2.1.1)))))
-stmt_step (Stmt-F.InspectWhen i e v None) token full = skip (both (lays_none (expression e)) (lays_none (row g.WhenArm (map when_shown (map first_when v.items)) done)))
-stmt_step (Stmt-F.InspectWhen i e v (Some b)) token full = skip (both (lays_none (expression e)) (both (lays_none (row g.WhenArm (map when_shown (map first_when v.items)) done)) (b.value.1 full.2.2.1.0 full.2.2.1.1)))
-stmt_step (Stmt-F.Activation i w e o) token full = skip (both (lays_none (expression e)) (lays_none (d.timing_shown o)))
+stmt_step (Stmt-F.InspectWhen i e v None) token full = skip (both (lays_none (expression e)) (lays_none (row g.WhenArm (map when_derivation (map first_when v.items)) done)))
+stmt_step (Stmt-F.InspectWhen i e v (Some b)) token full = skip (both (lays_none (expression e)) (both (lays_none (row g.WhenArm (map when_derivation (map first_when v.items)) done)) (b.value.1 full.2.2.1.0 full.2.2.1.1)))
+stmt_step (Stmt-F.Activation i w e o) token full = skip (both (lays_none (expression e)) (lays_none (d.timing_derivation o)))
 
 decl_step : induction.DeclStep Says Declares Blocks Classes Procedures Arms
-decl_step (Decl-F.Variables n v) = λ full. both (lays_none (d.type_shown n)) (variables_named v.items)
-decl_step (Decl-F.Arrays n i v) = λ full. both (lays_none (d.type_shown n)) (skip (segments_named v.items full.2.1))
+decl_step (Decl-F.Variables n v) = λ full. both (lays_none (d.type_derivation n)) (variables_named v.items)
+decl_step (Decl-F.Arrays n i v) = λ full. both (lays_none (d.type_derivation n)) (skip (segments_named v.items full.2.1))
 decl_step (Decl-F.Procedure None i p) = λ full. skip (p.1 full.1 None i.0)
-decl_step (Decl-F.Procedure (Some n) i p) = λ full. both (lays_none (d.type_shown n)) (skip (p.1 full.2.1.1 (Some n) i.0))
+decl_step (Decl-F.Procedure (Some n) i p) = λ full. both (lays_none (d.type_derivation n)) (skip (p.1 full.2.1.1 (Some n) i.0))
 decl_step (Decl-F.Class None i c) = λ full. skip (c.1 full.1 None i.0)
 decl_step (Decl-F.Class (Some x) i c) = λ full. c.1 full (Some x) i.0
 
 block_step : induction.BlockStep Says Declares Blocks Classes Procedures Arms
 block_step b full =
     keep
-    (contents_named (map decl_shown (map first_decl b.declarations.items)) (map declaration_syntax (map first_decl b.declarations.items)) (map stmt_shown (map first_stmt b.statements.items))
+    (contents_named (map declaration_derivation (map first_decl b.declarations.items)) (map declaration_syntax (map first_decl b.declarations.items)) (map statement_derivation (map first_stmt b.statements.items))
     (map statement_syntax (map first_stmt b.statements.items)) b.end.0 (induction.each_declaration Says Declares Blocks Classes Procedures Arms b.declarations.items) (induction.each_statement Says Declares Blocks Classes Procedures Arms b.statements.items) full.1)
 
 class_step : induction.ClassStep Says Declares Blocks Classes Procedures Arms
 class_step c full prefix i =
-    let last = node g.Statement (stmt_shown c.body.value.0) (place c.end.0 done) in
-    let middle = d.virtuals_shown c.virtuals.items last in
+    let last = node g.Statement (statement_derivation c.body.value.0) (place c.end.0 done) in
+    let middle = d.virtuals_derivation c.virtuals.items last in
     keep
     (both (heading_named c.parameters.items c.modes.items c.specifications.items)
-    (row_none g.Protection (map d.protection_shown c.protections.items) middle full.2 (λ full. virtuals_none c.virtuals.items last full (λ full. both (c.body.value.1 full.0 full.1) (keep none)))))
+    (row_none g.Protection (map d.protection_derivation c.protections.items) middle full.2 (λ full. virtuals_none c.virtuals.items last full (λ full. both (c.body.value.1 full.0 full.1) (keep none)))))
 
 procedure_step : induction.ProcedureStep Says Declares Blocks Classes Procedures Arms
 procedure_step p full result i = keep (both (heading_named p.parameters.items p.modes.items p.specifications.items) (both (p.body.value.1 full.2.0 full.2.1) (keep none)))
@@ -301,26 +301,26 @@ procedure_step p full result i = keep (both (heading_named p.parameters.items p.
 when_step : induction.WhenStep Says Declares Blocks Classes Procedures Arms
 when_step w full = skip (skip (skip (both (w.body.1 full.0 full.1) (skip none))))
 
-name_block : (b : Block) → Blocks (block_shown b) (block_syntax b)
+name_block : (b : Block) → Blocks (block_derivation b) (block_syntax b)
 name_block = induction.each_block Says Declares Blocks Classes Procedures Arms stmt_step decl_step block_step class_step procedure_step when_step
 
 -- a program
-name_program : (p : ProgramTree) → Full (program_shown p) → Lays (in_block (program_syntax p).block) (spots (program_shown p))
+name_program : (p : ProgramTree) → Full (program_derivation p) → Lays (in_block (program_syntax p).block) (spots (program_derivation p))
 unfolding program_syntax
 name_program p full = go p.prefix full
   where
-    go : (x : Option BlockPrefix) → Full (d.prefixed x (node g.Compound (block_shown p.block) done)) → Lays (in_block (block_syntax p.block)) (spots (d.prefixed x (node g.Compound (block_shown p.block) done)))
+    go : (x : Option BlockPrefix) → Full (d.prefixed x (node g.Compound (block_derivation p.block) done)) → Lays (in_block (block_syntax p.block)) (spots (d.prefixed x (node g.Compound (block_derivation p.block) done)))
     go None full = name_block p.block full.1
-    go (Some x) full = skip (behind_arguments (map shown x.arguments.items) (node g.Compound (block_shown p.block) done) full (λ full. name_block p.block full.1))
+    go (Some x) full = skip (behind_arguments (map derivation_of x.arguments.items) (node g.Compound (block_derivation p.block) done) full (λ full. name_block p.block full.1))
 
 pub in_text : (ws : List Token) (p : ProgramTree) → IsTree ws p → AllBelow (length ws) (in_block (program_syntax p).block [])
 in_text ws p tree =
-    let f = node g.Program (program_shown p) done in
+    let f = node g.Program (program_derivation p) done in
     let full = is_full-Full f (reads_full tree.reads) in
     kept_below (length ws) (in_block (program_syntax p).block []) (spots f []) ((name_program p full.1).lays [] [] kept-none) (reads_below tree.reads (length ws) (omega arith) [] tt)
 
 pub in_order : (ws : List Token) (p : ProgramTree) → IsTree ws p → InOrder (program_syntax p)
 in_order ws p tree =
-    let f = node g.Program (program_shown p) done in
+    let f = node g.Program (program_derivation p) done in
     let full = is_full-Full f (reads_full tree.reads) in
     kept_ascend 0 (in_block (program_syntax p).block []) (spots f []) ((name_program p full.1).lays [] [] kept-none) (reads_ascend tree.reads [] tt)

@@ -102,31 +102,31 @@ module _ {us : List Token} where
   pieces reads-done [] b e = whole {limit = 0} {d = 0} b reads-done e
   pieces reads-done (x ∷ a) b e = absurd (not_empty e)
   pieces (reads-kept h r) [] b e = whole b (reads-kept h r) e
-  pieces (reads-kept {i = i} h r) (x ∷ a) b e =
+  pieces (reads-kept {start = i} h r) (x ∷ a) b e =
       let p = pieces r a b (tails e) in
       record { middle = p.middle; first = subst (λ z. FreeTo us (z ∷ a) i p.middle) (heads e) (_, free-kept h p.first.1); second = p.second }
   pieces (reads-mark h r) [] b e = whole b (reads-mark h r) e
-  pieces (reads-mark {i = i} h r) (x ∷ a) b e =
+  pieces (reads-mark {start = i} h r) (x ∷ a) b e =
       let p = pieces r a b (tails e) in
       record { middle = p.middle; first = (p.first.0, subst (λ z. Free us (z ∷ a) i p.first.0 p.middle) (heads e) (free-mark h p.first.1)); second = p.second }
   pieces (reads-any h r) [] b e = whole b (reads-any h r) e
-  pieces (reads-any {i = i} {a = w} h r) (x ∷ a) b e =
+  pieces (reads-any {start = i} {a = w} h r) (x ∷ a) b e =
       let p = pieces r (Any w ∷ a) b (ap (λ z. Any w ∷ z) (tails e)) in
       record { middle = p.middle; first = (p.first.0, subst (λ z. Free us (z ∷ a) i p.first.0 p.middle) (heads e) (free-any h p.first.1)); second = p.second }
   pieces (reads-none h r) [] b e = whole b (reads-none h r) e
-  pieces (reads-none {i = i} h r) (x ∷ a) b e =
+  pieces (reads-none {start = i} h r) (x ∷ a) b e =
       let p = pieces r a b (tails e) in
       record { middle = p.middle; first = (p.first.0, subst (λ z. Free us (z ∷ a) i p.first.0 p.middle) (heads e) (free-none h p.first.1)); second = p.second }
   pieces (reads-here r) [] b e = whole b (reads-here r) e
-  pieces (reads-here {i = i} r) (x ∷ a) b e =
+  pieces (reads-here {start = i} r) (x ∷ a) b e =
       let p = pieces r a b (tails e) in
       record { middle = p.middle; first = (place i p.first.0, subst (λ z. Free us (z ∷ a) i (place i p.first.0) p.middle) (heads e) (free-here p.first.1)); second = p.second }
   pieces (reads-part c sh r q) [] b e = whole b (reads-part c sh r q) e
-  pieces (reads-part {i = i} {t = t} {n = n} {s = s} {f = f} c sh r q) (x ∷ a) b e =
+  pieces (reads-part {start = i} {t = t} {n = n} {s = s} {f = f} c sh r q) (x ∷ a) b e =
       let p = pieces q (after t n a) b (ap (after t n) (tails e) ∙ after-append t n a b) in
       record { middle = p.middle; first = (node n f p.first.0, subst (λ z. Free us (z ∷ a) i (node n f p.first.0) p.middle) (heads e) (free-part c (free_reading r) p.first.1)); second = p.second }
   pieces (reads-skip c may r) [] b e = whole b (reads-skip c may r) e
-  pieces (reads-skip {i = i} c may r) (x ∷ a) b e =
+  pieces (reads-skip {start = i} c may r) (x ∷ a) b e =
       let p = pieces r a b (tails e) in
       record { middle = p.middle; first = (p.first.0, subst (λ z. Free us (z ∷ a) i p.first.0 p.middle) (heads e) (free-skip c may p.first.1)); second = p.second }
 
@@ -178,13 +178,13 @@ module _ (limit : ℕ) (ws : List Token) where
   after_reading (reads-kept h r) = let l = after_reading r in (l.0, p-kept h (omega (arith, reads_ahead limit ws r)) l.1)
   after_reading (reads-mark h r) = let l = after_reading r in (l.0, p-mark h (omega (arith, reads_ahead limit ws r)) l.1)
   after_reading (reads-any h r) = let l = after_reading r in (l.0, p-any h (omega (arith, reads_ahead limit ws r)) l.1)
-  after_reading (reads-none {i = i} {j = k} {a = a} {s = s} h r) =
+  after_reading (reads-none {start = i} {end = k} {a = a} {s = s} h r) =
       let l = after_reading r in
       at_or_below i k (Left ws (Any a ∷ s) i k) (reads_ahead limit ws r) (λ e. nothing i k e) (λ lt. (l.0, p-none h lt l.1))
-  after_reading (reads-here {i = i} {j = k} {s = s} r) =
+  after_reading (reads-here {start = i} {end = k} {s = s} r) =
       let l = after_reading r in
       at_or_below i k (Left ws (Here ∷ s) i k) (reads_ahead limit ws r) (λ e. nothing i k e) (λ lt. (l.0, p-here lt l.1))
-  after_reading (reads-part {d = d} {i = i} {m = m} {j = k} {t = t} {n = n} {right = right} {s = s} {f = f} b sh r q) =
+  after_reading (reads-part {depth = d} {start = i} {m = m} {end = k} {t = t} {n = n} {right = right} {s = s} {f = f} b sh r q) =
       let a = reads_ahead limit ws r in
       let c = reads_ahead limit ws q in
       let inner = after_reading r in
@@ -193,7 +193,7 @@ module _ (limit : ℕ) (ws : List Token) where
       at_or_below m k (Left ws (Of t n ∷ s) i k) c
       (λ e. let l = subst (λ x. Left ws right i x) e inner in (l.0 ++ after t n s, p-inside b lt l.1 refl))
       (λ below. (outer.0, p-after b a below (free_reading r) outer.1)))
-  after_reading (reads-skip {i = i} {j = k} {t = t} {n = n} {s = s} b may r) =
+  after_reading (reads-skip {start = i} {end = k} {t = t} {n = n} {s = s} b may r) =
       let l = after_reading r in
       at_or_below i k (Left ws (Of t n ∷ s) i k) (reads_ahead limit ws r) (λ e. nothing i k e) (λ lt. (l.0, p-skip b may lt l.1))
 
@@ -205,11 +205,11 @@ module _ (limit : ℕ) (ws : List Token) where
       go false = omega arith
 
   pub before_fault : {d i : ℕ} {s : List Symbol} {e : Fault} → Fails limit ws d s i e → Seen ws s i e
-  before_fault (fails-kept {i = i} h) = record { at = i; behind = omega arith; ahead = omega arith; left = (_, p-nothing) }
-  before_fault (fails-mark {i = i} h) = record { at = i; behind = omega arith; ahead = omega arith; left = (_, p-nothing) }
-  before_fault (fails-part {i = i} b may) = record { at = i; behind = omega arith; ahead = omega arith; left = (_, p-nothing) }
-  before_fault (fails-deep {i = i} {n = n} b deep) = record { at = i; behind = first_before n i; ahead = omega arith; left = (_, p-nothing) }
-  before_fault (fails-inside {i = i} {e = e} {t = t} {n = n} {s = s} b sh r) =
+  before_fault (fails-kept {start = i} h) = record { at = i; behind = omega arith; ahead = omega arith; left = (_, p-nothing) }
+  before_fault (fails-mark {start = i} h) = record { at = i; behind = omega arith; ahead = omega arith; left = (_, p-nothing) }
+  before_fault (fails-part {start = i} b may) = record { at = i; behind = omega arith; ahead = omega arith; left = (_, p-nothing) }
+  before_fault (fails-deep {start = i} {n = n} b deep) = record { at = i; behind = first_before n i; ahead = omega arith; left = (_, p-nothing) }
+  before_fault (fails-inside {start = i} {e = e} {t = t} {n = n} {s = s} b sh r) =
       let p = before_fault r in
       let l = p.left in
       record {
@@ -221,7 +221,7 @@ module _ (limit : ℕ) (ws : List Token) where
   before_fault (after-kept h r) = let p = before_fault r in record { at = p.at; behind = p.behind; ahead = omega (arith, p.ahead); left = (p.left.0, p-kept h (omega (arith, p.ahead)) p.left.1) }
   before_fault (after-mark h r) = let p = before_fault r in record { at = p.at; behind = p.behind; ahead = omega (arith, p.ahead); left = (p.left.0, p-mark h (omega (arith, p.ahead)) p.left.1) }
   before_fault (after-any h r) = let p = before_fault r in record { at = p.at; behind = p.behind; ahead = omega (arith, p.ahead); left = (p.left.0, p-any h (omega (arith, p.ahead)) p.left.1) }
-  before_fault (after-none {i = i} {a = a} {s = s} h r) =
+  before_fault (after-none {start = i} {a = a} {s = s} h r) =
       let p = before_fault r in
       record {
         at = p.at;
@@ -229,7 +229,7 @@ module _ (limit : ℕ) (ws : List Token) where
         ahead = p.ahead;
         left = at_or_below i p.at (Left ws (Any a ∷ s) i p.at) p.ahead (λ x. nothing i p.at x) (λ lt. (p.left.0, p-none h lt p.left.1));
       }
-  before_fault (after-here {i = i} {s = s} r) =
+  before_fault (after-here {start = i} {s = s} r) =
       let p = before_fault r in
       record {
         at = p.at;
@@ -237,7 +237,7 @@ module _ (limit : ℕ) (ws : List Token) where
         ahead = p.ahead;
         left = at_or_below i p.at (Left ws (Here ∷ s) i p.at) p.ahead (λ x. nothing i p.at x) (λ lt. (p.left.0, p-here lt p.left.1));
       }
-  before_fault (after-part {d = d} {i = i} {m = m} {e = e} {t = t} {n = n} {right = right} {s = s} {f = f} b sh r q) =
+  before_fault (after-part {depth = d} {start = i} {m = m} {e = e} {t = t} {n = n} {right = right} {s = s} {f = f} b sh r q) =
       let p = before_fault q in
       let a = reads_ahead limit ws r in
       let inner = after_reading r in
@@ -250,7 +250,7 @@ module _ (limit : ℕ) (ws : List Token) where
             (λ x. let l = subst (λ y. Left ws right i y) x inner in (l.0 ++ after t n s, p-inside b lt l.1 refl))
             (λ below. (p.left.0, p-after b a below (free_reading r) p.left.1)));
       }
-  before_fault (after-skip {i = i} {e = e} {t = t} {n = n} {s = s} b may r) =
+  before_fault (after-skip {start = i} {e = e} {t = t} {n = n} {s = s} b may r) =
       let p = before_fault r in
       record {
         at = p.at;

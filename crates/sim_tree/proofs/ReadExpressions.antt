@@ -29,8 +29,8 @@ use Rattle.sim_tree.specs.Grammar.{Part}
 use Rattle.sim_tree.specs.Reading.{Forest, done, leaf, place, node}
 use Rattle.sim_tree.specs.Tree.{is_bare}
 use Rattle.sim_tree.specs.Nesting.{has_token, is_full}
-use Rattle.sim_tree.specs.Shown as d
-use Rattle.sim_tree.specs.Shown.{Shown, level_part, raise, whole, row, shown, operand_shown, term_shown, factor_shown, selector_shown, argument, arguments}
+use Rattle.sim_tree.specs.Derivation as d
+use Rattle.sim_tree.specs.Derivation.{Derivation, level_part, raise, whole, row, derivation_of, operand_derivation, term_derivation, factor_derivation, selector_derivation, argument, arguments}
 use Rattle.sim_tree.specs.Syntax as s
 use Rattle.sim_tree.specs.Syntax.{Expression, Expressions, expressions}
 use Rattle.sim_tree.specs.SyntaxOf as t
@@ -56,7 +56,7 @@ is_full-Full (node n inside f) e = (
 )
 
 -- A derivation that is a level's inside reads as an expression. Inside of level 1 there is an operand, and what is taken of it.
-pub record Claim (x : Shown) (e : Expression) : Type 0 where
+pub record Claim (x : Derivation) (e : Expression) : Type 0 where
   pub known : not (is_bare x.inside) ≡ true → Full x.inside → value (items x.inside) ≡ e
   pub calm : x.level ≡ 1 → is_steps (behind (items x.inside)) ≡ true
 
@@ -78,7 +78,7 @@ level_item (suc (suc (suc (suc (suc (suc (suc (suc (suc (suc (suc (suc zero)))))
 level_item (suc (suc (suc (suc (suc (suc (suc (suc (suc (suc (suc (suc (suc zero))))))))))))) le l = refl
 level_item (suc (suc (suc (suc (suc (suc (suc (suc (suc (suc (suc (suc (suc (suc m)))))))))))))) le l = absurd (omega (arith, le))
 
-raised : (m : ℕ) (x : Shown) (e : Expression) → m ≤ 14 → Claim x e → not (is_bare (raise m x)) ≡ true → Full (raise m x) → value (items (raise m x)) ≡ e
+raised : (m : ℕ) (x : Derivation) (e : Expression) → m ≤ 14 → Claim x e → not (is_bare (raise m x)) ≡ true → Full (raise m x) → value (items (raise m x)) ≡ e
 unfolding raise
 raised zero x e le h = go (nat_eq x.level 0)
   where
@@ -99,18 +99,18 @@ raised (suc m) x e le h = go (nat_eq x.level (suc m)) (λ bare full. raised m x 
         ap (λ z. value (z ∷ [])) (level_item m low (items (raise m x)))
         ∙ later (sym ((level_plain m low).1 (raise m x)) ∙ full.0) full.1
 
-pub leveled : (m : ℕ) {x : Shown} {e : Expression} → m < 14 → Claim x e → has_token (level_part m) (raise m x) ≡ true → Full (raise m x) → item_of (level_part m) (items (raise m x)) ≡ Value e
+pub leveled : (m : ℕ) {x : Derivation} {e : Expression} → m < 14 → Claim x e → has_token (level_part m) (raise m x) ≡ true → Full (raise m x) → item_of (level_part m) (items (raise m x)) ≡ Value e
 leveled m {x} {e} le h token full =
     level_item m le (items (raise m x)) ∙ ap Value (raised m x e (omega (arith, le)) h (sym ((level_plain m le).1 (raise m x)) ∙ token) full)
 
-pub valued : {x : Shown} {e : Expression} → Claim x e → not (is_bare (whole x)) ≡ true → Full (whole x) → value (items (whole x)) ≡ e
+pub valued : {x : Derivation} {e : Expression} → Claim x e → not (is_bare (whole x)) ≡ true → Full (whole x) → value (items (whole x)) ≡ e
 valued {x} {e} h bare full = raised 14 x e (omega arith) h bare full
 
 -- an operand of the innermost level but one, in front of an assignment or alone
-pub operand_value : {x : Shown} {e : Expression} → Claim x e → not (is_bare (raise 1 x)) ≡ true → Full (raise 1 x) → value (items (raise 1 x)) ≡ e
+pub operand_value : {x : Derivation} {e : Expression} → Claim x e → not (is_bare (raise 1 x)) ≡ true → Full (raise 1 x) → value (items (raise 1 x)) ≡ e
 operand_value {x} {e} h bare full = raised 1 x e (omega arith) h bare full
 
-pub operand_calm : {x : Shown} {e : Expression} → Claim x e → is_steps (behind (items (raise 1 x))) ≡ true
+pub operand_calm : {x : Derivation} {e : Expression} → Claim x e → is_steps (behind (items (raise 1 x))) ≡ true
 unfolding raise
 operand_calm {x} {e} h = go (nat_eq x.level 1) refl
   where
@@ -139,21 +139,21 @@ steps_row n is (f ∷ fs) (x ∷ xs) each full e =
 
 -- the claims of each part of an expression's tree
 abbrev pub ExprClaim : Expr → Type 0
-ExprClaim e = Claim (shown e) (syntax_of e)
+ExprClaim e = Claim (derivation_of e) (syntax_of e)
 
 record OperandClaim (x : Operand) : Type 0 where
   pub operand : Expression
-  pub claim : Claim (operand_shown x).operand operand
-  pub is : (operator : Operator) → operand_syntax x operator ≡ record { operator = operator; token = (operand_shown x).token; operand = operand }
+  pub claim : Claim (operand_derivation x).operand operand
+  pub is : (operator : Operator) → operand_syntax x operator ≡ record { operator = operator; token = (operand_derivation x).token; operand = operand }
 
 abbrev TermClaim : Term → Type 0
-TermClaim x = StepClaim (term_shown x) (term_syntax x)
+TermClaim x = StepClaim (term_derivation x) (term_syntax x)
 
 abbrev FactorClaim : Factor → Type 0
-FactorClaim x = StepClaim (factor_shown x) (factor_syntax x)
+FactorClaim x = StepClaim (factor_derivation x) (factor_syntax x)
 
 abbrev SelectorClaim : Selector → Type 0
-SelectorClaim x = Full (selector_shown x) → (e : Expression) → selecting (items (selector_shown x)) e ≡ selected e (selector_syntax x ∷ [])
+SelectorClaim x = Full (selector_derivation x) → (e : Expression) → selecting (items (selector_derivation x)) e ≡ selected e (selector_syntax x ∷ [])
 
 -- Levels of operators.
 vacant : (e : Expression) → Claim d.nothing e
@@ -163,9 +163,9 @@ abbrev OperandPair : Type 0
 OperandPair = (x : Operand) × OperandClaim x
 
 item_steps : (l : ℕ) (w : TokenKind) (op : Operator) → l < 14 → operator_of w ≡ op → (x : OperandPair)
-    → StepClaim (d.item l w (operand_shown x.0)) (with_operator op (operand_syntax x.0))
+    → StepClaim (d.item l w (operand_derivation x.0)) (with_operator op (operand_syntax x.0))
 item_steps l w op le is x full e =
-    let y = operand_shown x.0 in
+    let y = operand_derivation x.0 in
     let h = x.1 in
     let one = leveled l le h.claim full.0 full.1 in
     ap (λ z. s.Binary (operator_of w) y.token e (value_in (z ∷ []))) one
@@ -173,16 +173,16 @@ item_steps l w op le is x full e =
     ∙ ap (λ (z : Tail). s.Binary z.operator z.token e z.operand) (sym (h.is op))
 
 each_operand : (l : ℕ) (w : TokenKind) (op : Operator) → l < 14 → operator_of w ≡ op → (xs : List OperandPair)
-    → EachStep (map (d.item l w) (map operand_shown (map (λ x. x.0) xs))) (map (with_operator op) (map operand_syntax (map (λ x. x.0) xs)))
+    → EachStep (map (d.item l w) (map operand_derivation (map (λ x. x.0) xs))) (map (with_operator op) (map operand_syntax (map (λ x. x.0) xs)))
 each_operand l w op le is [] = tt
 each_operand l w op le is (x ∷ xs) = (item_steps l w op le is x, each_operand l w op le is xs)
 
 in_operated : (l : ℕ) (w : TokenKind) (op : Operator) (n : Part) → l < 14 → 0 < l → operator_of w ≡ op → ((l : List Item) → item_of n l ≡ Step (operated l))
-    → {x : Shown} {e : Expression} → Claim x e → (xs : List OperandPair)
-    → Claim (d.operated l w n x (map operand_shown (map (λ x. x.0) xs))) (chain e (map (with_operator op) (map operand_syntax (map (λ x. x.0) xs))))
+    → {x : Derivation} {e : Expression} → Claim x e → (xs : List OperandPair)
+    → Claim (d.operated l w n x (map operand_derivation (map (λ x. x.0) xs))) (chain e (map (with_operator op) (map operand_syntax (map (λ x. x.0) xs))))
 in_operated l w op n le low is step {e = e} h [] = vacant e
 in_operated l w op n le low is step {x} {e} h (y ∷ ys) =
-    let fs : List Forest = map (d.item l w) (map operand_shown (map (λ x. x.0) (y ∷ ys))) in
+    let fs : List Forest = map (d.item l w) (map operand_derivation (map (λ x. x.0) (y ∷ ys))) in
     record {
       known = λ bare full.
           ap (λ z. value (z ∷ items (row n fs done))) (leveled l le h full.0 full.1)
@@ -190,11 +190,11 @@ in_operated l w op n le low is step {x} {e} h (y ∷ ys) =
       calm = λ is. absurd (omega (arith, is, low));
     }
 
-each_term : (xs : List ((x : Term) × TermClaim x)) → EachStep (map term_shown (map (λ x. x.0) xs)) (map term_syntax (map (λ x. x.0) xs))
+each_term : (xs : List ((x : Term) × TermClaim x)) → EachStep (map term_derivation (map (λ x. x.0) xs)) (map term_syntax (map (λ x. x.0) xs))
 each_term [] = tt
 each_term (x ∷ xs) = (x.1, each_term xs)
 
-each_factor : (xs : List ((x : Factor) × FactorClaim x)) → EachStep (map factor_shown (map (λ x. x.0) xs)) (map factor_syntax (map (λ x. x.0) xs))
+each_factor : (xs : List ((x : Factor) × FactorClaim x)) → EachStep (map factor_derivation (map (λ x. x.0) xs)) (map factor_syntax (map (λ x. x.0) xs))
 each_factor [] = tt
 each_factor (x ∷ xs) = (x.1, each_factor xs)
 
@@ -202,7 +202,7 @@ sign_read : (x : Sign) → sign_of (d.sign_kind x) ≡ x
 sign_read sign.Plus = refl
 sign_read sign.Minus = refl
 
-in_summed : (sign : Option LeadingSign) (fs : List Forest) (xs : List Tail) → EachStep fs xs → {x : Shown} {e : Expression} → Claim x e
+in_summed : (sign : Option LeadingSign) (fs : List Forest) (xs : List Tail) → EachStep fs xs → {x : Derivation} {e : Expression} → Claim x e
     → Claim (d.summed sign x fs) (chain (t.signed sign e) xs)
 in_summed None [] xs each {e = e} h = vacant (chain e xs)
 in_summed None (f ∷ fs) xs each {e = e} h = record {
@@ -221,7 +221,7 @@ in_summed (Some y) fs xs each {e = e} h = record {
   calm = λ is. absurd (omega (arith, is));
 }
 
-in_multiplied : (fs : List Forest) (xs : List Tail) → EachStep fs xs → {x : Shown} {e : Expression} → Claim x e → Claim (d.multiplied x fs) (chain e xs)
+in_multiplied : (fs : List Forest) (xs : List Tail) → EachStep fs xs → {x : Derivation} {e : Expression} → Claim x e → Claim (d.multiplied x fs) (chain e xs)
 in_multiplied [] xs each {e = e} h = vacant (chain e xs)
 in_multiplied (f ∷ fs) xs each {e = e} h = record {
   known = λ bare full.
@@ -238,11 +238,11 @@ one_selected : (e : Expression) (x : Selection) (xs : List Selection) → select
 one_selected e (Take i name args) xs = refl
 one_selected e (Cast i class) xs = refl
 
-selections_row : (xs : List SelectorPair) → Full (row g.Selection (map selector_shown (map (λ x. x.0) xs)) done) → (e : Expression)
-    → steps e (items (row g.Selection (map selector_shown (map (λ x. x.0) xs)) done)) ≡ selected e (map selector_syntax (map (λ x. x.0) xs))
+selections_row : (xs : List SelectorPair) → Full (row g.Selection (map selector_derivation (map (λ x. x.0) xs)) done) → (e : Expression)
+    → steps e (items (row g.Selection (map selector_derivation (map (λ x. x.0) xs)) done)) ≡ selected e (map selector_syntax (map (λ x. x.0) xs))
 selections_row [] full e = refl
 selections_row (x ∷ xs) full e =
-    ap (λ z. steps z (items (row g.Selection (map selector_shown (map (λ x. x.0) xs)) done))) (x.1 full.1 e)
+    ap (λ z. steps z (items (row g.Selection (map selector_derivation (map (λ x. x.0) xs)) done))) (x.1 full.1 e)
     ∙ selections_row xs full.2 (selected e (selector_syntax x.0 ∷ []))
     ∙ one_selected e (selector_syntax x.0) (map selector_syntax (map (λ x. x.0) xs))
 
@@ -250,14 +250,14 @@ calm_selections : (fs : List Forest) → is_steps (items (row g.Selection fs don
 calm_selections [] = refl
 calm_selections (f ∷ fs) = calm_selections fs
 
-in_selected : (xs : List SelectorPair) → {x : Shown} {e : Expression} → Claim x e
-    → Claim (d.selected x (map selector_shown (map (λ x. x.0) xs))) (selected e (map selector_syntax (map (λ x. x.0) xs)))
+in_selected : (xs : List SelectorPair) → {x : Derivation} {e : Expression} → Claim x e
+    → Claim (d.selected x (map selector_derivation (map (λ x. x.0) xs))) (selected e (map selector_syntax (map (λ x. x.0) xs)))
 in_selected [] {e = e} h = vacant e
 in_selected (y ∷ ys) {e = e} h = record {
   known = λ bare full.
-      ap (λ z. value (z ∷ items (row g.Selection (map selector_shown (map (λ x. x.0) (y ∷ ys))) done))) (leveled 0 (omega arith) h full.0 full.1)
+      ap (λ z. value (z ∷ items (row g.Selection (map selector_derivation (map (λ x. x.0) (y ∷ ys))) done))) (leveled 0 (omega arith) h full.0 full.1)
       ∙ selections_row (y ∷ ys) full.2 e;
-  calm = λ is. calm_selections (map selector_shown (map (λ x. x.0) (y ∷ ys)));
+  calm = λ is. calm_selections (map selector_derivation (map (λ x. x.0) (y ∷ ys)));
 }
 
 -- `not`, any number of times
@@ -270,7 +270,7 @@ full_behind_nots : (is : List TokenNo) (f : Forest) → Full (row g.NotSign (map
 full_behind_nots [] f full = full
 full_behind_nots (i ∷ is) f full = full_behind_nots is f full.2
 
-in_negated : (is : List TokenNo) {x : Shown} {e : Expression} → Claim x e → Claim (d.negated is x) (t.negated is e)
+in_negated : (is : List TokenNo) {x : Derivation} {e : Expression} → Claim x e → Claim (d.negated is x) (t.negated is e)
 in_negated [] {e = e} h = vacant e
 in_negated (i ∷ is) {x} {e} h = record {
   known = λ bare full.
@@ -280,19 +280,19 @@ in_negated (i ∷ is) {x} {e} h = record {
 }
 
 -- Actual parameters.
-abbrev pub Each : List Shown → List Expression → Type 0
+abbrev pub Each : List Derivation → List Expression → Type 0
 Each [] [] = Unit {0}
 Each (x ∷ xs) (e ∷ es) = Claim x e × Each xs es
 Each _ _ = ⊥
 
-pub each_expr : (xs : List ((e : Expr) × ExprClaim e)) → Each (map shown (map (λ x. x.0) xs)) (map syntax_of (map (λ x. x.0) xs))
+pub each_expr : (xs : List ((e : Expr) × ExprClaim e)) → Each (map derivation_of (map (λ x. x.0) xs)) (map syntax_of (map (λ x. x.0) xs))
 each_expr [] = tt
 each_expr (x ∷ xs) = (x.1, each_expr xs)
 
-pub argument_item : {x : Shown} {e : Expression} → Claim x e → not (is_bare (whole x)) ≡ true → Full (whole x) → item_of g.Expression (items (whole x)) ≡ Value e
+pub argument_item : {x : Derivation} {e : Expression} → Claim x e → not (is_bare (whole x)) ≡ true → Full (whole x) → item_of g.Expression (items (whole x)) ≡ Value e
 argument_item h token full = ap Value (valued h token full)
 
-more_arguments : (xs : List Shown) (es : List Expression) → Each xs es → Full (row g.NextArgument (map argument xs) done) → values (items (row g.NextArgument (map argument xs) done)) ≡ expressions es
+more_arguments : (xs : List Derivation) (es : List Expression) → Each xs es → Full (row g.NextArgument (map argument xs) done) → values (items (row g.NextArgument (map argument xs) done)) ≡ expressions es
 more_arguments [] [] each full = refl
 more_arguments [] (e ∷ es) each full = absurd each
 more_arguments (x ∷ xs) [] each full = absurd each
@@ -300,18 +300,18 @@ more_arguments (x ∷ xs) (e ∷ es) each full =
     ap (λ z. s.Then z (values (items (row g.NextArgument (map argument xs) done)))) (valued each.0 full.1.0 full.1.1) ∙ ap (s.Then e) (more_arguments xs es each.1 full.2)
 
 -- what stands behind no actual parameters, or behind an item for them
-pub arguments_items : (x : Shown) (xs : List Shown) (es : List Expression) (rest : Forest) → Each (x ∷ xs) es → Full (arguments (x ∷ xs) rest)
+pub arguments_items : (x : Derivation) (xs : List Derivation) (es : List Expression) (rest : Forest) → Each (x ∷ xs) es → Full (arguments (x ∷ xs) rest)
     → items (arguments (x ∷ xs) rest) ≡ Actuals (expressions es) ∷ items rest
 arguments_items x xs [] rest each full = absurd each
 arguments_items x xs (e ∷ es) rest each full =
     ap (λ z. Actuals z ∷ items rest)
     (ap (λ z. s.Then z (values (items (row g.NextArgument (map argument xs) done)))) (valued each.0 full.1.0 full.1.1) ∙ ap (s.Then e) (more_arguments xs es each.1 full.1.2))
 
-pub full_behind_arguments : (xs : List Shown) (rest : Forest) → Full (arguments xs rest) → Full rest
+pub full_behind_arguments : (xs : List Derivation) (rest : Forest) → Full (arguments xs rest) → Full rest
 full_behind_arguments [] rest full = full
 full_behind_arguments (x ∷ xs) rest full = full.2
 
-pub actuals_read : (xs : List Shown) (es : List Expression) (rest : Forest) → Each xs es → actuals (items rest) ≡ s.NoMore → Full (arguments xs rest)
+pub actuals_read : (xs : List Derivation) (es : List Expression) (rest : Forest) → Each xs es → actuals (items rest) ≡ s.NoMore → Full (arguments xs rest)
     → actuals (items (arguments xs rest)) ≡ expressions es
 actuals_read [] [] rest each none full = none
 actuals_read [] (e ∷ es) rest each none full = absurd each
@@ -340,7 +340,7 @@ addition_read : (x : Sign) → operator_of (d.sign_kind x) ≡ o.Add x
 addition_read sign.Plus = refl
 addition_read sign.Minus = refl
 
-alone : {x : Shown} {e : Expression} → x.level ≡ 0 → value (items x.inside) ≡ e → Claim x e
+alone : {x : Derivation} {e : Expression} → x.level ≡ 0 → value (items x.inside) ≡ e → Claim x e
 alone low is = record { known = λ bare full. is; calm = λ one. absurd (omega (arith, low, one)) }
 
 abbrev ExprPair : Type 0
@@ -375,7 +375,7 @@ if_read i {x} {y} {z} {a} {b} {c} e f h =
 abbrev LayerClaim : Expr-F Expr Selector Factor Operand Term → Type 0
 LayerClaim x =
     Claim
-    (d.expr_layer (map-Expr Expr Selector Factor Operand Term Shown Forest Forest d.Item Forest shown selector_shown factor_shown operand_shown term_shown x))
+    (d.expr_layer (map-Expr Expr Selector Factor Operand Term Derivation Forest Forest d.Item Forest derivation_of selector_derivation factor_derivation operand_derivation term_derivation x))
     (t.expr_layer (map-Expr Expr Selector Factor Operand Term Expression Selection Tail Operands Tail syntax_of selector_syntax factor_syntax operand_syntax term_syntax x))
 
 abbrev under : Expr-F ExprPair SelectorPair FactorPair OperandPair TermPair → Expr-F Expr Selector Factor Operand Term
@@ -395,7 +395,7 @@ expr_step (Expr-F.And a v) = in_operated 7 k.And o.And g.NextAnd (omega arith) (
 expr_step (Expr-F.Not v a) = in_negated v.items a.value.1
 expr_step (Expr-F.Related a i r b) = record {
   known = λ bare full.
-      let last = item_of g.Concatenation (items (raise 5 (shown b.value.0))) ∷ [] in
+      let last = item_of g.Concatenation (items (raise 5 (derivation_of b.value.0))) ∷ [] in
       ap (λ z. value (z ∷ Step (related_by (d.relation_kind r) i.0 last) ∷ [])) (leveled 5 (omega arith) a.value.1 full.0 full.1)
       ∙ relation_read r i.0 last (syntax_of a.value.0)
       ∙ ap (λ z. s.Binary (o.Relate r) i.0 (syntax_of a.value.0) (value_in (z ∷ []))) (leveled 5 (omega arith) b.value.1 full.2.1.0 full.2.1.1);
@@ -409,8 +409,8 @@ expr_step (Expr-F.Member a i m x) = record {
   calm = λ is. absurd (omega (arith, is));
 }
 expr_step (Expr-F.Concatenation a v) = in_operated 4 k.Ampersand o.Concatenate g.NextConcatenated (omega arith) (omega arith) refl (λ l. refl) a.value.1 v.items
-expr_step (Expr-F.Sum y a v) = in_summed y (map term_shown (map first_term v.items)) (map term_syntax (map first_term v.items)) (each_term v.items) a.value.1
-expr_step (Expr-F.Product a v) = in_multiplied (map factor_shown (map first_factor v.items)) (map factor_syntax (map first_factor v.items)) (each_factor v.items) a.value.1
+expr_step (Expr-F.Sum y a v) = in_summed y (map term_derivation (map first_term v.items)) (map term_syntax (map first_term v.items)) (each_term v.items) a.value.1
+expr_step (Expr-F.Product a v) = in_multiplied (map factor_derivation (map first_factor v.items)) (map factor_syntax (map first_factor v.items)) (each_factor v.items) a.value.1
 expr_step (Expr-F.Power a v) = in_operated 1 k.Power o.Power g.NextPower (omega arith) (omega arith) refl (λ l. refl) a.value.1 v.items
 expr_step (Expr-F.Postfix a v) = in_selected v.items a.value.1
 expr_step (Expr-F.Integer i n) = alone refl refl
@@ -421,12 +421,12 @@ expr_step (Expr-F.False i) = alone refl refl
 expr_step (Expr-F.NoObject i) = alone refl refl
 expr_step (Expr-F.Notext i) = alone refl refl
 expr_step (Expr-F.Named x v) = record {
-  known = λ bare full. ap (s.Named x) (actuals_read (map shown (map first_expr v.items)) (map syntax_of (map first_expr v.items)) done (each_expr v.items) refl full);
+  known = λ bare full. ap (s.Named x) (actuals_read (map derivation_of (map first_expr v.items)) (map syntax_of (map first_expr v.items)) done (each_expr v.items) refl full);
   calm = λ is. absurd (omega (arith, is));
 }
 expr_step (Expr-F.This i x) = alone refl refl
 expr_step (Expr-F.New i x v) = record {
-  known = λ bare full. ap (s.New i.0 x) (actuals_read (map shown (map first_expr v.items)) (map syntax_of (map first_expr v.items)) done (each_expr v.items) refl full);
+  known = λ bare full. ap (s.New i.0 x) (actuals_read (map derivation_of (map first_expr v.items)) (map syntax_of (map first_expr v.items)) done (each_expr v.items) refl full);
   calm = λ is. absurd (omega (arith, is));
 }
 expr_step (Expr-F.Parentheses i a) = record {
@@ -437,37 +437,37 @@ expr_step (Expr-F.Parentheses i a) = record {
 layer : (x : Expr-F Expr Selector Factor Operand Term) → LayerClaim x → ExprClaim (roll-Expr x)
 unfolding syntax_of operand_syntax term_syntax factor_syntax selector_syntax
 layer x h =
-    subst (λ z. Claim z (syntax_of (roll-Expr x))) (sym (fold-roll-Expr Shown Forest Forest d.Item Forest d.expr_layer d.selector_layer d.factor_layer d.operand_layer d.term_layer x))
-    (subst (λ z. Claim (d.expr_layer (map-Expr Expr Selector Factor Operand Term Shown Forest Forest d.Item Forest shown selector_shown factor_shown operand_shown term_shown x)) z)
+    subst (λ z. Claim z (syntax_of (roll-Expr x))) (sym (fold-roll-Expr Derivation Forest Forest d.Item Forest d.expr_layer d.selector_layer d.factor_layer d.operand_layer d.term_layer x))
+    (subst (λ z. Claim (d.expr_layer (map-Expr Expr Selector Factor Operand Term Derivation Forest Forest d.Item Forest derivation_of selector_derivation factor_derivation operand_derivation term_derivation x)) z)
     (sym (fold-roll-Expr Expression Selection Tail Operands Tail t.expr_layer t.selector_layer t.factor_layer t.operand_layer t.term_layer x)) h)
 
 abbrev SelectorLayer : Selector-F Expr Selector Factor Operand Term → Type 0
 SelectorLayer x =
-    let f = d.selector_layer (map-Selector Expr Selector Factor Operand Term Shown Forest Forest d.Item Forest shown selector_shown factor_shown operand_shown term_shown x) in
+    let f = d.selector_layer (map-Selector Expr Selector Factor Operand Term Derivation Forest Forest d.Item Forest derivation_of selector_derivation factor_derivation operand_derivation term_derivation x) in
     Full f → (e : Expression) → selecting (items f) e
     ≡ selected e (t.selector_layer (map-Selector Expr Selector Factor Operand Term Expression Selection Tail Operands Tail syntax_of selector_syntax factor_syntax operand_syntax term_syntax x) ∷ [])
 
 selector_step : (y : Selector-F ExprPair SelectorPair FactorPair OperandPair TermPair)
     → SelectorLayer (map-Selector ExprPair SelectorPair FactorPair OperandPair TermPair Expr Selector Factor Operand Term first_expr first_selector first_factor first_operand first_term y)
-selector_step (Selector-F.Dot i x v) full e = ap (s.Dot i.0 e x) (actuals_read (map shown (map first_expr v.items)) (map syntax_of (map first_expr v.items)) done (each_expr v.items) refl full)
+selector_step (Selector-F.Dot i x v) full e = ap (s.Dot i.0 e x) (actuals_read (map derivation_of (map first_expr v.items)) (map syntax_of (map first_expr v.items)) done (each_expr v.items) refl full)
 selector_step (Selector-F.Qua i x) full e = refl
 
 selector_layer : (x : Selector-F Expr Selector Factor Operand Term) → SelectorLayer x → SelectorClaim (roll-Selector x)
 unfolding syntax_of operand_syntax term_syntax factor_syntax selector_syntax
 selector_layer x h =
-    let f = sym (fold-roll-Selector Shown Forest Forest d.Item Forest d.expr_layer d.selector_layer d.factor_layer d.operand_layer d.term_layer x) in
+    let f = sym (fold-roll-Selector Derivation Forest Forest d.Item Forest d.expr_layer d.selector_layer d.factor_layer d.operand_layer d.term_layer x) in
     let e = sym (fold-roll-Selector Expression Selection Tail Operands Tail t.expr_layer t.selector_layer t.factor_layer t.operand_layer t.term_layer x) in
     subst (λ z. Full z → (e : Expression) → selecting (items z) e ≡ selected e (selector_syntax (roll-Selector x) ∷ [])) f
     (subst
     (λ z.
-    let f = d.selector_layer (map-Selector Expr Selector Factor Operand Term Shown Forest Forest d.Item Forest shown selector_shown factor_shown operand_shown term_shown x) in
+    let f = d.selector_layer (map-Selector Expr Selector Factor Operand Term Derivation Forest Forest d.Item Forest derivation_of selector_derivation factor_derivation operand_derivation term_derivation x) in
     Full f → (e : Expression) → selecting (items f) e ≡ selected e (z ∷ []))
     e h)
 
 operand_layer : (x : Operand-F Expr Selector Factor Operand Term) → ExprClaim x.operand → OperandClaim (roll-Operand x)
 unfolding syntax_of operand_syntax term_syntax factor_syntax selector_syntax
 operand_layer x h =
-    let f = sym (fold-roll-Operand Shown Forest Forest d.Item Forest d.expr_layer d.selector_layer d.factor_layer d.operand_layer d.term_layer x) in
+    let f = sym (fold-roll-Operand Derivation Forest Forest d.Item Forest d.expr_layer d.selector_layer d.factor_layer d.operand_layer d.term_layer x) in
     let e = fold-roll-Operand Expression Selection Tail Operands Tail t.expr_layer t.selector_layer t.factor_layer t.operand_layer t.term_layer x in
     record {
       operand = syntax_of x.operand;
@@ -481,14 +481,14 @@ step_along {f} {h} {x} {y} e i c = subst (λ z. StepClaim z x) (sym e) (subst (�
 term_layer : (x : Term-F Expr Selector Factor Operand Term) → ExprClaim x.term → TermClaim (roll-Term x)
 unfolding syntax_of operand_syntax term_syntax factor_syntax selector_syntax
 term_layer x h =
-    step_along (fold-roll-Term Shown Forest Forest d.Item Forest d.expr_layer d.selector_layer d.factor_layer d.operand_layer d.term_layer x)
+    step_along (fold-roll-Term Derivation Forest Forest d.Item Forest d.expr_layer d.selector_layer d.factor_layer d.operand_layer d.term_layer x)
     (fold-roll-Term Expression Selection Tail Operands Tail t.expr_layer t.selector_layer t.factor_layer t.operand_layer t.term_layer x)
     (λ full e. ap (λ z. s.Binary (operator_of (d.sign_kind x.sign)) x.token.0 e (value_in (z ∷ []))) (leveled 3 (omega arith) h full.0 full.1) ∙ ap (λ z. s.Binary z x.token.0 e (syntax_of x.term)) (addition_read x.sign))
 
 factor_layer : (x : Factor-F Expr Selector Factor Operand Term) → ExprClaim x.factor → FactorClaim (roll-Factor x)
 unfolding syntax_of operand_syntax term_syntax factor_syntax selector_syntax
 factor_layer x h =
-    step_along (fold-roll-Factor Shown Forest Forest d.Item Forest d.expr_layer d.selector_layer d.factor_layer d.operand_layer d.term_layer x)
+    step_along (fold-roll-Factor Derivation Forest Forest d.Item Forest d.expr_layer d.selector_layer d.factor_layer d.operand_layer d.term_layer x)
     (fold-roll-Factor Expression Selection Tail Operands Tail t.expr_layer t.selector_layer t.factor_layer t.operand_layer t.term_layer x)
     (λ full e.
     ap (λ z. s.Binary (operator_of (d.multiplication_kind x.operator)) x.token.0 e (value_in (z ∷ []))) (leveled 2 (omega arith) h full.0 full.1)

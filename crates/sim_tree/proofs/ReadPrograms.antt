@@ -23,9 +23,9 @@ use Rattle.sim_tree.specs.Grammar as g
 use Rattle.sim_tree.specs.Reading.{Forest, done, leaf, place, node}
 use Rattle.sim_tree.specs.Tree.{is_bare}
 use Rattle.sim_tree.specs.Nesting.{has_token, is_full}
-use Rattle.sim_tree.specs.Shown.{Shown, shown, raise, row, identifier, expression, arguments}
-use Rattle.sim_tree.specs.ShownProgram as d
-use Rattle.sim_tree.specs.ShownProgram.{Declared, Plain, Prefixed, acted, begun, contents, next_statement, assigned_shown, stmt_shown, decl_shown, block_shown, class_shown, procedure_shown, when_shown, program_shown}
+use Rattle.sim_tree.specs.Derivation.{Derivation, derivation_of, raise, row, identifier, expression, arguments}
+use Rattle.sim_tree.specs.ProgramDerivation as d
+use Rattle.sim_tree.specs.ProgramDerivation.{Declared, Plain, Prefixed, acted, begun, contents, next_statement, assigned_derivation, statement_derivation, declaration_derivation, block_derivation, class_derivation, procedure_derivation, when_derivation, program_derivation}
 use Rattle.sim_tree.specs.Syntax as s
 use Rattle.sim_tree.specs.Syntax.{Expression, expressions, Statement, Declaration, statements, declarations}
 use Rattle.sim_tree.specs.Syntax.{Block as BlockSyntax}
@@ -143,26 +143,26 @@ first_procedure x = x.0
 abbrev first_when : WhenPair → When
 first_when x = x.0
 
-each_arm : (xs : List WhenPair) → Full (row g.WhenArm (map when_shown (map first_when xs)) done)
-    → r.each_arm (items (row g.WhenArm (map when_shown (map first_when xs)) done)) ≡ map arm_syntax (map first_when xs)
+each_arm : (xs : List WhenPair) → Full (row g.WhenArm (map when_derivation (map first_when xs)) done)
+    → r.each_arm (items (row g.WhenArm (map when_derivation (map first_when xs)) done)) ≡ map arm_syntax (map first_when xs)
 each_arm [] full = refl
 each_arm (x ∷ xs) full = ap2 (λ y ys. y ∷ ys) (x.1 full.1) (each_arm xs full.2)
 
 -- the statements of an `inspect` with `when`, with what is behind its arms
-arms_read : (i : ℕ) (e : Expression) (xs : List WhenPair) (l : List Item) → Full (row g.WhenArm (map when_shown (map first_when xs)) done)
-    → r.inspecting i e (r.connection_of (items (row g.WhenArm (map when_shown (map first_when xs)) done)) ∷ l) ≡ s.InspectWhen i e (arms (map arm_syntax (map first_when xs))) (r.branch_in l)
+arms_read : (i : ℕ) (e : Expression) (xs : List WhenPair) (l : List Item) → Full (row g.WhenArm (map when_derivation (map first_when xs)) done)
+    → r.inspecting i e (r.connection_of (items (row g.WhenArm (map when_derivation (map first_when xs)) done)) ∷ l) ≡ s.InspectWhen i e (arms (map arm_syntax (map first_when xs))) (r.branch_in l)
 arms_read i e [] l full = refl
 arms_read i e (x ∷ xs) l full = ap (λ z. s.InspectWhen i e (arms z) (r.branch_in l)) (each_arm (x ∷ xs) full)
 
-each_of : (xs : List Expr) → Each (map shown xs) (map syntax_of xs)
+each_of : (xs : List Expr) → Each (map derivation_of xs) (map syntax_of xs)
 each_of [] = tt
 each_of (x ∷ xs) = (read_expr x, each_of xs)
 
-prefixed_read : (p : BlockPrefix) (f : Forest) (b : BlockSyntax) → block_of (items f) ≡ b → Full (d.prefix_shown p (node g.AfterFirstOperand (node g.Compound f done) done))
-    → statement_of (items (d.prefix_shown p (node g.AfterFirstOperand (node g.Compound f done) done))) ≡ s.Prefixed p.class (expressions (map syntax_of p.arguments.items)) b
-prefixed_read p f b is = go (map shown p.arguments.items) (map syntax_of p.arguments.items) (each_of p.arguments.items)
+prefixed_read : (p : BlockPrefix) (f : Forest) (b : BlockSyntax) → block_of (items f) ≡ b → Full (d.prefix_derivation p (node g.AfterFirstOperand (node g.Compound f done) done))
+    → statement_of (items (d.prefix_derivation p (node g.AfterFirstOperand (node g.Compound f done) done))) ≡ s.Prefixed p.class (expressions (map syntax_of p.arguments.items)) b
+prefixed_read p f b is = go (map derivation_of p.arguments.items) (map syntax_of p.arguments.items) (each_of p.arguments.items)
   where
-    go : (xs : List Shown) (es : List Expression) → Each xs es → Full (identifier p.class (arguments xs (node g.AfterFirstOperand (node g.Compound f done) done)))
+    go : (xs : List Derivation) (es : List Expression) → Each xs es → Full (identifier p.class (arguments xs (node g.AfterFirstOperand (node g.Compound f done) done)))
         → statement_of (items (identifier p.class (arguments xs (node g.AfterFirstOperand (node g.Compound f done) done)))) ≡ s.Prefixed p.class (expressions es) b
     go [] [] each full = ap (s.Prefixed p.class s.NoMore) is
     go [] (e ∷ es) each full = absurd each
@@ -173,12 +173,12 @@ assigned_read : (e : Expr) (xs : List Assigned) → has_token g.Statement (d.ass
     → statement_of (items (d.assigning e xs)) ≡ s.Assign (syntax_of e) (map t.right_side_syntax xs)
 assigned_read e [] token full = absurd (false≢true token)
 assigned_read e (x ∷ xs) token full =
-    let rest = row g.Assigned (map assigned_shown (x ∷ xs)) done in
+    let rest = row g.Assigned (map assigned_derivation (x ∷ xs)) done in
     let h = sides_row (x ∷ xs) (behind_acted rest full) in
     called e rest h.1 full ∙ ap (r.assigned (syntax_of e)) h.0
   where
-    behind_acted : (rest : Forest) → Full (acted (raise 1 (shown e)) rest) → Full rest
-    behind_acted rest full = (acted_full (raise 1 (shown e)) rest full).2
+    behind_acted : (rest : Forest) → Full (acted (raise 1 (derivation_of e)) rest) → Full rest
+    behind_acted rest full = (acted_full (raise 1 (derivation_of e)) rest full).2
 
 activated : (w : Activation) (i : ℕ) (l : List Item) → r.worded (d.activation_kind w) i l ≡ s.Activate i w (r.value_in l) (r.timed_in (r.behind l))
 activated activation.Activate i l = refl
@@ -188,8 +188,8 @@ stmt_step : induction.StmtStep Says Declares Blocks Classes Procedures Arms
 stmt_step (Stmt-F.Empty i) token full = refl
 stmt_step (Stmt-F.Block b) token full = ap s.Compound (b.1 full.1)
 stmt_step (Stmt-F.PrefixedBlock p b) token full =
-    let inner = full_behind_arguments (map shown p.arguments.items) (node g.AfterFirstOperand (node g.Compound (block_shown b.0) done) done) full in
-    prefixed_read p (block_shown b.0) (block_syntax b.0) (b.1 inner.1.1) full
+    let inner = full_behind_arguments (map derivation_of p.arguments.items) (node g.AfterFirstOperand (node g.Compound (block_derivation b.0) done) done) full in
+    prefixed_read p (block_derivation b.0) (block_syntax b.0) (b.1 inner.1.1) full
 stmt_step (Stmt-F.Inner i) token full = refl
 stmt_step (Stmt-F.Call e) token full = called e done refl full
 stmt_step (Stmt-F.Assignment e v) token full = assigned_read e v.items token full
@@ -206,22 +206,22 @@ stmt_step (Stmt-F.Inspect i e n a m (Some b)) token full =
 stmt_step (Stmt-F.InspectWhen i e v None) token full =
     arms_read i.0 (r.value (items (expression e))) v.items [] full.2.1 ∙ ap (λ x. s.InspectWhen i.0 x (arms (map arm_syntax (map first_when v.items))) s.NoStatement) (valued (read_expr e) full.0 full.1)
 stmt_step (Stmt-F.InspectWhen i e v (Some b)) token full =
-    arms_read i.0 (r.value (items (expression e))) v.items (r.Stmt (statement_of (items (stmt_shown b.value.0))) ∷ []) full.2.1
+    arms_read i.0 (r.value (items (expression e))) v.items (r.Stmt (statement_of (items (statement_derivation b.value.0))) ∷ []) full.2.1
     ∙ ap2 (λ x y. s.InspectWhen i.0 x (arms (map arm_syntax (map first_when v.items))) (s.Also y s.NoStatement)) (valued (read_expr e) full.0 full.1) (b.value.1 full.2.2.1.0 full.2.2.1.1)
-stmt_step (Stmt-F.Activation i w e o) token full = activated w i.0 (items (d.expr e (d.timing_shown o))) ∙ ap2 (λ x y. s.Activate i.0 w x y) (valued (read_expr e) full.0 full.1) (schedule_read o full.2)
+stmt_step (Stmt-F.Activation i w e o) token full = activated w i.0 (items (d.expr e (d.timing_derivation o))) ∙ ap2 (λ x y. s.Activate i.0 w x y) (valued (read_expr e) full.0 full.1) (schedule_read o full.2)
 
 decl_step : induction.DeclStep Says Declares Blocks Classes Procedures Arms
-decl_step (Decl-F.Variables n v) = λ bare full. ap (λ z. r.typed_of (items (d.variables_shown v.items)) z) (type_read n) ∙ variables_read n v.items
+decl_step (Decl-F.Variables n v) = λ bare full. ap (λ z. r.typed_of (items (d.variables_derivation v.items)) z) (type_read n) ∙ variables_read n v.items
 decl_step (Decl-F.Arrays n i v) = λ bare full. ap2 (λ x y. s.Arrays x i.0 y) (type_read n) (segments_read v.items full.2.1)
 decl_step (Decl-F.Procedure None i p) = λ bare full. p.1 full.1 None i.0
-decl_step (Decl-F.Procedure (Some n) i p) = λ bare full. ap (λ z. procedure_of (items (procedure_shown p.0)) (Some z) i.0) (type_read n) ∙ p.1 full.2.1.1 (Some n) i.0
+decl_step (Decl-F.Procedure (Some n) i p) = λ bare full. ap (λ z. procedure_of (items (procedure_derivation p.0)) (Some z) i.0) (type_read n) ∙ p.1 full.2.1.1 (Some n) i.0
 decl_step (Decl-F.Class None i c) = λ bare full. c.1 full.1 None i.0
 decl_step (Decl-F.Class (Some x) i c) = λ full. c.1 full (Some x) i.0
 
 block_step : induction.BlockStep Says Declares Blocks Classes Procedures Arms
 block_step b full =
     ap (λ (z : Contents). s.Begin b.token.0 z.declarations z.statements z.end)
-    (contents_read (map decl_shown (map first_decl b.declarations.items)) (map declaration_syntax (map first_decl b.declarations.items)) (map stmt_shown (map first_stmt b.statements.items))
+    (contents_read (map declaration_derivation (map first_decl b.declarations.items)) (map declaration_syntax (map first_decl b.declarations.items)) (map statement_derivation (map first_stmt b.statements.items))
     (map statement_syntax (map first_stmt b.statements.items)) b.end.0 (induction.each_declaration Says Declares Blocks Classes Procedures Arms b.declarations.items) (induction.each_statement Says Declares Blocks Classes Procedures Arms b.statements.items) full.1)
 
 classed : (prefix : Option Identifier) (i : ℕ) {a b : s.Heading} {ps qs : List s.Protected} {vs ws : List s.Virtual} {x y : Statement} {m n : ℕ} → a ≡ b → ps ≡ qs → vs ≡ ws → x ≡ y → m ≡ n
@@ -231,10 +231,10 @@ classed prefix i {b = b} {ps} {qs} {vs} {ws} {x} {y} {m} {n} e f h j k =
 
 class_step : induction.ClassStep Says Declares Blocks Classes Procedures Arms
 class_step c full prefix i =
-    let body = stmt_shown c.body.value.0 in
+    let body = statement_derivation c.body.value.0 in
     let last = node g.Statement body (place c.end.0 done) in
-    let middle = d.virtuals_shown c.virtuals.items last in
-    let all = full_behind_row g.Protection (map d.protection_shown c.protections.items) middle full.2 in
+    let middle = d.virtuals_derivation c.virtuals.items last in
+    let all = full_behind_row g.Protection (map d.protection_derivation c.protections.items) middle full.2 in
     let end = full_behind_virtuals c.virtuals.items last all in
     let vs = virtuals_read c.virtuals.items last all refl refl in
     let ps = protections_row c.protections.items middle full.2 vs.1 in
@@ -247,26 +247,26 @@ procedure_step p full result i =
 when_step : induction.WhenStep Says Declares Blocks Classes Procedures Arms
 when_step w full = ap (λ z. let a : Arm = record { token = w.token.0; class = w.class; opening = w.opening.0; body = z; end = w.end.0 } in a) (w.body.1 full.0 full.1)
 
-pub read_block : (b : Block) → Blocks (block_shown b) (block_syntax b)
+pub read_block : (b : Block) → Blocks (block_derivation b) (block_syntax b)
 read_block = induction.each_block Says Declares Blocks Classes Procedures Arms stmt_step decl_step block_step class_step procedure_step when_step
 
 -- a program
-behind_actuals : (xs : List Shown) (es : List Expression) (f : Forest) → Each xs es → Full (arguments xs (node g.Compound f done)) → r.body_in (items (arguments xs (node g.Compound f done))) ≡ block_of (items f)
+behind_actuals : (xs : List Derivation) (es : List Expression) (f : Forest) → Each xs es → Full (arguments xs (node g.Compound f done)) → r.body_in (items (arguments xs (node g.Compound f done))) ≡ block_of (items f)
 behind_actuals [] es f each full = refl
 behind_actuals (x ∷ xs) es f each full = ap r.body_in (arguments_items x xs es (node g.Compound f done) each full)
 
-pub read_program : (p : ProgramTree) → Full (program_shown p) → program_read (program_shown p) ≡ program_syntax p
+pub read_program : (p : ProgramTree) → Full (program_derivation p) → program_read (program_derivation p) ≡ program_syntax p
 unfolding program_syntax
 read_program p full = go p.prefix full
   where
     f : Forest
-    f = block_shown p.block
+    f = block_derivation p.block
 
-    go : (x : Option BlockPrefix) → Full (d.prefixed x (node g.Compound (block_shown p.block) done))
-        → program_read (d.prefixed x (node g.Compound (block_shown p.block) done)) ≡ record { prefix = option_map t.prefix_syntax x; block = block_syntax p.block }
+    go : (x : Option BlockPrefix) → Full (d.prefixed x (node g.Compound (block_derivation p.block) done))
+        → program_read (d.prefixed x (node g.Compound (block_derivation p.block) done)) ≡ record { prefix = option_map t.prefix_syntax x; block = block_syntax p.block }
     go None full = ap (λ z. let w : s.Program = record { prefix = None; block = z } in w) (read_block p.block full.1)
     go (Some x) full =
-        let xs = map shown x.arguments.items in
+        let xs = map derivation_of x.arguments.items in
         let es = map syntax_of x.arguments.items in
         let each = each_of x.arguments.items in
         let inner = full_behind_arguments xs (node g.Compound f done) full in
@@ -274,7 +274,7 @@ read_program p full = go p.prefix full
         (behind_actuals xs es f each full ∙ read_block p.block inner.1)
 
 -- Two trees of the same tokens have the same syntax.
-pub same_syntax : (p q : ProgramTree) → is_full (program_shown p) ≡ true → program_shown p ≡ program_shown q → program_syntax p ≡ program_syntax q
+pub same_syntax : (p q : ProgramTree) → is_full (program_derivation p) ≡ true → program_derivation p ≡ program_derivation q → program_syntax p ≡ program_syntax q
 same_syntax p q full same =
-    let one = is_full-Full (program_shown p) full in
+    let one = is_full-Full (program_derivation p) full in
     sym (read_program p one) ∙ ap program_read same ∙ read_program q (subst Full same one)

@@ -35,8 +35,8 @@ use Rattle.sim_tree.specs.declared.stmt.VirtualSpecification.{VirtualSpecificati
 use Rattle.sim_tree.specs.Grammar as g
 use Rattle.sim_tree.specs.Reading.{Forest, done, leaf, place, node}
 use Rattle.sim_tree.specs.Tree.{is_bare}
-use Rattle.sim_tree.specs.Shown.{shown, row, raise, sign_kind}
-use Rattle.sim_tree.specs.ShownProgram.{joined, acted, ids, next_id, type_shown, typed, constant_shown, value_shown, variable_shown, variables_shown, next_variable, bounds_shown, next_bounds, dimensions, segment_shown, next_segment, segments_shown, mode_kind, mode_shown, specifier_shown, specification_shown, heading_shown, protecting, protection_shown, virtual_shown, virtuals_shown, assignment_kind, assigned_shown, for_element_shown, next_for_element, for_elements, reference_element_shown, next_reference_element, reference_elements, prior_shown, timing_inside, timing_shown}
+use Rattle.sim_tree.specs.Derivation.{derivation_of, row, raise, sign_kind}
+use Rattle.sim_tree.specs.ProgramDerivation.{joined, acted, ids, next_id, type_derivation, typed, constant_derivation, value_derivation, variable_derivation, variables_derivation, next_variable, bounds_derivation, next_bounds, dimensions, segment_derivation, next_segment, segments_derivation, mode_kind, mode_derivation, specifier_derivation, specification_derivation, heading_derivation, protecting, protection_derivation, virtual_derivation, virtuals_derivation, assignment_kind, assigned_derivation, for_element_derivation, next_for_element, for_elements, reference_element_derivation, next_reference_element, reference_elements, prior_derivation, timing_inside, timing_derivation}
 use Rattle.sim_tree.specs.Syntax as s
 use Rattle.sim_tree.specs.Syntax.{Expression, Expressions, RightSide, Element, Arrayed, BoundPair, Moded, Specified, Protected, Virtual}
 use Rattle.sim_tree.specs.SyntaxOf.{syntax_of}
@@ -60,7 +60,7 @@ pub names_read : (xs : List Identifier) → not (is_bare (ids xs)) ≡ true → 
 names_read [] bare = absurd (false≢true bare)
 names_read (x ∷ xs) bare = ap (λ z. x ∷ z) (more_names_read xs)
 
-pub type_read : (t : TypeName) → r.type_of (items (type_shown t)) ≡ t
+pub type_read : (t : TypeName) → r.type_of (items (type_derivation t)) ≡ t
 type_read (type_name.Integer i) = refl
 type_read (type_name.Boolean i) = refl
 type_read (type_name.Character i) = refl
@@ -71,7 +71,7 @@ signed_read : (x : Sign) (i j : TokenNo) (n : ℤ) → r.constant_of (Tok i.0 (s
 signed_read sign.Plus i j n = refl
 signed_read sign.Minus i j n = refl
 
-constant_read : (c : Constant) → r.constant_of (items (constant_shown c)) ≡ c
+constant_read : (c : Constant) → r.constant_of (items (constant_derivation c)) ≡ c
 constant_read (constant.Integer None i n) = refl
 constant_read (constant.Integer (Some x) i n) = signed_read x.sign x.token i n
 constant_read (constant.Character i n) = refl
@@ -79,23 +79,23 @@ constant_read (constant.Text i n) = refl
 constant_read (constant.True i) = refl
 constant_read (constant.False i) = refl
 
-value_read : (c : Option Constant) → r.valued (items (value_shown c)) ≡ c
+value_read : (c : Option Constant) → r.valued (items (value_derivation c)) ≡ c
 value_read None = refl
 value_read (Some c) = ap Some (constant_read c)
 
-variable_read : (v : Variable) → r.variable_of (items (variable_shown v)) ≡ v
+variable_read : (v : Variable) → r.variable_of (items (variable_derivation v)) ≡ v
 variable_read v = ap (λ z. let w : Variable = record { name = v.name; value = z } in w) (value_read v.value)
 
 more_variables : (vs : List Variable) → r.variables (items (row g.NextVariable (map next_variable vs) done)) ≡ vs
 more_variables [] = refl
 more_variables (v ∷ vs) = ap2 (λ x xs. x ∷ xs) (variable_read v) (more_variables vs)
 
-pub variables_read : (t : TypeName) (vs : List Variable) → r.typed_of (items (variables_shown vs)) t ≡ s.Variables t vs
+pub variables_read : (t : TypeName) (vs : List Variable) → r.typed_of (items (variables_derivation vs)) t ≡ s.Variables t vs
 variables_read t [] = refl
 variables_read t (v ∷ vs) = ap2 (λ x xs. s.Variables t (x ∷ xs)) (variable_read v) (more_variables vs)
 
 -- Arrays.
-bounds_read : (b : Bounds) → Full (bounds_shown b) → r.bounds_of (items (bounds_shown b)) ≡ bound_pair_syntax b
+bounds_read : (b : Bounds) → Full (bounds_derivation b) → r.bounds_of (items (bounds_derivation b)) ≡ bound_pair_syntax b
 bounds_read b full =
     ap2 (λ x y. let z : BoundPair = record { lower = x; upper = y } in z) (valued (read_expr b.lower) full.0 full.1) (valued (read_expr b.upper) full.2.0 full.2.1)
 
@@ -107,14 +107,14 @@ dimensions_read : (bs : List Bounds) → Full (dimensions bs) → r.bounds (item
 dimensions_read [] full = refl
 dimensions_read (b ∷ bs) full = ap2 (λ x xs. x ∷ xs) (bounds_read b full.1) (more_bounds bs full.2)
 
-segment_read : (a : ArraySegment) → Full (segment_shown a) → r.segment_of (items (segment_shown a)) ≡ segment_syntax a
+segment_read : (a : ArraySegment) → Full (segment_derivation a) → r.segment_of (items (segment_derivation a)) ≡ segment_syntax a
 segment_read a full = ap2 (λ x y. let z : Arrayed = record { names = x; bounds = y } in z) (names_read a.names.items full.0) (dimensions_read a.bounds.items full.2)
 
 more_segments : (xs : List ArraySegment) → Full (row g.NextArraySegment (map next_segment xs) done) → r.segments (items (row g.NextArraySegment (map next_segment xs) done)) ≡ map segment_syntax xs
 more_segments [] full = refl
 more_segments (a ∷ xs) full = ap2 (λ x xs. x ∷ xs) (segment_read a full.1.1) (more_segments xs full.2)
 
-pub segments_read : (xs : List ArraySegment) → Full (segments_shown xs) → r.segments (items (segments_shown xs)) ≡ map segment_syntax xs
+pub segments_read : (xs : List ArraySegment) → Full (segments_derivation xs) → r.segments (items (segments_derivation xs)) ≡ map segment_syntax xs
 segments_read [] full = refl
 segments_read (a ∷ xs) full = ap2 (λ x xs. x ∷ xs) (segment_read a full.1) (more_segments xs full.2)
 
@@ -123,24 +123,24 @@ mode_kind_read : (x : Mode) → r.mode_by (mode_kind x) ≡ x
 mode_kind_read mode.Value = refl
 mode_kind_read mode.Name = refl
 
-mode_read : (m : ModePart) → Full (mode_shown m) → r.mode_of (items (mode_shown m)) ≡ mode_syntax m
+mode_read : (m : ModePart) → Full (mode_derivation m) → r.mode_of (items (mode_derivation m)) ≡ mode_syntax m
 mode_read m full = ap2 (λ x y. let z : Moded = record { token = m.token.0; mode = x; names = y } in z) (mode_kind_read m.mode) (names_read m.names.items full.0)
 
 specified : (x y : Specified) (xs ys : List Identifier) → x ≡ y → xs ≡ ys → (let z : s.Specification = record { kind = x; names = xs } in z) ≡ record { kind = y; names = ys }
 specified x y xs ys e h = ap2 (λ x xs. let z : s.Specification = record { kind = x; names = xs } in z) e h
 
-specification_read : (x : Specification) → Full (specification_shown x) → r.specification_of (items (specification_shown x)) ≡ specification_syntax x
+specification_read : (x : Specification) → Full (specification_derivation x) → r.specification_of (items (specification_derivation x)) ≡ specification_syntax x
 specification_read x = go x.specifier
   where
-    go : (y : Specifier) → Full (specifier_shown y (node g.Identifiers (ids x.names.items) done))
-        → r.specification_of (items (specifier_shown y (node g.Identifiers (ids x.names.items) done))) ≡ record { kind = specifier_syntax y; names = x.names.items }
+    go : (y : Specifier) → Full (specifier_derivation y (node g.Identifiers (ids x.names.items) done))
+        → r.specification_of (items (specifier_derivation y (node g.Identifiers (ids x.names.items) done))) ≡ record { kind = specifier_syntax y; names = x.names.items }
     go (specifier.Simple t) full = specified _ _ _ _ (ap s.Simple (type_read t)) (names_read x.names.items full.2.0)
     go (specifier.Array t i) full = specified _ _ _ _ (ap (λ z. s.Array z i.0) (type_read t)) (names_read x.names.items full.2.2.0)
     go (specifier.Procedure None i) full = specified _ _ _ _ refl (names_read x.names.items full.0)
     go (specifier.Procedure (Some t) i) full = specified _ _ _ _ (ap (λ z. s.Procedure (Some z) i.0) (type_read t)) (names_read x.names.items full.2.2.0)
 
-specifications_row : (xs : List Specification) → Full (row g.Specification (map specification_shown xs) done)
-    → (r.specifications (items (row g.Specification (map specification_shown xs) done)) ≡ map specification_syntax xs) × (r.modes (items (row g.Specification (map specification_shown xs) done)) ≡ [])
+specifications_row : (xs : List Specification) → Full (row g.Specification (map specification_derivation xs) done)
+    → (r.specifications (items (row g.Specification (map specification_derivation xs) done)) ≡ map specification_syntax xs) × (r.modes (items (row g.Specification (map specification_derivation xs) done)) ≡ [])
 specifications_row [] full = (refl, refl)
 specifications_row (x ∷ xs) full = let h = specifications_row xs full.2 in (ap2 (λ x xs. x ∷ xs) (specification_read x full.1) h.0, h.1)
 
@@ -148,8 +148,8 @@ pub full_behind_row : (n : g.Part) (fs : List Forest) (f : Forest) → Full (row
 full_behind_row n [] f full = full
 full_behind_row n (x ∷ xs) f full = full_behind_row n xs f full.2
 
-modes_row : (ms : List ModePart) (f : Forest) → Full (row g.Mode (map mode_shown ms) f) → r.modes (items f) ≡ []
-    → (r.modes (items (row g.Mode (map mode_shown ms) f)) ≡ map mode_syntax ms) × (r.specifications (items (row g.Mode (map mode_shown ms) f)) ≡ r.specifications (items f))
+modes_row : (ms : List ModePart) (f : Forest) → Full (row g.Mode (map mode_derivation ms) f) → r.modes (items f) ≡ []
+    → (r.modes (items (row g.Mode (map mode_derivation ms) f)) ≡ map mode_syntax ms) × (r.specifications (items (row g.Mode (map mode_derivation ms) f)) ≡ r.specifications (items f))
 modes_row [] f full none = (none, refl)
 modes_row (m ∷ ms) f full none = let h = modes_row ms f full.2 none in (ap2 (λ x xs. x ∷ xs) (mode_read m full.1) h.0, h.1)
 
@@ -157,20 +157,20 @@ headed : (x : Identifier) {ps xs : List Identifier} {ms ns : List Moded} {ss ts 
     → (let z : s.Heading = record { name = x; formals = ps; modes = ms; specifications = ss } in z) ≡ record { name = x; formals = xs; modes = ns; specifications = ts }
 headed x e h i = ap3 (λ p m q. let z : s.Heading = record { name = x; formals = p; modes = m; specifications = q } in z) e h i
 
-pub heading_read : (x : Identifier) (ps : List Identifier) (ms : List ModePart) (ss : List Specification) → Full (heading_shown ps ms ss)
-    → r.heading_of (items (heading_shown ps ms ss)) x ≡ heading_syntax x ps ms ss
+pub heading_read : (x : Identifier) (ps : List Identifier) (ms : List ModePart) (ss : List Specification) → Full (heading_derivation ps ms ss)
+    → r.heading_of (items (heading_derivation ps ms ss)) x ≡ heading_syntax x ps ms ss
 heading_read x ps ms ss = go ps ms ss
   where
     whole : (ps : List Identifier) (ms : List ModePart) (ss : List Specification)
-        → Full (node g.Identifiers (ids ps) (row g.Mode (map mode_shown ms) (row g.Specification (map specification_shown ss) done)))
-        → r.heading_of (items (node g.Identifiers (ids ps) (row g.Mode (map mode_shown ms) (row g.Specification (map specification_shown ss) done)))) x ≡ heading_syntax x ps ms ss
+        → Full (node g.Identifiers (ids ps) (row g.Mode (map mode_derivation ms) (row g.Specification (map specification_derivation ss) done)))
+        → r.heading_of (items (node g.Identifiers (ids ps) (row g.Mode (map mode_derivation ms) (row g.Specification (map specification_derivation ss) done)))) x ≡ heading_syntax x ps ms ss
     whole ps ms ss full =
-        let f = row g.Specification (map specification_shown ss) done in
-        let one = specifications_row ss (full_behind_row g.Mode (map mode_shown ms) f full.2) in
+        let f = row g.Specification (map specification_derivation ss) done in
+        let one = specifications_row ss (full_behind_row g.Mode (map mode_derivation ms) f full.2) in
         let two = modes_row ms f full.2 one.1 in
         headed x (names_read ps full.0) two.0 (two.1 ∙ one.0)
 
-    go : (ps : List Identifier) (ms : List ModePart) (ss : List Specification) → Full (heading_shown ps ms ss) → r.heading_of (items (heading_shown ps ms ss)) x ≡ heading_syntax x ps ms ss
+    go : (ps : List Identifier) (ms : List ModePart) (ss : List Specification) → Full (heading_derivation ps ms ss) → r.heading_of (items (heading_derivation ps ms ss)) x ≡ heading_syntax x ps ms ss
     go [] [] [] full = refl
     go [] [] (y ∷ ys) full = whole [] [] (y ∷ ys) full
     go [] (m ∷ ms) ss full = whole [] (m ∷ ms) ss full
@@ -196,16 +196,16 @@ pub record Passed (f h : Forest) : Type 0 where
   pub statement : r.statement_in (items f) ≡ r.statement_in (items h)
   pub place : r.place_in (items f) ≡ r.place_in (items h)
 
-pub protections_row : (ps : List Protection) (f : Forest) → Full (row g.Protection (map protection_shown ps) f) → r.protections (items f) ≡ []
-    → (r.protections (items (row g.Protection (map protection_shown ps) f)) ≡ map protection_syntax ps) × (r.virtuals (items (row g.Protection (map protection_shown ps) f)) ≡ r.virtuals (items f))
-    × Passed (row g.Protection (map protection_shown ps) f) f
+pub protections_row : (ps : List Protection) (f : Forest) → Full (row g.Protection (map protection_derivation ps) f) → r.protections (items f) ≡ []
+    → (r.protections (items (row g.Protection (map protection_derivation ps) f)) ≡ map protection_syntax ps) × (r.virtuals (items (row g.Protection (map protection_derivation ps) f)) ≡ r.virtuals (items f))
+    × Passed (row g.Protection (map protection_derivation ps) f) f
 protections_row [] f full none = (none, refl, record { statement = refl; place = refl })
 protections_row (p ∷ ps) f full none =
     let h = protections_row ps f full.2 none in
     let i = h.2 in
     (ap2 (λ x xs. x ∷ xs) (protecting_read p.hidden p.protected p.names.items full.0 full.1) h.0, h.1, record { statement = i.statement; place = i.place })
 
-virtual_read : (v : VirtualSpecification) → Full (virtual_shown v) → r.virtual_of (items (virtual_shown v)) ≡ virtual_syntax v
+virtual_read : (v : VirtualSpecification) → Full (virtual_derivation v) → r.virtual_of (items (virtual_derivation v)) ≡ virtual_syntax v
 virtual_read v = go v.result
   where
     go : (t : Option TypeName) → Full (typed t (leaf v.token.0 k.Procedure (node g.Identifiers (ids v.names.items) done)))
@@ -213,16 +213,16 @@ virtual_read v = go v.result
     go None full = ap (λ z. let w : Virtual = record { result = None; token = v.token.0; names = z } in w) (names_read v.names.items full.0)
     go (Some t) full = ap2 (λ x z. let w : Virtual = record { result = Some x; token = v.token.0; names = z } in w) (type_read t) (names_read v.names.items full.2.0)
 
-each_virtual_read : (vs : List VirtualSpecification) → Full (row g.VirtualSpecification (map virtual_shown vs) done) → r.each_virtual (items (row g.VirtualSpecification (map virtual_shown vs) done)) ≡ map virtual_syntax vs
+each_virtual_read : (vs : List VirtualSpecification) → Full (row g.VirtualSpecification (map virtual_derivation vs) done) → r.each_virtual (items (row g.VirtualSpecification (map virtual_derivation vs) done)) ≡ map virtual_syntax vs
 each_virtual_read [] full = refl
 each_virtual_read (v ∷ vs) full = ap2 (λ x xs. x ∷ xs) (virtual_read v full.1) (each_virtual_read vs full.2)
 
-pub virtuals_read : (vs : List VirtualSpecification) (f : Forest) → Full (virtuals_shown vs f) → r.virtuals (items f) ≡ [] → r.protections (items f) ≡ []
-    → (r.virtuals (items (virtuals_shown vs f)) ≡ map virtual_syntax vs) × (r.protections (items (virtuals_shown vs f)) ≡ []) × Passed (virtuals_shown vs f) f
+pub virtuals_read : (vs : List VirtualSpecification) (f : Forest) → Full (virtuals_derivation vs f) → r.virtuals (items f) ≡ [] → r.protections (items f) ≡ []
+    → (r.virtuals (items (virtuals_derivation vs f)) ≡ map virtual_syntax vs) × (r.protections (items (virtuals_derivation vs f)) ≡ []) × Passed (virtuals_derivation vs f) f
 virtuals_read [] f full none bare = (none, bare, record { statement = refl; place = refl })
 virtuals_read (v ∷ vs) f full none bare = (each_virtual_read (v ∷ vs) full.1, bare, record { statement = refl; place = refl })
 
-pub full_behind_virtuals : (vs : List VirtualSpecification) (f : Forest) → Full (virtuals_shown vs f) → Full f
+pub full_behind_virtuals : (vs : List VirtualSpecification) (f : Forest) → Full (virtuals_derivation vs f) → Full f
 full_behind_virtuals [] f full = full
 full_behind_virtuals (v ∷ vs) f full = full.2
 
@@ -231,15 +231,15 @@ assignment_read : (x : Assignment) → r.assignment_of (assignment_kind x) ≡ x
 assignment_read assignment.Value = refl
 assignment_read assignment.Reference = refl
 
-side_read : (a : Assigned) → Full (assigned_shown a) → r.side_of (items (assigned_shown a)) ≡ right_side_syntax a
+side_read : (a : Assigned) → Full (assigned_derivation a) → r.side_of (items (assigned_derivation a)) ≡ right_side_syntax a
 side_read a full = ap2 (λ x y. let z : RightSide = record { sign = x; token = a.token.0; value = y } in z) (assignment_read a.sign) (valued (read_expr a.value) full.0 full.1)
 
-pub sides_row : (xs : List Assigned) → Full (row g.Assigned (map assigned_shown xs) done)
-    → (sides (items (row g.Assigned (map assigned_shown xs) done)) ≡ map right_side_syntax xs) × (is_sides (items (row g.Assigned (map assigned_shown xs) done)) ≡ true)
+pub sides_row : (xs : List Assigned) → Full (row g.Assigned (map assigned_derivation xs) done)
+    → (sides (items (row g.Assigned (map assigned_derivation xs) done)) ≡ map right_side_syntax xs) × (is_sides (items (row g.Assigned (map assigned_derivation xs) done)) ≡ true)
 sides_row [] full = (refl, refl)
 sides_row (x ∷ xs) full = let h = sides_row xs full.2 in (ap2 (λ y ys. y ∷ ys) (side_read x full.1) h.0, h.1)
 
-element_read : (x : ForElement) → Full (for_element_shown x) → r.element_of (items (for_element_shown x)) ≡ element_syntax x
+element_read : (x : ForElement) → Full (for_element_derivation x) → r.element_of (items (for_element_derivation x)) ≡ element_syntax x
 element_read (for_element.Value e) full = ap s.Once (valued (read_expr e) full.0 full.1)
 element_read (for_element.Step e i a b) full =
     ap3 (λ x y z. s.Step x i.0 y z) (valued (read_expr e) full.0 full.1) (valued (read_expr a) full.2.1.0 full.2.1.1) (valued (read_expr b) full.2.1.2.0 full.2.1.2.1)
@@ -253,7 +253,7 @@ pub elements_read : (xs : List ForElement) → Full (for_elements xs) → r.elem
 elements_read [] full = refl
 elements_read (x ∷ xs) full = ap2 (λ y ys. y ∷ ys) (element_read x full.1) (more_elements xs full.2)
 
-reference_element_read : (x : ReferenceElement) → Full (reference_element_shown x) → r.element_of (items (reference_element_shown x)) ≡ reference_element_syntax x
+reference_element_read : (x : ReferenceElement) → Full (reference_element_derivation x) → r.element_of (items (reference_element_derivation x)) ≡ reference_element_syntax x
 reference_element_read (reference_element.Value e) full = ap s.Once (valued (read_expr e) full.0 full.1)
 reference_element_read (reference_element.While e i a) full = ap2 (λ x y. s.While x i.0 y) (valued (read_expr e) full.0 full.1) (valued (read_expr a) full.2.1.0 full.2.1.1)
 
@@ -266,7 +266,7 @@ pub reference_elements_read : (xs : List ReferenceElement) → Full (reference_e
 reference_elements_read [] full = refl
 reference_elements_read (x ∷ xs) full = ap2 (λ y ys. y ∷ ys) (reference_element_read x full.1) (more_reference_elements xs full.2)
 
-prior_read : (x : Option TokenNo) → r.prior_in (items (prior_shown x)) ≡ option_map number_of x
+prior_read : (x : Option TokenNo) → r.prior_in (items (prior_derivation x)) ≡ option_map number_of x
 prior_read None = refl
 prior_read (Some i) = refl
 
@@ -276,7 +276,7 @@ timing_read (timing.Delay i e p) full = ap2 (λ x y. s.Delay i.0 x y) (valued (r
 timing_read (timing.Before i e) full = ap (λ x. s.Before i.0 x) (valued (read_expr e) full.0 full.1)
 timing_read (timing.After i e) full = ap (λ x. s.After i.0 x) (valued (read_expr e) full.0 full.1)
 
-pub schedule_read : (x : Option Timing) → Full (timing_shown x) → r.timed_in (items (timing_shown x)) ≡ schedule_syntax x
+pub schedule_read : (x : Option Timing) → Full (timing_derivation x) → r.timed_in (items (timing_derivation x)) ≡ schedule_syntax x
 schedule_read None full = refl
 schedule_read (Some x) full = timing_read x full.1
 
@@ -343,9 +343,9 @@ acted_full (node g.Primary (leaf i (k.Identifier name) act) sel) rest full =
     (refl, (refl, one.0, two.0), two.1)
 acted_full f rest full = (full.0, full.1, full.2)
 
-pub called : (e : Expr) (rest : Forest) → is_sides (items rest) ≡ true → Full (acted (raise 1 (shown e)) rest)
-    → statement_of (items (acted (raise 1 (shown e)) rest)) ≡ assigned (syntax_of e) (sides (items rest))
+pub called : (e : Expr) (rest : Forest) → is_sides (items rest) ≡ true → Full (acted (raise 1 (derivation_of e)) rest)
+    → statement_of (items (acted (raise 1 (derivation_of e)) rest)) ≡ assigned (syntax_of e) (sides (items rest))
 called e rest are full =
-    let f = raise 1 (shown e) in
+    let f = raise 1 (derivation_of e) in
     let all = acted_full f rest full in
     acted_read f rest (operand_calm (read_expr e)) are ∙ ap (λ z. assigned z (sides (items rest))) (operand_value (read_expr e) all.0 all.1)

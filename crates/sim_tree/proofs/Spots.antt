@@ -112,11 +112,11 @@ weaker i j (Behind x ∷ q) le a = (let low = a.0 in omega (arith, le, low), a.1
 module _ {most : ℕ} {ws : List Word} where
   pub reads_ascend : {d i j : ℕ} {s : List Symbol} {f : Forest} → Reads most ws d s i f j → (q : List Spot) → Ascends j q → Ascends i (spots f q)
   reads_ascend reads-done q a = a
-  reads_ascend (reads-kept {i = i} h r) q a = (let z : i ≤ i = omega arith in z, reads_ascend r q a)
-  reads_ascend (reads-mark {i = i} {f = f} h r) q a = weaker i (i + 1) (spots f q) (omega arith) (reads_ascend r q a)
-  reads_ascend (reads-any {i = i} {f = f} h r) q a = weaker i (i + 1) (spots f q) (omega arith) (reads_ascend r q a)
+  reads_ascend (reads-kept {start = i} h r) q a = (let z : i ≤ i = omega arith in z, reads_ascend r q a)
+  reads_ascend (reads-mark {start = i} {f = f} h r) q a = weaker i (i + 1) (spots f q) (omega arith) (reads_ascend r q a)
+  reads_ascend (reads-any {start = i} {f = f} h r) q a = weaker i (i + 1) (spots f q) (omega arith) (reads_ascend r q a)
   reads_ascend (reads-none h r) q a = reads_ascend r q a
-  reads_ascend (reads-here {i = i} r) q a = (let z : i ≤ i = omega arith in z, reads_ascend r q a)
+  reads_ascend (reads-here {start = i} r) q a = (let z : i ≤ i = omega arith in z, reads_ascend r q a)
   reads_ascend (reads-part {g = h} b sh r o) q a = reads_ascend r (spots h q) (reads_ascend o q a)
   reads_ascend (reads-skip b may r) q a = reads_ascend r q a
 
@@ -133,7 +133,7 @@ kept_ascend i r q (kept-place {i = x} {r = s} {q = p} h) a = (a.0, kept_ascend x
 module _ {most : ℕ} {ws : List Word} where
   pub reads_below : {d i j : ℕ} {s : List Symbol} {f : Forest} → Reads most ws d s i f j → (n : ℕ) → j ≤ n → (q : List Spot) → AllBelow n q → AllBelow n (spots f q)
   reads_below reads-done n le q a = a
-  reads_below (reads-kept {i = i} h r) n le q a = (let ahead = reads_ahead most ws r in omega (arith, le, ahead), reads_below r n le q a)
+  reads_below (reads-kept {start = i} h r) n le q a = (let ahead = reads_ahead most ws r in omega (arith, le, ahead), reads_below r n le q a)
   reads_below (reads-mark h r) n le q a = reads_below r n le q a
   reads_below (reads-any h r) n le q a = reads_below r n le q a
   reads_below (reads-none h r) n le q a = reads_below r n le q a

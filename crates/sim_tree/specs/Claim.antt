@@ -6,25 +6,25 @@ use Rattle.sim_tree.specs.Reading.{Forest, finish, Reads}
 
 -- the same tokens below an index
 abbrev pub SameBelow : ℕ → List Token → List Token → Type 0
-SameBelow k ws us = (m : ℕ) → m < k → slice_index_or ws m finish ≡ slice_index_or us m finish
+SameBelow k tokens us = (m : ℕ) → m < k → slice_index_or tokens m finish ≡ slice_index_or us m finish
 
 -- a part, once
 abbrev pub one : Part → List Symbol
 one n = Of Once n ∷ []
 
--- The tokens below k begin the symbols from i on: with some further tokens they are these symbols whole, however deep it nests.
-pub record Begins (ws : List Token) (s : List Symbol) (i : ℕ) (k : ℕ) : Type 0 where
+-- The tokens below k begin the symbols from start on: with some further tokens they are these symbols whole, however deep it nests.
+pub record Begins (tokens : List Token) (s : List Symbol) (start : ℕ) (k : ℕ) : Type 0 where
   pub whole : List Token
-  pub same : SameBelow k ws whole
+  pub same : SameBelow k tokens whole
   pub limit : ℕ
   pub forest : Forest
-  pub reads : Reads limit whole 0 s i forest (length whole)
+  pub reads : Reads limit whole 0 s start forest (length whole)
 
 -- no tokens that go on like these up to k are the symbols, whatever stands behind
 abbrev pub BeginNone : List Token → List Symbol → ℕ → ℕ → Type 0
-BeginNone ws s i k = (whole : List Token) → SameBelow k ws whole → (limit : ℕ) (forest : Forest) (end : ℕ) → Reads limit whole 0 s i forest end → ⊥
+BeginNone tokens s start k = (whole : List Token) → SameBelow k tokens whole → (limit : ℕ) (forest : Forest) (end : ℕ) → Reads limit whole 0 s start forest end → ⊥
 
 -- the first bad token: those before it begin the symbols, and with it they don't
-pub record IsFirstBad (ws : List Token) (s : List Symbol) (i : ℕ) (k : ℕ) : Type 0 where
-  pub before : Begins ws s i k
-  pub not_with : BeginNone ws s i (k + 1)
+pub record IsFirstBad (tokens : List Token) (s : List Symbol) (start : ℕ) (k : ℕ) : Type 0 where
+  pub before : Begins tokens s start k
+  pub not_with : BeginNone tokens s start (k + 1)

@@ -6,7 +6,7 @@ use Rattle.sim_base.specs.declared.token.TokenKind.TheVariants as k
 use Rattle.sim_tree.specs.Grammar as g
 use Rattle.sim_tree.specs.Reading.{Forest, done, leaf, node, Reads, Fails, TooDeep}
 use Rattle.sim_tree.specs.Claim.{IsFirstBad, one}
-use Rattle.sim_tree.specs.Shown.{whole}
+use Rattle.sim_tree.specs.Derivation.{whole}
 use Rattle.sim_tree.specs.Tree.{limit}
 
 abbrev pub plain : TokenKind → Token

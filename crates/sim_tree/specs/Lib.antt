@@ -3,8 +3,8 @@ pub mod Examples
 pub mod Grammar
 pub mod Nesting
 pub mod Reading
-pub mod Shown
-pub mod ShownProgram
+pub mod Derivation
+pub mod ProgramDerivation
 pub mod Terminal
 pub mod Tree
 pub mod Syntax

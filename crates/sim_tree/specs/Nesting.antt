@@ -6,8 +6,8 @@ use Rattle.sim_tree.specs.declared.stmt.Stmt.{Stmt}
 use Rattle.sim_tree.specs.Grammar as g
 use Rattle.sim_tree.specs.Grammar.{Part}
 use Rattle.sim_tree.specs.Reading.{Forest, done, leaf, place, node}
-use Rattle.sim_tree.specs.Shown.{Shown}
-use Rattle.sim_tree.specs.ShownProgram.{Declared, Plain, Prefixed, next_statement, stmt_shown}
+use Rattle.sim_tree.specs.Derivation.{Derivation}
+use Rattle.sim_tree.specs.ProgramDerivation.{Declared, Plain, Prefixed, next_statement, statement_derivation}
 use Rattle.sim_tree.specs.Tree.{is_bare, deepest}
 
 -- the greatest number that the program counts to, in place of a greater one
@@ -37,7 +37,7 @@ pub record Nests (f : Forest) (depth : ℕ) : Type 0 where
   pub known : is_full f ≡ true → depth ≡ capped (deepest f)
 
 -- the same of what is inside a part that has a token
-pub record NestsInside (s : Shown) (depth : ℕ) : Type 0 where
+pub record NestsInside (s : Derivation) (depth : ℕ) : Type 0 where
   pub known : is_bare s.inside ≡ false → is_full s.inside ≡ true → depth ≡ capped (deepest s.inside)
 
 -- the largest of the numbers that fit the elements of a list, one for each
@@ -51,6 +51,6 @@ apart (Plain f) = node g.Declaration f done
 apart (Prefixed x i f) = node g.Class f done
 
 -- the statement of a branch, where there is one
-abbrev pub branch_shown : Option (Box Stmt Global) → Forest
-branch_shown None = done
-branch_shown (Some s) = next_statement (stmt_shown s.value)
+abbrev pub branch_derivation : Option (Box Stmt Global) → Forest
+branch_derivation None = done
+branch_derivation (Some s) = next_statement (statement_derivation s.value)

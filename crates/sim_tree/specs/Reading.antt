@@ -13,10 +13,10 @@ abbrev pub finish : Token
 finish = record { kind = k.EndOfSource; place = 0; line = record { 0 = 0 } }
 
 unfoldable pub kind_at : List Token → ℕ → TokenKind
-kind_at ws i = (slice_index_or ws i finish).kind
+kind_at tokens at = (slice_index_or tokens at finish).kind
 
 unfoldable pub terminal_at : List Token → ℕ → Terminal
-terminal_at ws i = terminal_of (kind_at ws i)
+terminal_at tokens at = terminal_of (kind_at tokens at)
 
 -- Derivations in a row: a kept token with its number and kind, the number of a token that was not taken, a part with what is inside it.
 pub data Forest : Type 0 where
@@ -52,56 +52,56 @@ is_too_deep limit n depth right = is_counted n && nat_le limit depth && not (is_
 
 -- the first token of a part that is met at a token
 abbrev pub first_of : Part → ℕ → ℕ
-first_of n i = if is_begun n then i - 1 else i
+first_of n at = if is_begun n then at - 1 else at
 
--- The tokens from i up to j are symbols, and this is their derivation. Each choice is by the next token: a part that can begin with it is taken.
-pub data Reads (limit : ℕ) (ws : List Token) : ℕ → List Symbol → ℕ → Forest → ℕ → Type 0 where
-  reads-done : {d i : ℕ} → Reads limit ws d [] i done i
-  reads-kept : {d i j : ℕ} {any : List Terminal} {s : List Symbol} {f : Forest} → one_of any (terminal_at ws i) ≡ true
-      → Reads limit ws d s (i + 1) f j → Reads limit ws d (Kept any ∷ s) i (leaf i (kind_at ws i) f) j
-  reads-mark : {d i j : ℕ} {a : Terminal} {s : List Symbol} {f : Forest} → is (terminal_at ws i) a ≡ true
-      → Reads limit ws d s (i + 1) f j → Reads limit ws d (Mark a ∷ s) i f j
-  reads-any : {d i j : ℕ} {a : Terminal} {s : List Symbol} {f : Forest} → is (terminal_at ws i) a ≡ true
-      → Reads limit ws d (Any a ∷ s) (i + 1) f j → Reads limit ws d (Any a ∷ s) i f j
-  reads-none : {d i j : ℕ} {a : Terminal} {s : List Symbol} {f : Forest} → is (terminal_at ws i) a ≡ false
-      → Reads limit ws d s i f j → Reads limit ws d (Any a ∷ s) i f j
-  reads-here : {d i j : ℕ} {s : List Symbol} {f : Forest} → Reads limit ws d s i f j → Reads limit ws d (Here ∷ s) i (place i f) j
-  reads-part : {d i m j : ℕ} {t : Times} {n : Part} {right s : List Symbol} {f g : Forest}
-      → right_side n (terminal_at ws i) ≡ Some right → is_too_deep limit n d right ≡ false
-      → Reads limit ws (inside_depth n d) right i f m → Reads limit ws d (after t n s) m g j
-      → Reads limit ws d (Of t n ∷ s) i (node n f g) j
-  reads-skip : {d i j : ℕ} {t : Times} {n : Part} {s : List Symbol} {f : Forest}
-      → right_side n (terminal_at ws i) ≡ None → may_skip t ≡ true
-      → Reads limit ws d s i f j → Reads limit ws d (Of t n ∷ s) i f j
+-- The tokens from start up to end are symbols, and this is their derivation. Each choice is by the next token: a part that can begin with it is taken.
+pub data Reads (limit : ℕ) (tokens : List Token) : ℕ → List Symbol → ℕ → Forest → ℕ → Type 0 where
+  reads-done : {depth start : ℕ} → Reads limit tokens depth [] start done start
+  reads-kept : {depth start end : ℕ} {any : List Terminal} {s : List Symbol} {f : Forest} → one_of any (terminal_at tokens start) ≡ true
+      → Reads limit tokens depth s (start + 1) f end → Reads limit tokens depth (Kept any ∷ s) start (leaf start (kind_at tokens start) f) end
+  reads-mark : {depth start end : ℕ} {a : Terminal} {s : List Symbol} {f : Forest} → is (terminal_at tokens start) a ≡ true
+      → Reads limit tokens depth s (start + 1) f end → Reads limit tokens depth (Mark a ∷ s) start f end
+  reads-any : {depth start end : ℕ} {a : Terminal} {s : List Symbol} {f : Forest} → is (terminal_at tokens start) a ≡ true
+      → Reads limit tokens depth (Any a ∷ s) (start + 1) f end → Reads limit tokens depth (Any a ∷ s) start f end
+  reads-none : {depth start end : ℕ} {a : Terminal} {s : List Symbol} {f : Forest} → is (terminal_at tokens start) a ≡ false
+      → Reads limit tokens depth s start f end → Reads limit tokens depth (Any a ∷ s) start f end
+  reads-here : {depth start end : ℕ} {s : List Symbol} {f : Forest} → Reads limit tokens depth s start f end → Reads limit tokens depth (Here ∷ s) start (place start f) end
+  reads-part : {depth start m end : ℕ} {t : Times} {n : Part} {right s : List Symbol} {f g : Forest}
+      → right_side n (terminal_at tokens start) ≡ Some right → is_too_deep limit n depth right ≡ false
+      → Reads limit tokens (inside_depth n depth) right start f m → Reads limit tokens depth (after t n s) m g end
+      → Reads limit tokens depth (Of t n ∷ s) start (node n f g) end
+  reads-skip : {depth start end : ℕ} {t : Times} {n : Part} {s : List Symbol} {f : Forest}
+      → right_side n (terminal_at tokens start) ≡ None → may_skip t ≡ true
+      → Reads limit tokens depth s start f end → Reads limit tokens depth (Of t n ∷ s) start f end
 
 -- which fault, and its token
 pub data Fault : Type 0 where
   Unexpected : ℕ → Fault
   TooDeep : ℕ → Fault
 
--- Reading symbols from i on comes to a fault.
-pub data Fails (limit : ℕ) (ws : List Token) : ℕ → List Symbol → ℕ → Fault → Type 0 where
-  fails-kept : {d i : ℕ} {any : List Terminal} {s : List Symbol} → one_of any (terminal_at ws i) ≡ false
-      → Fails limit ws d (Kept any ∷ s) i (Unexpected i)
-  fails-mark : {d i : ℕ} {a : Terminal} {s : List Symbol} → is (terminal_at ws i) a ≡ false
-      → Fails limit ws d (Mark a ∷ s) i (Unexpected i)
-  fails-part : {d i : ℕ} {t : Times} {n : Part} {s : List Symbol} → right_side n (terminal_at ws i) ≡ None → may_skip t ≡ false
-      → Fails limit ws d (Of t n ∷ s) i (Unexpected i)
-  fails-deep : {d i : ℕ} {t : Times} {n : Part} {right s : List Symbol} → right_side n (terminal_at ws i) ≡ Some right
-      → is_too_deep limit n d right ≡ true → Fails limit ws d (Of t n ∷ s) i (TooDeep (first_of n i))
-  fails-inside : {d i : ℕ} {e : Fault} {t : Times} {n : Part} {right s : List Symbol} → right_side n (terminal_at ws i) ≡ Some right
-      → is_too_deep limit n d right ≡ false → Fails limit ws (inside_depth n d) right i e → Fails limit ws d (Of t n ∷ s) i e
-  after-kept : {d i : ℕ} {e : Fault} {any : List Terminal} {s : List Symbol} → one_of any (terminal_at ws i) ≡ true
-      → Fails limit ws d s (i + 1) e → Fails limit ws d (Kept any ∷ s) i e
-  after-mark : {d i : ℕ} {e : Fault} {a : Terminal} {s : List Symbol} → is (terminal_at ws i) a ≡ true
-      → Fails limit ws d s (i + 1) e → Fails limit ws d (Mark a ∷ s) i e
-  after-any : {d i : ℕ} {e : Fault} {a : Terminal} {s : List Symbol} → is (terminal_at ws i) a ≡ true
-      → Fails limit ws d (Any a ∷ s) (i + 1) e → Fails limit ws d (Any a ∷ s) i e
-  after-none : {d i : ℕ} {e : Fault} {a : Terminal} {s : List Symbol} → is (terminal_at ws i) a ≡ false
-      → Fails limit ws d s i e → Fails limit ws d (Any a ∷ s) i e
-  after-here : {d i : ℕ} {e : Fault} {s : List Symbol} → Fails limit ws d s i e → Fails limit ws d (Here ∷ s) i e
-  after-part : {d i m : ℕ} {e : Fault} {t : Times} {n : Part} {right s : List Symbol} {f : Forest} → right_side n (terminal_at ws i) ≡ Some right
-      → is_too_deep limit n d right ≡ false → Reads limit ws (inside_depth n d) right i f m
-      → Fails limit ws d (after t n s) m e → Fails limit ws d (Of t n ∷ s) i e
-  after-skip : {d i : ℕ} {e : Fault} {t : Times} {n : Part} {s : List Symbol} → right_side n (terminal_at ws i) ≡ None → may_skip t ≡ true
-      → Fails limit ws d s i e → Fails limit ws d (Of t n ∷ s) i e
+-- Reading symbols from start on comes to a fault.
+pub data Fails (limit : ℕ) (tokens : List Token) : ℕ → List Symbol → ℕ → Fault → Type 0 where
+  fails-kept : {depth start : ℕ} {any : List Terminal} {s : List Symbol} → one_of any (terminal_at tokens start) ≡ false
+      → Fails limit tokens depth (Kept any ∷ s) start (Unexpected start)
+  fails-mark : {depth start : ℕ} {a : Terminal} {s : List Symbol} → is (terminal_at tokens start) a ≡ false
+      → Fails limit tokens depth (Mark a ∷ s) start (Unexpected start)
+  fails-part : {depth start : ℕ} {t : Times} {n : Part} {s : List Symbol} → right_side n (terminal_at tokens start) ≡ None → may_skip t ≡ false
+      → Fails limit tokens depth (Of t n ∷ s) start (Unexpected start)
+  fails-deep : {depth start : ℕ} {t : Times} {n : Part} {right s : List Symbol} → right_side n (terminal_at tokens start) ≡ Some right
+      → is_too_deep limit n depth right ≡ true → Fails limit tokens depth (Of t n ∷ s) start (TooDeep (first_of n start))
+  fails-inside : {depth start : ℕ} {e : Fault} {t : Times} {n : Part} {right s : List Symbol} → right_side n (terminal_at tokens start) ≡ Some right
+      → is_too_deep limit n depth right ≡ false → Fails limit tokens (inside_depth n depth) right start e → Fails limit tokens depth (Of t n ∷ s) start e
+  after-kept : {depth start : ℕ} {e : Fault} {any : List Terminal} {s : List Symbol} → one_of any (terminal_at tokens start) ≡ true
+      → Fails limit tokens depth s (start + 1) e → Fails limit tokens depth (Kept any ∷ s) start e
+  after-mark : {depth start : ℕ} {e : Fault} {a : Terminal} {s : List Symbol} → is (terminal_at tokens start) a ≡ true
+      → Fails limit tokens depth s (start + 1) e → Fails limit tokens depth (Mark a ∷ s) start e
+  after-any : {depth start : ℕ} {e : Fault} {a : Terminal} {s : List Symbol} → is (terminal_at tokens start) a ≡ true
+      → Fails limit tokens depth (Any a ∷ s) (start + 1) e → Fails limit tokens depth (Any a ∷ s) start e
+  after-none : {depth start : ℕ} {e : Fault} {a : Terminal} {s : List Symbol} → is (terminal_at tokens start) a ≡ false
+      → Fails limit tokens depth s start e → Fails limit tokens depth (Any a ∷ s) start e
+  after-here : {depth start : ℕ} {e : Fault} {s : List Symbol} → Fails limit tokens depth s start e → Fails limit tokens depth (Here ∷ s) start e
+  after-part : {depth start m : ℕ} {e : Fault} {t : Times} {n : Part} {right s : List Symbol} {f : Forest} → right_side n (terminal_at tokens start) ≡ Some right
+      → is_too_deep limit n depth right ≡ false → Reads limit tokens (inside_depth n depth) right start f m
+      → Fails limit tokens depth (after t n s) m e → Fails limit tokens depth (Of t n ∷ s) start e
+  after-skip : {depth start : ℕ} {e : Fault} {t : Times} {n : Part} {s : List Symbol} → right_side n (terminal_at tokens start) ≡ None → may_skip t ≡ true
+      → Fails limit tokens depth s start e → Fails limit tokens depth (Of t n ∷ s) start e

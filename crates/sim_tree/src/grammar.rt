@@ -14,8 +14,8 @@ ghost use Rattle.sim_tree.specs.Named.{named, named_tokens, IsAscending};
 ghost use Rattle.sim_tree.specs.Order.{AllBelow, InOrder, in_block};
 ghost use Rattle.sim_tree.specs.Reading.{done, leaf, node, place, Fails, Fault, Forest, Reads, TooDeep, Unexpected};
 ghost use Rattle.sim_tree.specs.Claim.{Begins, IsFirstBad, SameBelow, one};
-ghost use Rattle.sim_tree.specs.Shown.{expression};
-ghost use Rattle.sim_tree.specs.ShownProgram.{program_shown};
+ghost use Rattle.sim_tree.specs.Derivation.{expression};
+ghost use Rattle.sim_tree.specs.ProgramDerivation.{program_derivation};
 ghost use Rattle.sim_tree.specs.Syntax.{Expression, naming};
 ghost use Rattle.sim_tree.specs.SyntaxExamples.{HasSyntax, chain_source, chain_syntax, connection_source, connection_syntax, prefixed_source, prefixed_syntax, procedure_source, procedure_syntax, sum_source, sum_syntax};
 ghost use Rattle.sim_tree.specs.SyntaxOfProgram.{program_syntax};
@@ -24,62 +24,62 @@ ghost use Rattle.sim_tree.specs.Tree.{IsTree, deepest, depth_of, limit};
 /// A token list has at most one program: its trees have the same syntax, which no layer above looks behind, and the same
 /// derivation and lines.
 pub fn one_tree()
-    ensures syntax { (ws : List Token) (p q : Tree) → IsTree ws p → IsTree ws q → program_syntax p ≡ program_syntax q }
-    ensures derivation { (ws : List Token) (p q : Tree) → IsTree ws p → IsTree ws q → (program_shown p ≡ program_shown q) × (p.lines.items ≡ q.lines.items) }
+    ensures syntax { (tokens : List Token) (p q : Tree) → IsTree tokens p → IsTree tokens q → program_syntax p ≡ program_syntax q }
+    ensures derivation { (tokens : List Token) (p q : Tree) → IsTree tokens p → IsTree tokens q → (program_derivation p ≡ program_derivation q) × (p.lines.items ≡ q.lines.items) }
 {}
 
 /// The tokens that name the expressions of a program, and the attributes behind dots, ascend in the order of its text. So each expression has
 /// a token of its own: the operator's, the sign's, the word's, the dot's, the constant's, the identifier's or the parenthesis's.
 pub fn naming_tokens()
     ensures own { (e : Expression) (l : List ℕ) → Contains (named e l) (naming e) }
-    ensures ascend { (ws : List Token) (p : Tree) → IsTree ws p → IsAscending (named_tokens (program_syntax p)) }
+    ensures ascend { (tokens : List Token) (p : Tree) → IsTree tokens p → IsAscending (named_tokens (program_syntax p)) }
 {}
 
 /// The identifiers that a program declares, the tokens that name its expressions, and the places where its blocks begin and end stand in the
 /// order of its text, and none is past its last token.
 pub fn token_order()
-    ensures order { (ws : List Token) (p : Tree) → IsTree ws p → InOrder (program_syntax p) }
-    ensures within { (ws : List Token) (p : Tree) → IsTree ws p → AllBelow (length ws) (in_block (program_syntax p).block []) }
+    ensures order { (tokens : List Token) (p : Tree) → IsTree tokens p → InOrder (program_syntax p) }
+    ensures within { (tokens : List Token) (p : Tree) → IsTree tokens p → AllBelow (length tokens) (in_block (program_syntax p).block []) }
 {}
 
 /// Each assignment of a program has a right side, each `for` list an element.
 pub fn filled()
-    ensures { (ws : List Token) (p : Tree) → IsTree ws p → Filled (program_syntax p) }
+    ensures { (tokens : List Token) (p : Tree) → IsTree tokens p → Filled (program_syntax p) }
 {}
 
 /// Each block of a program ends behind its `begin`, each procedure and class behind the word that declares it, each connection
 /// behind its `do`. So what lies between the two tokens is a range.
 pub fn ends()
-    ensures { (ws : List Token) (p : Tree) → IsTree ws p → EndsBehind (program_syntax p) }
+    ensures { (tokens : List Token) (p : Tree) → IsTree tokens p → EndsBehind (program_syntax p) }
 {}
 
 /// From a token on, symbols of the grammar have at most one derivation, with one end.
 pub fn one_derivation()
-    ensures { (most : ℕ) (ws : List Token) (d i j m : ℕ) (s : List Symbol) (f h : Forest) → Reads most ws d s i f j → Reads most ws d s i h m → (f ≡ h) × (j ≡ m) }
+    ensures { (most : ℕ) (tokens : List Token) (depth start end m : ℕ) (s : List Symbol) (f h : Forest) → Reads most tokens depth s start f end → Reads most tokens depth s start h m → (f ≡ h) × (end ≡ m) }
 {}
 
 /// Where there is a derivation, there is no fault, and there is at most one fault.
 pub fn one_fault()
-    ensures never_both { (most : ℕ) (ws : List Token) (d i j : ℕ) (s : List Symbol) (f : Forest) (e : Fault) → Reads most ws d s i f j → Fails most ws d s i e → ⊥ }
-    ensures one_fault { (most : ℕ) (ws : List Token) (d i : ℕ) (s : List Symbol) (e h : Fault) → Fails most ws d s i e → Fails most ws d s i h → e ≡ h }
+    ensures never_both { (most : ℕ) (tokens : List Token) (depth start end : ℕ) (s : List Symbol) (f : Forest) (e : Fault) → Reads most tokens depth s start f end → Fails most tokens depth s start e → ⊥ }
+    ensures one_fault { (most : ℕ) (tokens : List Token) (depth start : ℕ) (s : List Symbol) (e h : Fault) → Fails most tokens depth s start e → Fails most tokens depth s start h → e ≡ h }
 {}
 
 /// The fault of an unexpected token names the first bad token, and there is one such token at most. Before a token that
 /// would nest too deeply none is bad, and what goes on with that token and the next one nests too deeply. (The next one is
 /// looked at since an identifier in front of `class` begins no statement.) A list with a bad token is no program.
 pub fn first_bad_token()
-    ensures unexpected { (most : ℕ) (ws : List Token) (d i k : ℕ) (n : Part) → Fails most ws d (one n) i (Unexpected k) → IsFirstBad ws (one n) i k }
-    ensures too_deep { (most : ℕ) (ws : List Token) (d i k : ℕ) (n : Part) → Fails most ws d (one n) i (TooDeep k) → Begins ws (one n) i k }
-    ensures deep { (most : ℕ) (ws : List Token) (d i k : ℕ) (n : Part) → Fails most ws d (one n) i (TooDeep k) → (whole : List Token) → SameBelow (k + 2) ws whole
-        → (other : ℕ) (f : Forest) (end : ℕ) → Reads other whole d (one n) i f end → most < d + deepest f }
-    ensures one_bad { (ws : List Token) (s : List Symbol) (i k m : ℕ) → IsFirstBad ws s i k → IsFirstBad ws s i m → k ≡ m }
-    ensures no_program { (ws : List Token) (p : Tree) (k : ℕ) → IsTree ws p → IsFirstBad ws (one g.Program) 0 k → ⊥ }
+    ensures unexpected { (most : ℕ) (tokens : List Token) (depth start k : ℕ) (n : Part) → Fails most tokens depth (one n) start (Unexpected k) → IsFirstBad tokens (one n) start k }
+    ensures too_deep { (most : ℕ) (tokens : List Token) (depth start k : ℕ) (n : Part) → Fails most tokens depth (one n) start (TooDeep k) → Begins tokens (one n) start k }
+    ensures deep { (most : ℕ) (tokens : List Token) (depth start k : ℕ) (n : Part) → Fails most tokens depth (one n) start (TooDeep k) → (whole : List Token) → SameBelow (k + 2) tokens whole
+        → (other : ℕ) (f : Forest) (end : ℕ) → Reads other whole depth (one n) start f end → most < depth + deepest f }
+    ensures one_bad { (tokens : List Token) (s : List Symbol) (start k m : ℕ) → IsFirstBad tokens s start k → IsFirstBad tokens s start m → k ≡ m }
+    ensures no_program { (tokens : List Token) (p : Tree) (k : ℕ) → IsTree tokens p → IsFirstBad tokens (one g.Program) 0 k → ⊥ }
 {}
 
 /// What the grammar gives nests no deeper than its limit.
 pub fn bounded_depth()
-    ensures derivation { (most : ℕ) (ws : List Token) (d i j : ℕ) (s : List Symbol) (f : Forest) → d ≤ most → Reads most ws d s i f j → d + deepest f ≤ most }
-    ensures program { (ws : List Token) (p : Tree) → IsTree ws p → depth_of p ≤ limit }
+    ensures derivation { (most : ℕ) (tokens : List Token) (depth start end : ℕ) (s : List Symbol) (f : Forest) → depth ≤ most → Reads most tokens depth s start f end → depth + deepest f ≤ most }
+    ensures program { (tokens : List Token) (p : Tree) → IsTree tokens p → depth_of p ≤ limit }
 {}
 
 /// The abstract syntax of some small sources.

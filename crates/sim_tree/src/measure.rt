@@ -2,7 +2,7 @@
 
 ghost use Rattle.std.specs.Prelude.{List, ℕ, Some, ◌≡◌};
 ghost use Rattle.sim_base.specs.declared.token.Token.{Token};
-ghost use Rattle.sim_tree.specs.Shown.{expression};
+ghost use Rattle.sim_tree.specs.Derivation.{expression};
 ghost use Rattle.sim_tree.specs.SyntaxOf.{FirstIs, NamingIs, SelectorIs};
 ghost use Rattle.sim_tree.specs.Tree.{IsExpr, first_leaf};
 
@@ -12,7 +12,7 @@ use sim_base::TokenNo;
 /// The first token of an expression. Where tokens have it, that is the token at which the grammar reads it.
 pub fn first_token(expr: &Expr) -> TokenNo
     ensures first { FirstIs result expr.now }
-    ensures reads { (ws : List Token) (d i j : ℕ) → IsExpr ws d i expr.now j → result.0 ≡ i }
+    ensures reads { (tokens : List Token) (depth start end : ℕ) → IsExpr tokens depth start expr.now end → result.0 ≡ start }
 {
     first_leaf_of(expr)
 }

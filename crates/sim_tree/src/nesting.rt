@@ -2,9 +2,9 @@
 
 ghost use Rattle.std.specs.Prelude.{List, ◌+◌, ◌≡◌};
 ghost use Rattle.sim_base.specs.declared.token.Token.{Token};
-ghost use Rattle.sim_tree.specs.Nesting.{apart, branch_shown, capped, Largest, Nests, NestsInside};
-ghost use Rattle.sim_tree.specs.Shown.{argument, factor_shown, operand_shown, selector_shown, shown, term_shown};
-ghost use Rattle.sim_tree.specs.ShownProgram.{assigned_shown, block_shown, bounds_shown, decl_shown, for_element_shown, next_statement, reference_element_shown, segment_shown, stmt_shown, timing_inside, timing_shown, when_shown};
+ghost use Rattle.sim_tree.specs.Nesting.{apart, branch_derivation, capped, Largest, Nests, NestsInside};
+ghost use Rattle.sim_tree.specs.Derivation.{argument, factor_derivation, operand_derivation, selector_derivation, derivation_of, term_derivation};
+ghost use Rattle.sim_tree.specs.ProgramDerivation.{assigned_derivation, block_derivation, bounds_derivation, declaration_derivation, for_element_derivation, next_statement, reference_element_derivation, segment_derivation, statement_derivation, timing_inside, timing_derivation, when_derivation};
 ghost use Rattle.sim_tree.specs.Tree.{IsTree, depth_of};
 
 use crate::expr::{Expr, Factor, Operand, Selector, Term};
@@ -15,7 +15,7 @@ use crate::stmt::{
 
 /// How many statements and expressions stand around a token of a program, at most. An empty statement does not count.
 pub fn depth(program: &Program) -> u32
-    ensures { (ws : List Token) → IsTree ws program.now → result ≡ depth_of program.now }
+    ensures { (tokens : List Token) → IsTree tokens program.now → result ≡ depth_of program.now }
 {
     let block = block_depth(&program.block);
     match &program.prefix {
@@ -33,7 +33,7 @@ fn deeper(depth: u32) -> u32
 
 // The actual parameters of a prefix.
 fn block_prefix(prefix: &BlockPrefix) -> u32
-    ensures { Largest (λ x. Nests (argument (shown x))) prefix.now.arguments.items result }
+    ensures { Largest (λ x. Nests (argument (derivation_of x))) prefix.now.arguments.items result }
 {
     arguments(&prefix.arguments)
 }
@@ -41,7 +41,7 @@ fn block_prefix(prefix: &BlockPrefix) -> u32
 // An expression, which counts itself.
 #[cycle(expression)]
 fn expression(expr: &Expr) -> u32
-    ensures { Nests (argument (shown expr.now)) result }
+    ensures { Nests (argument (derivation_of expr.now)) result }
 {
     deeper(inside(expr))
 }
@@ -49,7 +49,7 @@ fn expression(expr: &Expr) -> u32
 // What is inside an expression.
 #[cycle(expression)]
 fn inside(expr: &Expr) -> u32
-    ensures { NestsInside (shown expr.now) result }
+    ensures { NestsInside (derivation_of expr.now) result }
 {
     match expr {
         Expr::If {
@@ -96,7 +96,7 @@ fn inside(expr: &Expr) -> u32
 
 #[cycle(expression)]
 fn operands(list: &[Operand]) -> u32
-    ensures { Largest (λ x. NestsInside (operand_shown x).operand) list.now result }
+    ensures { Largest (λ x. NestsInside (operand_derivation x).operand) list.now result }
 {
     let mut deepest = 0;
     for item in list {
@@ -107,7 +107,7 @@ fn operands(list: &[Operand]) -> u32
 
 #[cycle(expression)]
 fn terms(list: &[Term]) -> u32
-    ensures { Largest (λ x. Nests (term_shown x)) list.now result }
+    ensures { Largest (λ x. Nests (term_derivation x)) list.now result }
 {
     let mut deepest = 0;
     for item in list {
@@ -118,7 +118,7 @@ fn terms(list: &[Term]) -> u32
 
 #[cycle(expression)]
 fn factors(list: &[Factor]) -> u32
-    ensures { Largest (λ x. Nests (factor_shown x)) list.now result }
+    ensures { Largest (λ x. Nests (factor_derivation x)) list.now result }
 {
     let mut deepest = 0;
     for item in list {
@@ -129,7 +129,7 @@ fn factors(list: &[Factor]) -> u32
 
 #[cycle(expression)]
 fn selectors(list: &[Selector]) -> u32
-    ensures { Largest (λ x. Nests (selector_shown x)) list.now result }
+    ensures { Largest (λ x. Nests (selector_derivation x)) list.now result }
 {
     let mut deepest = 0;
     for item in list {
@@ -140,7 +140,7 @@ fn selectors(list: &[Selector]) -> u32
 
 #[cycle(expression)]
 fn selector(selector: &Selector) -> u32
-    ensures { Nests (selector_shown selector.now) result }
+    ensures { Nests (selector_derivation selector.now) result }
 {
     match selector {
         Selector::Dot {
@@ -153,7 +153,7 @@ fn selector(selector: &Selector) -> u32
 
 #[cycle(expression)]
 fn arguments(list: &[Expr]) -> u32
-    ensures { Largest (λ x. Nests (argument (shown x))) list.now result }
+    ensures { Largest (λ x. Nests (argument (derivation_of x))) list.now result }
 {
     let mut deepest = 0;
     for item in list {
@@ -163,7 +163,7 @@ fn arguments(list: &[Expr]) -> u32
 }
 
 fn bounds(list: &[Bounds]) -> u32
-    ensures { Largest (λ x. Nests (bounds_shown x)) list.now result }
+    ensures { Largest (λ x. Nests (bounds_derivation x)) list.now result }
 {
     let mut deepest = 0;
     for item in list {
@@ -173,13 +173,13 @@ fn bounds(list: &[Bounds]) -> u32
 }
 
 fn bound_pair(bounds: &Bounds) -> u32
-    ensures { Nests (bounds_shown bounds.now) result }
+    ensures { Nests (bounds_derivation bounds.now) result }
 {
     expression(&bounds.lower).max(expression(&bounds.upper))
 }
 
 fn segments(list: &[ArraySegment]) -> u32
-    ensures { Largest (λ x. Nests (segment_shown x)) list.now result }
+    ensures { Largest (λ x. Nests (segment_derivation x)) list.now result }
 {
     let mut deepest = 0;
     for item in list {
@@ -189,7 +189,7 @@ fn segments(list: &[ArraySegment]) -> u32
 }
 
 fn assigned(list: &[Assigned]) -> u32
-    ensures { Largest (λ x. Nests (assigned_shown x)) list.now result }
+    ensures { Largest (λ x. Nests (assigned_derivation x)) list.now result }
 {
     let mut deepest = 0;
     for item in list {
@@ -199,7 +199,7 @@ fn assigned(list: &[Assigned]) -> u32
 }
 
 fn for_elements(list: &[ForElement]) -> u32
-    ensures { Largest (λ x. Nests (for_element_shown x)) list.now result }
+    ensures { Largest (λ x. Nests (for_element_derivation x)) list.now result }
 {
     let mut deepest = 0;
     for item in list {
@@ -209,7 +209,7 @@ fn for_elements(list: &[ForElement]) -> u32
 }
 
 fn for_element(element: &ForElement) -> u32
-    ensures { Nests (for_element_shown element.now) result }
+    ensures { Nests (for_element_derivation element.now) result }
 {
     match element {
         ForElement::Value { value } => expression(value),
@@ -230,7 +230,7 @@ fn for_element(element: &ForElement) -> u32
 }
 
 fn reference_elements(list: &[ReferenceElement]) -> u32
-    ensures { Largest (λ x. Nests (reference_element_shown x)) list.now result }
+    ensures { Largest (λ x. Nests (reference_element_derivation x)) list.now result }
 {
     let mut deepest = 0;
     for item in list {
@@ -240,7 +240,7 @@ fn reference_elements(list: &[ReferenceElement]) -> u32
 }
 
 fn reference_element(element: &ReferenceElement) -> u32
-    ensures { Nests (reference_element_shown element.now) result }
+    ensures { Nests (reference_element_derivation element.now) result }
 {
     match element {
         ReferenceElement::Value { value } => expression(value),
@@ -253,7 +253,7 @@ fn reference_element(element: &ReferenceElement) -> u32
 }
 
 fn timing_depth(timing: &Option<Timing>) -> u32
-    ensures { Nests (timing_shown timing.now) result }
+    ensures { Nests (timing_derivation timing.now) result }
 {
     match timing {
         Some(timing) => time_depth(timing),
@@ -275,7 +275,7 @@ fn time_depth(timing: &Timing) -> u32
 // A statement, which counts itself unless it is empty.
 #[cycle(statement)]
 fn statement(stmt: &Stmt) -> u32
-    ensures { Nests (next_statement (stmt_shown stmt.now)) result }
+    ensures { Nests (next_statement (statement_derivation stmt.now)) result }
 {
     match stmt {
         Stmt::Empty { .. } => 0,
@@ -332,7 +332,7 @@ fn statement(stmt: &Stmt) -> u32
 // The statement behind `else` or `otherwise`.
 #[cycle(statement)]
 fn branch(stmt: &Option<Box<Stmt>>) -> u32
-    ensures { Nests (branch_shown stmt.now) result }
+    ensures { Nests (branch_derivation stmt.now) result }
 {
     match stmt {
         Some(stmt) => statement(stmt),
@@ -342,7 +342,7 @@ fn branch(stmt: &Option<Box<Stmt>>) -> u32
 
 #[cycle(statement)]
 fn arms(list: &[When]) -> u32
-    ensures { Largest (λ x. Nests (when_shown x)) list.now result }
+    ensures { Largest (λ x. Nests (when_derivation x)) list.now result }
 {
     let mut deepest = 0;
     for item in list {
@@ -353,14 +353,14 @@ fn arms(list: &[When]) -> u32
 
 #[cycle(statement)]
 fn block_depth(block: &Block) -> u32
-    ensures { Nests (block_shown block.now) result }
+    ensures { Nests (block_derivation block.now) result }
 {
     declarations(&block.declarations).max(statements(&block.statements))
 }
 
 #[cycle(statement)]
 fn statements(list: &[Stmt]) -> u32
-    ensures { Largest (λ x. Nests (next_statement (stmt_shown x))) list.now result }
+    ensures { Largest (λ x. Nests (next_statement (statement_derivation x))) list.now result }
 {
     let mut deepest = 0;
     for item in list {
@@ -371,7 +371,7 @@ fn statements(list: &[Stmt]) -> u32
 
 #[cycle(statement)]
 fn declarations(list: &[Decl]) -> u32
-    ensures { Largest (λ x. Nests (apart (decl_shown x))) list.now result }
+    ensures { Largest (λ x. Nests (apart (declaration_derivation x))) list.now result }
 {
     let mut deepest = 0;
     for item in list {
@@ -382,7 +382,7 @@ fn declarations(list: &[Decl]) -> u32
 
 #[cycle(statement)]
 fn declaration(decl: &Decl) -> u32
-    ensures { Nests (apart (decl_shown decl.now)) result }
+    ensures { Nests (apart (declaration_derivation decl.now)) result }
 {
     match decl {
         Decl::Variables { .. } => 0,

@@ -77,7 +77,7 @@ impl Rings {
     pub fn members_stand_once(&self)
         ensures { IsProper self.now.sets }
     {
-        let _ = &self.nodes;
+        prove!(self.nodes.len() <= u32::MAX as usize);
     }
 
     /// How many links and heads were made: their numbers are those below.
@@ -183,8 +183,8 @@ impl Rings {
         ensures sets { self.new.sets ≡ into self.old.sets link.0 (number_of head) }
         ensures room { self.new.room ≡ self.old.room }
     {
-        // What the nodes keep is known from here on: a head stands in no set.
-        let _ = &self.nodes;
+        // A head stands in no set.
+        self.members_stand_once();
         self.leave(link.0);
         if let Some(place) = head {
             self.insert_before(link.0, place.0);
@@ -220,8 +220,7 @@ impl Rings {
         requires { IsHeadAt self.now.sets head.0 }
         ensures { result ≡ cardinal_of self.now.sets head.0 }
     {
-        // What the nodes keep is known from here on: no link stands twice in the set.
-        let _ = &self.nodes;
+        prove!(self.nodes.len() <= u32::MAX as usize);
         let mut count = 0;
         let mut next = self.next_link(head.0);
         while let Some(link) = next {
@@ -237,8 +236,8 @@ impl Rings {
         ensures sets { self.new.sets ≡ clear self.old.sets head.0 }
         ensures room { self.new.room ≡ self.old.room }
     {
-        // What the nodes keep is known from here on: no link of the set stands in another one.
-        let _ = &self.nodes;
+        // No link of the set stands in another one.
+        self.members_stand_once();
         while let Some(link) = self.next_link(head.0) {
             self.leave(link);
         }

@@ -46,6 +46,7 @@ pub fn refused(fault: IoFault) -> Came
 
 /// Reads the input.
 #[tactic(auto, using(crate::proofs::Unread::reads_none, crate::proofs::Taking::takes_none))]
+#[inline(always)]
 pub fn of_input<I: Source>(
     function: Reading,
     texts: &mut Texts,
@@ -86,6 +87,7 @@ pub fn of_input<I: Source>(
 
 /// `intext`.
 #[tactic(auto, using(crate::proofs::Unread::reads_none, crate::proofs::Taking::takes_none))]
+#[inline(always)]
 pub fn intext<I: Source>(
     n: i64,
     budget: u64,

@@ -16,6 +16,7 @@ use sim_values::TextVal;
 use text_objects::Texts;
 
 /// `outimage`.
+#[inline(always)]
 pub fn outimage<O: Sink>(texts: &mut Texts, image: &mut OutImage, out: &mut O) -> Came
     requires image { IsImage texts.old image.old }
     ensures came { (budget words : ℕ) (input : HeldInput) (source : List ℕ) → CameAs result budget name.Outimage [] (parts texts.old input source image.old (O.written out.old) words) (parts texts.new input source image.new (O.written out.new) words) }
@@ -36,6 +37,7 @@ pub fn outimage<O: Sink>(texts: &mut Texts, image: &mut OutImage, out: &mut O) -
 }
 
 /// `outchar`.
+#[inline(always)]
 pub fn outchar<O: Sink>(c: u8, texts: &mut Texts, image: &mut OutImage, out: &mut O) -> Came
     requires image { IsImage texts.old image.old }
     ensures came { (budget words : ℕ) (input : HeldInput) (source : List ℕ) → CameAs result budget name.Outchar (Character c ∷ []) (parts texts.old input source image.old (O.written out.old) words) (parts texts.new input source image.new (O.written out.new) words) }
@@ -55,6 +57,7 @@ pub fn outchar<O: Sink>(c: u8, texts: &mut Texts, image: &mut OutImage, out: &mu
 }
 
 /// `outtext`.
+#[inline(always)]
 pub fn outtext<O: Sink>(text: TextVal, texts: &mut Texts, image: &mut OutImage, out: &mut O) -> Came
     requires image { IsImage texts.old image.old }
     requires text { IsText texts.old text }
@@ -75,6 +78,7 @@ pub fn outtext<O: Sink>(text: TextVal, texts: &mut Texts, image: &mut OutImage, 
 }
 
 /// `outint`.
+#[inline(always)]
 pub fn outint<O: Sink>(
     i: i64,
     width: i64,

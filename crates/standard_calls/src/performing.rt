@@ -32,6 +32,7 @@ use text_objects::Texts;
 
 // A name of no operands.
 #[tactic(auto, using(crate::proofs::Unread::reads_none, crate::proofs::Taking::takes_none))]
+#[inline(always)]
 fn of_nothing<I: Source, O: Sink>(
     function: OfNothing,
     texts: &mut Texts,
@@ -70,6 +71,7 @@ fn of_nothing<I: Source, O: Sink>(
 
 // A name of an integer.
 #[tactic(auto, using(crate::proofs::Unread::reads_none, crate::proofs::Taking::takes_none))]
+#[inline(always)]
 fn of_integer<I: Source>(
     function: OfInteger,
     i: i64,
@@ -102,6 +104,7 @@ fn of_integer<I: Source>(
 }
 
 // `blanks`.
+#[inline(always)]
 fn blanks(n: i64, budget: u64, words: &mut u64, texts: &mut Texts) -> Came
     ensures came { (input : HeldInput) (source : List ℕ) (image : AnyText) (sink : Option (List ℕ)) →
         CameAs result budget name.Blanks (Integer n ∷ []) (parts texts.old input source image sink words.old) (parts texts.new input source image sink words.new) }
@@ -118,6 +121,7 @@ fn blanks(n: i64, budget: u64, words: &mut u64, texts: &mut Texts) -> Came
 }
 
 // `copy`.
+#[inline(always)]
 fn copy(text: TextVal, budget: u64, words: &mut u64, texts: &mut Texts) -> Came
     requires text { IsText texts.old text }
     ensures came { (input : HeldInput) (source : List ℕ) (image : AnyText) (sink : Option (List ℕ)) →
@@ -135,6 +139,7 @@ fn copy(text: TextVal, budget: u64, words: &mut u64, texts: &mut Texts) -> Came
 }
 
 // A name of two integers.
+#[inline(always)]
 fn of_integers<O: Sink>(
     function: OfIntegers,
     i: i64,
@@ -164,6 +169,7 @@ fn of_integers<O: Sink>(
 }
 
 // A name of a character.
+#[inline(always)]
 fn of_character<O: Sink>(
     function: OfCharacter,
     c: u8,
@@ -192,6 +198,7 @@ fn of_character<O: Sink>(
 }
 
 // A name of a text.
+#[inline(always)]
 fn of_text<O: Sink>(
     function: OfText,
     text: TextVal,
@@ -240,6 +247,7 @@ fn of_text<O: Sink>(
 
 /// What becomes of a name on its operands.
 #[tactic(auto, using(crate::proofs::Unread::reads_none, crate::proofs::Taking::takes_none))]
+#[inline(always)]
 pub fn come<I: Source, O: Sink>(
     call: Call,
     budget: u64,

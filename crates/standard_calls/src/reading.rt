@@ -1,30 +1,29 @@
 //! The operands of standard names on a stack.
-ghost use Rattle.std.specs.Prelude.{◌≡◌, ◌≤◌, length, true, IfOk, Err};
+ghost use Rattle.std.specs.Prelude.{◌≡◌, ◌≤◌, length, IfOk, Err};
 ghost use Rattle.sim_values.specs.declared.standard.Standard.TheVariants as name;
 ghost use Rattle.sim_values.specs.Plain.{Text};
 ghost use Rattle.sim_values.specs.Texts.{IsText};
 ghost use Rattle.sim_code.specs.Machine.{Of};
-ghost use Rattle.sim_code.specs.Running.{name_runs};
 ghost use Rattle.frame_arena.specs.Slots.{value_of};
 ghost use Rattle.standard_calls.specs.Calls.{HasText, IsNoText, ReadAs, character_name, gives, integer_name, integers_name, nothing_name, text_and_integer_name, text_name};
 
-use crate::calls::{
-    Call, OfCharacter, OfInteger, OfIntegers, OfNothing, OfText, OfTextAndInteger, Shape, shape_of,
-};
+use crate::calls::{Call, OfCharacter, OfInteger, OfIntegers, OfNothing, OfText, OfTextAndInteger};
 use crate::came::Missing;
 use frame_arena::{Slot, SlotKind};
-use sim_values::{Standard, TextVal};
+use sim_values::TextVal;
 use text_objects::Texts;
 
 // Whether a name of no operands has a value.
+#[inline(always)]
 fn has_value(function: OfNothing) -> bool
     ensures { result ≡ gives function }
 {
     !matches!(function, OfNothing::Inimage | OfNothing::Outimage)
 }
 
-// A name of no operands, where there is room for its value.
-fn nothing(function: OfNothing, stack: &[Slot], depth: usize) -> Result<Call, Missing>
+/// A name of no operands, where there is room for its value.
+#[inline(always)]
+pub fn nothing(function: OfNothing, stack: &[Slot], depth: usize) -> Result<Call, Missing>
     requires fits { depth ≤ length stack.now }
     ensures read { ReadAs result (nothing_name function) depth stack.now }
 {
@@ -37,8 +36,9 @@ fn nothing(function: OfNothing, stack: &[Slot], depth: usize) -> Result<Call, Mi
     Err(Missing::NoRule)
 }
 
-// A name of the integer on top.
-fn integer(function: OfInteger, stack: &[Slot], depth: usize) -> Result<Call, Missing>
+/// A name of the integer on top.
+#[inline(always)]
+pub fn integer(function: OfInteger, stack: &[Slot], depth: usize) -> Result<Call, Missing>
     requires fits { depth ≤ length stack.now }
     ensures read { ReadAs result (integer_name function) depth stack.now }
 {
@@ -51,8 +51,9 @@ fn integer(function: OfInteger, stack: &[Slot], depth: usize) -> Result<Call, Mi
     }
 }
 
-// A name of the two integers on top.
-fn integers(function: OfIntegers, stack: &[Slot], depth: usize) -> Result<Call, Missing>
+/// A name of the two integers on top.
+#[inline(always)]
+pub fn integers(function: OfIntegers, stack: &[Slot], depth: usize) -> Result<Call, Missing>
     requires fits { depth ≤ length stack.now }
     ensures read { ReadAs result (integers_name function) depth stack.now }
 {
@@ -69,8 +70,9 @@ fn integers(function: OfIntegers, stack: &[Slot], depth: usize) -> Result<Call, 
     Ok(Call::Integers(function, i, j))
 }
 
-// A name of the character on top.
-fn character(function: OfCharacter, stack: &[Slot], depth: usize) -> Result<Call, Missing>
+/// A name of the character on top.
+#[inline(always)]
+pub fn character(function: OfCharacter, stack: &[Slot], depth: usize) -> Result<Call, Missing>
     requires fits { depth ≤ length stack.now }
     ensures read { ReadAs result (character_name function) depth stack.now }
 {
@@ -91,14 +93,14 @@ pub fn text_in(slot: Slot, texts: &Texts) -> Result<TextVal, Missing>
 {
     match slot.kind {
         SlotKind::Text => {
-            let Ok(pos) = u32::try_from(slot.data) else {
+            if slot.data < 0 || slot.data > i64::from(u32::MAX) {
                 return Err(Missing::Memory);
-            };
+            }
             let text = TextVal {
                 text_frame: slot.name,
                 start: slot.more,
                 length: slot.class,
-                pos,
+                pos: slot.data as u32,
             };
             if texts.is_text(text) {
                 return Ok(text);
@@ -109,8 +111,9 @@ pub fn text_in(slot: Slot, texts: &Texts) -> Result<TextVal, Missing>
     }
 }
 
-// A name of the text on top.
-fn text(function: OfText, stack: &[Slot], depth: usize, texts: &Texts) -> Result<Call, Missing>
+/// A name of the text on top.
+#[inline(always)]
+pub fn text(function: OfText, stack: &[Slot], depth: usize, texts: &Texts) -> Result<Call, Missing>
     requires fits { depth ≤ length stack.now }
     ensures read { ReadAs result (text_name function) depth stack.now }
     ensures text { IfOk result (λ c. HasText texts.now c) }
@@ -124,8 +127,9 @@ fn text(function: OfText, stack: &[Slot], depth: usize, texts: &Texts) -> Result
     }
 }
 
-// A name of a text and the integer on top.
-fn text_and_integer(
+/// A name of a text and the integer on top.
+#[inline(always)]
+pub fn text_and_integer(
     function: OfTextAndInteger,
     stack: &[Slot],
     depth: usize,
@@ -148,8 +152,9 @@ fn text_and_integer(
     }
 }
 
-// `putchar` of a text and the character on top.
-fn text_and_character(stack: &[Slot], depth: usize, texts: &Texts) -> Result<Call, Missing>
+/// `putchar` of a text and the character on top.
+#[inline(always)]
+pub fn text_and_character(stack: &[Slot], depth: usize, texts: &Texts) -> Result<Call, Missing>
     requires fits { depth ≤ length stack.now }
     ensures read { ReadAs result name.TextPutchar depth stack.now }
     ensures text { IfOk result (λ c. HasText texts.now c) }
@@ -167,8 +172,9 @@ fn text_and_character(stack: &[Slot], depth: usize, texts: &Texts) -> Result<Cal
     }
 }
 
-// `sub` of a text and the two integers on top.
-fn text_and_integers(stack: &[Slot], depth: usize, texts: &Texts) -> Result<Call, Missing>
+/// `sub` of a text and the two integers on top.
+#[inline(always)]
+pub fn text_and_integers(stack: &[Slot], depth: usize, texts: &Texts) -> Result<Call, Missing>
     requires fits { depth ≤ length stack.now }
     ensures read { ReadAs result name.TextSub depth stack.now }
     ensures text { IfOk result (λ c. HasText texts.now c) }
@@ -186,25 +192,5 @@ fn text_and_integers(stack: &[Slot], depth: usize, texts: &Texts) -> Result<Call
     match text_in(stack[at], texts) {
         Ok(t) => Ok(Call::TextAndIntegers(t, i, n)),
         Err(missing) => Err(missing),
-    }
-}
-
-/// The operands of a name that runs, which stand on top of a stack.
-pub fn read(name: Standard, stack: &[Slot], depth: usize, texts: &Texts) -> Result<Call, Missing>
-    requires runs { name_runs name ≡ true }
-    requires fits { depth ≤ length stack.now }
-    ensures read { ReadAs result name depth stack.now }
-    ensures text { IfOk result (λ c. HasText texts.now c) }
-{
-    match shape_of(name) {
-        Shape::Nothing(function) => nothing(function, stack, depth),
-        Shape::Integer(function) => integer(function, stack, depth),
-        Shape::Integers(function) => integers(function, stack, depth),
-        Shape::Character(function) => character(function, stack, depth),
-        Shape::Text(function) => text(function, stack, depth, texts),
-        Shape::TextAndInteger(function) => text_and_integer(function, stack, depth, texts),
-        Shape::TextAndIntegers => text_and_integers(stack, depth, texts),
-        Shape::TextAndCharacter => text_and_character(stack, depth, texts),
-        Shape::Elsewhere => Err(Missing::NoRule),
     }
 }

@@ -60,6 +60,7 @@ pub fn unmade(fault: TextFault) -> Came
 }
 
 /// A name that makes a text of so many words.
+#[inline(always)]
 pub fn made(answer: Result<TextVal, TextFault>, taken: u64, budget: u64, words: &mut u64) -> Came
     requires within { words.old ≤ budget }
     ensures came { (name : Standard) (vs : List Plain) (old new : List Frame) (making : Making) (input : HeldInput) (source : List ℕ) (image : AnyText) (sink : Option (List ℕ)) →
@@ -143,6 +144,7 @@ pub fn changed(answer: Result<TextVal, RunError>) -> Came
 }
 
 /// `setpos` and `putint`.
+#[inline(always)]
 pub fn of_text_and_integer(
     function: OfTextAndInteger,
     text: TextVal,
@@ -170,6 +172,7 @@ pub fn of_text_and_integer(
 }
 
 /// `putchar`.
+#[inline(always)]
 pub fn putchar(text: TextVal, c: u8, texts: &mut Texts) -> Came
     requires text { IsText texts.old text }
     ensures came { (budget : ℕ) (p : Parts) → p.frames ≡ texts.old → CameAs result budget name.TextPutchar (Character c ∷ Text text ∷ []) p (record p { frames = texts.new }) }
@@ -184,6 +187,7 @@ pub fn putchar(text: TextVal, c: u8, texts: &mut Texts) -> Came
 }
 
 /// `sub`.
+#[inline(always)]
 pub fn sub(text: TextVal, i: i64, n: i64, texts: &Texts) -> Came
     requires text { IsText texts.now text }
     ensures came { (budget : ℕ) (p : Parts) → CameAs result budget name.TextSub (Integer n ∷ Integer i ∷ Text text ∷ []) p p }

@@ -61,6 +61,7 @@ impl Texts {
 
     /// Whether it is a text of these frames: its characters are in a frame that was made, and its position is at one of them or
     /// behind the last one.
+    #[inline(always)]
     pub fn is_text(&self, t: TextVal) -> bool
         ensures text { IsTrue result ↔ IsText self.now t }
     {
@@ -72,6 +73,7 @@ impl Texts {
     }
 
     /// Whether there is a frame of this number, which has characters up to this place.
+    #[inline(always)]
     fn holds(&self, text_frame: u32, end: u64) -> bool
         ensures { IsTrue result ↔ ((text_frame < length self.now) × (end ≤ length (frame_at self.now text_frame).bytes + 1)) }
     {

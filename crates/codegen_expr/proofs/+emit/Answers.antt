@@ -1,5 +1,6 @@
 use Rattle.std.proofs.Common.{rules, of_z, to_z, w64, ◌≡◌, ◌-◌, ◌+◌, List, [], ◌∷◌, length, drop, map, refl, ap, ◌∙◌, arith, subst}
 use Rattle.std.proofs.lemmas.List.{drop_all, drop_more}
+use Rattle.std.proofs.lemmas.Result.{on_ok_weaker}
 use Rattle.std.specs.Prelude.{slice_index_or}
 use Rattle.sim_base.specs.declared.numbering.TokenNo.{TokenNo}
 use Rattle.sim_tree.specs.declared.expr.Operand.{Operand}
@@ -22,10 +23,10 @@ emit::emit_expr-returns-in_ok-end-in-If t c =
     let second : to_z w64 (of_z w64 c.in_ok-end-in-If.end) ≡ c.in_ok-end-in-If.end = search rules in
     w.write_if c.args.bound.now c.args.spot c.args.depth _ _ _ _ _ _ _ _ _ _ _ _ _ _ _ _ _ _ _ _ c.in-If.is c.deref.ensures c.deref-in-If.ensures c.deref-in-If-2.ensures c.in_ok-emit_expr-in-If.ensures c.here-jump.ensures c.in_ok-leave_hole-in-If.ensures c.in_ok-emit_expr-in-If-2.ensures c.here-over.ensures c.in_ok-leave_hole-in-If-2.ensures c.in_ok-start-in-If.ensures c.in_ok-emit_expr-in-If-3.ensures c.in_ok-end-in-If.ensures (c.fill_in.ensures ∙ ap (λ z. filled_in c.emit_expr-in-If-2.new.draft c.here-jump.result (i.JumpF z)) first) (c.fill_in-in-If.ensures ∙ ap (λ z. filled_in c.fill_in.new.self c.here-over.result (i.Jump z)) second)
 
-pub emit::emit_expr-returns-in_ok-push-in-Integer : goal.emit::emit_expr-returns-in_ok-push-in-Integer
-emit::emit_expr-returns-in_ok-push-in-Integer t c =
+pub emit::emit_expr-returns-in-Integer : goal.emit::emit_expr-returns-in-Integer
+emit::emit_expr-returns-in-Integer t c =
     let same : to_z w64 (of_z w64 c.in-Integer.value) ≡ c.in-Integer.value = search rules in
-    w.write_Integer c.args.bound.now c.args.spot c.args.depth c.args.draft.now _ c.args.expr.now c.in-Integer.token c.in-Integer.value c.in-Integer.is (c.in_ok-push-in-Integer.ensures ∙ ap (λ z. with_push c.args.draft.now c.args.depth (i.Int z) 0) same)
+    on_ok_weaker c.push.result (λ pushed. w.write_Integer c.args.bound.now c.args.spot c.args.depth c.args.draft.now _ c.args.expr.now c.in-Integer.token c.in-Integer.value c.in-Integer.is (pushed ∙ ap (λ z. with_push c.args.draft.now c.args.depth (i.Int z) 0) same)) c.push.ensures
 
 pub operands::emit_operands-loop-item-init : goal.operands::emit_operands-loop-item-init
 operands::emit_operands-loop-item-init t c = λ steady. w.owes_all c.args.bound.now c.args.spot c.args.depth c.args.draft.now (map (with_operator c.args.operator) (map operand_syntax c.args.rest.now))
@@ -135,7 +136,8 @@ pub standard::emit_alone-returns-then-operands-row : goal.standard::emit_alone-r
 standard::emit_alone-returns-then-operands-row t c = behind.alone_other_number c.args.bound.now c.args.spot c.args.depth c.args.draft.now _ c.args.token c.args.name c.args.operands.now _ c.in-Some.row c.standard_code.ensures c.in-Some.is c.if-operands-row.true c.give_up-then-operands-row.ensures
 
 pub standard::emit_alone-returns : goal.standard::emit_alone-returns
-standard::emit_alone-returns t c = behind.alone_performed c.args.bound.now c.args.spot c.args.depth c.args.draft.now _ _ c.args.token c.args.name c.args.operands.now _ c.in-Some.row _ _ c.standard_code.ensures c.in-Some.is c.if-operands-row.false c.in_ok-emit_list.ensures c.standard_instr.ensures c.line_at.ensures c.in_ok-push.ensures
+standard::emit_alone-returns t c =
+    on_ok_weaker c.push.result (λ pushed. behind.alone_performed c.args.bound.now c.args.spot c.args.depth c.args.draft.now _ _ c.args.token c.args.name c.args.operands.now _ c.in-Some.row _ _ c.standard_code.ensures c.in-Some.is c.if-operands-row.false c.in_ok-emit_list.ensures c.standard_instr.ensures c.line_at.ensures pushed) c.push.ensures
 
 pub standard::emit_behind-returns-then-row-eq0 : goal.standard::emit_behind-returns-then-row-eq0
 standard::emit_behind-returns-then-row-eq0 t c = behind.behind_no_operand c.args.bound.now c.args.spot c.args.depth c.args.draft.now _ c.args.token c.args.name c.args.operands.now _ c.in-Some.row c.standard_code.ensures c.in-Some.is c.if-row-eq0.true c.give_up-then-row-eq0.ensures

@@ -1,8 +1,7 @@
-use Rattle.std.proofs.Common.{◌≡◌, ◌-◌, ◌+◌, List, ◌∙◌, refl}
+use Rattle.std.proofs.Common.{◌-◌, ◌+◌, List, ◌∙◌, refl}
 use Rattle.sim_code.specs.Machine.{Frames, Machine, Value, on}
 use Rattle.sim_code.specs.Outcome.{Run, World}
-use Rattle.frame_arena.specs.Slots.{value_of}
-use Rattle.frame_arena.specs.Stacks.{slot_at, values_of}
+use Rattle.frame_arena.specs.Stacks.{values_of}
 use Rattle.object_machine.specs.Standing.{Leaves, Obeys, activation_at, below_of}
 use Rattle.object_machine.proofs.Going.{along, depth_goes_on, no_rule_in, none}
 use Rattle.object_machine.proofs.Putting.{put_few, put_two}

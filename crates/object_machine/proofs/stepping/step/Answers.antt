@@ -114,11 +114,11 @@ returns-in-Return-clause-row g c s e = (
 pub returns-in_default : goal.returns-in_default
 returns-in_default g c =
     let l = c.args.limits.now in
-    let is = with_items_is c.args.top.now.stack c.obey-flow.new.stack (search (rules, places)) in
+    let is = with_items_is c.args.top.now.stack c.obey_other-flow.new.stack (search (rules, places)) in
     record {
-      fits = subst (λ s. c.obey-flow.new.regs.depth ≤ length s) (sym is) c.obey-flow.ensures.fits;
+      fits = subst (λ s. c.obey_other-flow.new.regs.depth ≤ length s) (sym is) c.obey_other-flow.ensures.fits;
       others = c.requires.others;
-      valid = c.obey-flow.ensures.valid;
+      valid = c.obey_other-flow.ensures.valid;
       ends = flow_still g.O.Sink.written g.O.Sink.faults c.args.out.now _ c.without_ports-in_default.ensures.other;
       read = input_still (g.I.Source.faults c.args.input.now) _ c.without_ports-in_default.ensures.read;
       takes = λ s e code line. step_unread l _ _ _ _ _ _ c.args.input.now;
@@ -129,8 +129,8 @@ returns-in_default g c =
           still_same c.without_ports-in_default.result (g.O.Sink.written c.args.out.now),
           λ code line e1 e2 e3.
               c.without_ports-in_default.ensures.row _ _ _ _ _ _ _ _ _ _ _ _ _
-              (obeys_stacks c.obey-flow.result l line _ _ _ _ _ _ c.args.top.now.stack.items _ _ _ _ _ _ c.deref_mut-in_default.ensures.value is
-              (c.obey-flow.ensures.row code line c.args.below.now.items (outside (g.O.Sink.written c.args.out.now) s) e2)),
+              (obeys_stacks c.obey_other-flow.result l line _ _ _ _ _ _ c.args.top.now.stack.items _ _ _ _ _ _ c.deref_mut-in_default.ensures.value is
+              (c.obey_other-flow.ensures.row code line c.args.below.now.items (outside (g.O.Sink.written c.args.out.now) s))),
         ),
       );
     }

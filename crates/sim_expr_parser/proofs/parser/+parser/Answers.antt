@@ -10,8 +10,8 @@ use Rattle.sim_tree.specs.Grammar as g
 use Rattle.sim_tree.specs.Grammar.{Once, Maybe, Many, Of, Kept, Mark, Symbol, is, just, one_of, literals, signs, relations, right_side}
 use Rattle.sim_tree.specs.Reading.{done, leaf, node, terminal_at, reads-skip, after-skip}
 use Rattle.sim_tree.specs.Claim.{one}
-use Rattle.sim_tree.specs.Shown.{shown, raise, row, item, operand_shown, term_shown, factor_shown, selector_shown, sign_kind, multiplication_kind, relation_kind, membership_kind, identifier, level_part, whole, argument, arguments}
-use Rattle.sim_tree.proofs.ShownLemmas.{shown-If, shown-Named, shown-New, shown-Parentheses, shown-Member, shown-Related, shown-Dot, shown-Qua, shown-Sum, shown-Product, shown-Postfix, shown-Not, shown-operand, shown-term, shown-factor}
+use Rattle.sim_tree.specs.Derivation.{derivation_of, raise, row, item, operand_derivation, term_derivation, factor_derivation, selector_derivation, sign_kind, multiplication_kind, relation_kind, membership_kind, identifier, level_part, whole, argument, arguments}
+use Rattle.sim_tree.proofs.DerivationLemmas.{derivation-If, derivation-Named, derivation-New, derivation-Parentheses, derivation-Member, derivation-Related, derivation-Dot, derivation-Qua, derivation-Sum, derivation-Product, derivation-Postfix, derivation-Not, derivation-operand, derivation-term, derivation-factor}
 use Rattle.sim_expr_parser.specs.Level.{under, word_kind, many}
 use Rattle.sim_expr_parser.specs.Parsing.{listed, GivesLevel, GivesRow, GivesTo, GivesNext, GivesList, multiplications}
 use Rattle.sim_expr_parser.proofs.Tables.{no_end, no_expression, deep-expression, simple-begins, under-limit, open-if, open-simple, name_symbols, new_symbols, open_symbols, primary_name, primary_new, primary_open, by_test, related, related_symbols, member_symbols, test_alone, args_symbols, more_symbols, dot_symbols, qua_symbols, selected_dot, selected_qua, no_selected, only, one_row, just_is, open-item, no-item, took-item}
@@ -45,9 +45,6 @@ expression-returns-then-depth-eq-LIMIT u c =
 
 pub expression-returns-then-eq : goal.expression-returns-then-eq
 expression-returns-then-eq u c =
-    let ws = c.args.source.now in
-    let d = c.args.depth in
-    let i = c.args.at in
     c.conditional.ensures (ap (λ z. is z t.If) (sym c.terminal_at-terminal.ensures) ∙ made_is _ _ true c.if-eq.ensures)
 
 pub expression-returns : goal.expression-returns
@@ -72,7 +69,6 @@ conditional-returns-in_err-next u c =
     let ws = c.args.source.now in
     let d = c.args.depth in
     let i = c.args.at in
-    let n = c.token_no-token.result in
     λ is_if.
     let w0 = open-if ws d i c.requires.within is_if c.requires.shallow in
     let e = c.in_err-next.field-0.0 in
@@ -174,7 +170,7 @@ conditional-returns u c =
     let w4 = to w3 (once c.in_ok-first.ensures.1) in
     let w5 = to w4 (marked c.in_ok-next-3.ensures) in
     let w6 = to w5 (once c.in_ok-second.ensures.1) in
-    level-made 14 _ _ (shown-If n c.in_ok-condition.condition c.in_ok-first.first c.in_ok-second.second) refl w6 refl
+    level-made 14 _ _ (derivation-If n c.in_ok-condition.condition c.in_ok-first.first c.in_ok-second.second) refl w6 refl
 
 pub boxed-returns-in_err-inner : goal.boxed-returns-in_err-inner
 boxed-returns-in_err-inner u c =
@@ -192,7 +188,7 @@ boxed-returns u c =
     let i = c.args.at in
     let p = c.in_ok-inner.ensures in
     let same = sym c.in_ok-new.ensures.ok in
-    subst (λ x. ((shown x).level ≤ (14)) × ReadsPart ws d (level_part (14)) i (raise (14) (shown x)) c.in_ok-inner.end) same p
+    subst (λ x. ((derivation_of x).level ≤ (14)) × ReadsPart ws d (level_part (14)) i (raise (14) (derivation_of x)) c.in_ok-inner.end) same p
 
 pub boxed_up_to_level-returns-in_err-inner : goal.boxed_up_to_level-returns-in_err-inner
 boxed_up_to_level-returns-in_err-inner u c =
@@ -210,7 +206,7 @@ boxed_up_to_level-returns u c =
     let i = c.args.at in
     let p = c.in_ok-inner.ensures in
     let same = sym c.in_ok-new.ensures.ok in
-    subst (λ x. ((shown x).level ≤ (c.args.top)) × ReadsPart ws d (level_part (c.args.top)) i (raise (c.args.top) (shown x)) c.in_ok-inner.end) same p
+    subst (λ x. ((derivation_of x).level ≤ (c.args.top)) × ReadsPart ws d (level_part (c.args.top)) i (raise (c.args.top) (derivation_of x)) c.in_ok-inner.end) same p
 
 pub up_to_level-returns-in_err-negated : goal.up_to_level-returns-in_err-negated
 up_to_level-returns-in_err-negated u c =
@@ -227,7 +223,6 @@ up_to_level-returns-in_err-negated u c =
 pub up_to_level-returns-then-begins_with_not : goal.up_to_level-returns-then-begins_with_not
 up_to_level-returns-then-begins_with_not u c =
     let ws = c.args.source.now in
-    let d = c.args.depth in
     let i = c.args.at in
     let top = c.args.top in
     let w = and-split (nat_le 7 top) (is (terminal_at ws i) t.Not) (sym c.if-begins_with_not.ensures) in
@@ -250,7 +245,6 @@ up_to_level-returns-in_err-sum u c =
 pub up_to_level-returns-then-begins_with_sign : goal.up_to_level-returns-then-begins_with_sign
 up_to_level-returns-then-begins_with_sign u c =
     let ws = c.args.source.now in
-    let d = c.args.depth in
     let i = c.args.at in
     let top = c.args.top in
     let w = and-split (nat_le 4 top) (one_of signs (terminal_at ws i)) (sym c.if-begins_with_sign.ensures) in
@@ -273,7 +267,6 @@ up_to_level-returns-in_err-operand u c =
 pub up_to_level-returns : goal.up_to_level-returns
 up_to_level-returns u c =
     let ws = c.args.source.now in
-    let d = c.args.depth in
     let i = c.args.at in
     let top = c.args.top in
     let plain = bare-plain ws i top (and-not 4 top (one_of signs (terminal_at ws i)) (sym c.if-begins_with_sign.ensures)) (and-not 7 top (is (terminal_at ws i) t.Not) (sym c.if-begins_with_not.ensures)) in
@@ -332,8 +325,6 @@ raised-loop-operators-smaller u c =
 
 pub raised-returns : goal.raised-returns
 raised-returns u c =
-    let ws = c.args.source.now in
-    let d = c.args.depth in
     let top = c.args.top in
     let l = c.loop-operators in
     λ i h.
@@ -377,57 +368,52 @@ extended-returns-in_err-operands-in-Single u c =
 pub extended-returns-in_ok-terms-in-Signs : goal.extended-returns-in_ok-terms-in-Signs
 extended-returns-in_ok-terms-in-Signs u c =
     let ws = c.args.source.now in
-    let d = c.args.depth in
     let i = c.args.at in
     let y = c.args.first in
     let v = c.in_ok-terms-in-Signs.terms in
-    let fs = map term_shown v.items in
+    let fs = map term_derivation v.items in
     let read = c.in_ok-terms-in-Signs.ensures in
     λ h. let some = some-read fs read (tail-stands (terminal_at ws i) operators.Signs (h ∙ ap Some c.in-Signs.is)) in
-    let made = shown-Sum None y v ∙ summed-some None (shown y.value) fs some in
+    let made = derivation-Sum None y v ∙ summed-some None (derivation_of y.value) fs some in
     tail-at {o = operators.Signs} c.in-Signs.is (record { tail = λ f. row g.NextTerm fs f; reads = read; level_is = ap (λ s. s.level) made; inside_is = ap (λ s. s.inside) made })
 
 pub extended-returns-in_ok-factors-in-Multiplications : goal.extended-returns-in_ok-factors-in-Multiplications
 extended-returns-in_ok-factors-in-Multiplications u c =
     let ws = c.args.source.now in
-    let d = c.args.depth in
     let i = c.args.at in
     let y = c.args.first in
     let v = c.in_ok-factors-in-Multiplications.factors in
-    let fs = map factor_shown v.items in
+    let fs = map factor_derivation v.items in
     let read = c.in_ok-factors-in-Multiplications.ensures in
     λ h. let some = some-read fs read (tail-stands (terminal_at ws i) operators.Multiplications (h ∙ ap Some c.in-Multiplications.is)) in
-    let made = shown-Product y v ∙ multiplied-some (shown y.value) fs some in
+    let made = derivation-Product y v ∙ multiplied-some (derivation_of y.value) fs some in
     tail-at {o = operators.Multiplications} c.in-Multiplications.is (record { tail = λ f. row g.NextFactor fs f; reads = read; level_is = ap (λ s. s.level) made; inside_is = ap (λ s. s.inside) made })
 
 pub extended-returns-in_ok-operands-in-Single : goal.extended-returns-in_ok-operands-in-Single
 extended-returns-in_ok-operands-in-Single u c =
     let ws = c.args.source.now in
-    let d = c.args.depth in
     let i = c.args.at in
     let y = c.args.first in
     let lv = c.in-Single.level in
     let v = c.in_ok-operands-in-Single.operands in
     let x = under lv in
     let kind = word_kind lv in
-    let fs = map (λ o. item x kind (operand_shown o)) v.items in
+    let fs = map (λ o. item x kind (operand_derivation o)) v.items in
     let read = c.in_ok-operands-in-Single.ensures in
-    λ h. let some = mapped-some (λ o. item x kind (operand_shown o)) v.items (some-read fs read (tail-stands (terminal_at ws i) (operators.Single lv) (h ∙ ap Some c.in-Single.is))) in
-    let made = c.node.ensures ∙ operated-some x kind (many lv) (shown y.value) (map operand_shown v.items) (some-mapped operand_shown v.items some) in
+    λ h. let some = mapped-some (λ o. item x kind (operand_derivation o)) v.items (some-read fs read (tail-stands (terminal_at ws i) (operators.Single lv) (h ∙ ap Some c.in-Single.is))) in
+    let made = c.node.ensures ∙ operated-some x kind (many lv) (derivation_of y.value) (map operand_derivation v.items) (some-mapped operand_derivation v.items some) in
     tail-at {o = operators.Single lv} c.in-Single.is (record {
       tail = λ f. row (many lv) fs f;
       reads = read;
       level_is = ap (λ s. s.level) made ∙ add-one x;
-      inside_is = ap (λ s. s.inside) made ∙ ap (λ l. node (level_part x) (raise x (shown y.value)) (row (many lv) l done)) (sym (map-twice (item x kind) operand_shown v.items));
+      inside_is = ap (λ s. s.inside) made ∙ ap (λ l. node (level_part x) (raise x (derivation_of y.value)) (row (many lv) l done)) (sym (map-twice (item x kind) operand_derivation v.items));
     })
 
 pub operands-loop-next-init : goal.operands-loop-next-init
 operands-loop-next-init u c =
-    let ws = c.args.source.now in
-    let d = c.args.depth in
     let lv = c.args.level in
     record {
-      goes = row-start (λ o. item (under lv) (word_kind lv) (operand_shown o)) c.new-rest.result.items c.new-rest.ensures.items;
+      goes = row-start (λ o. item (under lv) (word_kind lv) (operand_derivation o)) c.new-rest.result.items c.new-rest.ensures.items;
       ahead = omega arith;
       within = c.requires.within;
     }
@@ -435,10 +421,9 @@ operands-loop-next-init u c =
 pub operands-returns : goal.operands-returns
 operands-returns u c =
     let ws = c.args.source.now in
-    let d = c.args.depth in
     let lv = c.args.level in
     let l = c.loop-next in
-    row-end (λ o. item (under lv) (word_kind lv) (operand_shown o)) l.rest.items l.invariant.goes (no-item lv (terminal_at ws l.at) (ap (λ z. is (terminal_at ws l.at) z) (sym c.operator.ensures) ∙ c.in_default.ensures)) l.invariant.ahead l.invariant.within
+    row-end (λ o. item (under lv) (word_kind lv) (operand_derivation o)) l.rest.items l.invariant.goes (no-item lv (terminal_at ws l.at) (ap (λ z. is (terminal_at ws l.at) z) (sym c.operator.ensures) ∙ c.in_default.ensures)) l.invariant.ahead l.invariant.within
 
 pub operands-eat-requires-clause-no_end : goal.operands-eat-requires-clause-no_end
 operands-eat-requires-clause-no_end u c = ap (is t.EndOfSource) c.operator.ensures ∙ no_end c.args.level
@@ -456,7 +441,7 @@ operands-returns-in_err-operand u c =
     let r = c.from_residual in
     let m0 = open-item lv ws d at wi l.invariant.within in
     let m1 = to m0 (kept at refl (took-item lv ws at c.in-Some.next (wi, w.1, w.2))) in
-    exit (λ r. GivesRow ws d (many lv) c.args.start (λ v. map (λ o. item (under lv) (word_kind lv) (operand_shown o)) v.items) r) r.result e r.ensures.1
+    exit (λ r. GivesRow ws d (many lv) c.args.start (λ v. map (λ o. item (under lv) (word_kind lv) (operand_derivation o)) v.items) r) r.result e r.ensures.1
     (row-stops ws d c.args.start at (many lv) _ l.invariant.goes e (stops-in Many m1 e (once-stops ws d c.in-Some.next (level_part (under lv)) e (subst (λ l. Stops ws d (one (level_part l)) c.in-Some.next e) c.operand.ensures.number c.in_err-operand.ensures))))
 
 pub operands-loop-next-preserved : goal.operands-loop-next-preserved
@@ -473,7 +458,7 @@ operands-loop-next-preserved u c =
     let p = (subst (λ l. GivesLevel ws d l c.in-Some.next (Ok (c.in_ok-operand.operand, c.in_ok-operand.end))) c.operand.ensures.number c.in_ok-operand.ensures).1 in
     let m2 = to (to m0 (kept n.0 c.token_no-token.ensures (took-item lv ws at c.in-Some.next (wi, w.1, w.2)))) (once p) in
     record {
-      goes = row-more (λ o. item (under lv) (word_kind lv) (operand_shown o)) l.rest.items c.add.new.list.items _ (leaf n.0 (word_kind lv) (node (level_part (under lv)) (raise (under lv) (shown c.in_ok-operand.operand)) done)) l.invariant.goes (gone m2 (leaf n.0 (word_kind lv) (node (level_part (under lv)) (raise (under lv) (shown c.in_ok-operand.operand)) done)) refl) c.in_ok-add.ensures (ap (item (under lv) (word_kind lv)) (shown-operand n c.in_ok-operand.operand));
+      goes = row-more (λ o. item (under lv) (word_kind lv) (operand_derivation o)) l.rest.items c.add.new.list.items _ (leaf n.0 (word_kind lv) (node (level_part (under lv)) (raise (under lv) (derivation_of c.in_ok-operand.operand)) done)) l.invariant.goes (gone m2 (leaf n.0 (word_kind lv) (node (level_part (under lv)) (raise (under lv) (derivation_of c.in_ok-operand.operand)) done)) refl) c.in_ok-add.ensures (ap (item (under lv) (word_kind lv)) (derivation-operand n c.in_ok-operand.operand));
       ahead = omega (arith, l.invariant.ahead, w.1, p.ahead);
       within = p.within;
     }
@@ -515,7 +500,7 @@ negation-returns u c =
     let v = c.in_ok-marks.marks in
     let y = c.in_ok-operand.operand in
     λ h. let some = not-read v.items (c.in_ok-marks.ensures d) h in
-    level-made 7 _ _ (shown-Not v y ∙ negated-some v.items (shown y.value) some) refl w2 refl
+    level-made 7 _ _ (derivation-Not v y ∙ negated-some v.items (derivation_of y.value) some) refl w2 refl
 
 pub negation-boxed_up_to_level-requires : goal.negation-boxed_up_to_level-requires
 negation-boxed_up_to_level-requires u c =
@@ -552,14 +537,13 @@ relation-returns-in-Some u c =
     λ h. record {
       tail = λ f. node g.RelationTail inside f;
       reads = maybe (gone m2 inside refl);
-      level_is = ap (λ s. s.level) (shown-Member c.args.left n m class);
-      inside_is = ap (λ s. s.inside) (shown-Member c.args.left n m class);
+      level_is = ap (λ s. s.level) (derivation-Member c.args.left n m class);
+      inside_is = ap (λ s. s.inside) (derivation-Member c.args.left n m class);
     }
 
 pub relation-returns-in_default-relation_at : goal.relation-returns-in_default-relation_at
 relation-returns-in_default-relation_at u c =
     let ws = c.args.source.now in
-    let d = c.args.depth in
     let i = c.args.at in
     λ h. absurd (relation-stands (terminal_at ws i) h c.in_default.ensures c.in_default-relation_at.ensures)
 
@@ -589,12 +573,12 @@ relation-returns u c =
     let m = c.in-Some-relation_at.relation in
     let right = c.in_ok-right.right in
     let m2 = to m1 (once c.in_ok-right.ensures.1) in
-    let inside = leaf n.0 (relation_kind m) (node g.Concatenation (raise 5 (shown right.value)) done) in
+    let inside = leaf n.0 (relation_kind m) (node g.Concatenation (raise 5 (derivation_of right.value)) done) in
     λ h. record {
       tail = λ f. node g.RelationTail inside f;
       reads = maybe (gone m2 inside refl);
-      level_is = ap (λ s. s.level) (shown-Related c.args.left n m right);
-      inside_is = ap (λ s. s.inside) (shown-Related c.args.left n m right);
+      level_is = ap (λ s. s.level) (derivation-Related c.args.left n m right);
+      inside_is = ap (λ s. s.inside) (derivation-Related c.args.left n m right);
     }
 
 pub relation-boxed_up_to_level-requires : goal.relation-boxed_up_to_level-requires
@@ -647,15 +631,13 @@ signed_sum-returns u c =
     let w3 = to w2 c.in_ok-rest.ensures in
     let v = c.in_ok-rest.rest in
     let y = c.in_ok-first.first in
-    let fs = map term_shown v.items in
-    λ h. level-made 4 _ _ (shown-Sum sign y v ∙ summed-is sign (shown y.value) fs (sign-stands ws i start sign h c.leading_sign-sign.ensures)) refl w3 refl
+    let fs = map term_derivation v.items in
+    λ h. level-made 4 _ _ (derivation-Sum sign y v ∙ summed-is sign (derivation_of y.value) fs (sign-stands ws i start sign h c.leading_sign-sign.ensures)) refl w3 refl
 
 pub terms-loop-sign-init : goal.terms-loop-sign-init
 terms-loop-sign-init u c =
-    let ws = c.args.source.now in
-    let d = c.args.depth in
     record {
-      goes = row-start term_shown c.new-rest.result.items c.new-rest.ensures.items;
+      goes = row-start term_derivation c.new-rest.result.items c.new-rest.ensures.items;
       ahead = omega arith;
       within = c.requires.within;
     }
@@ -671,7 +653,7 @@ terms-returns-in_err-term u c =
     let r = c.from_residual in
     let m0 = opened ws d at g.NextTerm (Kept signs ∷ Of Once g.Term ∷ []) refl (one_row g.NextTerm signs (Kept signs ∷ Of Once g.Term ∷ []) (terminal_at ws at) true refl w.among) l.invariant.within in
     let m1 = to m0 (kept at refl w) in
-    exit (λ r. GivesRow ws d g.NextTerm c.args.start (λ v. map term_shown v.items) r) r.result e r.ensures.1
+    exit (λ r. GivesRow ws d g.NextTerm c.args.start (λ v. map term_derivation v.items) r) r.result e r.ensures.1
     (row-stops ws d c.args.start at g.NextTerm _ l.invariant.goes e (stops-in Many m1 e (once-stops ws d c.in-Some.next g.Term e c.in_err-term.ensures)))
 
 pub terms-loop-sign-preserved : goal.terms-loop-sign-preserved
@@ -686,7 +668,7 @@ terms-loop-sign-preserved u c =
     let p = c.in_ok-term.ensures.1 in
     let m2 = to (to m0 (kept n.0 c.token_no-token.ensures w)) (once p) in
     record {
-      goes = row-more term_shown l.rest.items c.add.new.list.items _ (leaf n.0 (sign_kind c.in-Some.sign) (node g.Term (raise 3 (shown c.in_ok-term.term)) done)) l.invariant.goes (gone m2 (leaf n.0 (sign_kind c.in-Some.sign) (node g.Term (raise 3 (shown c.in_ok-term.term)) done)) refl) c.in_ok-add.ensures (shown-term n c.in-Some.sign c.in_ok-term.term);
+      goes = row-more term_derivation l.rest.items c.add.new.list.items _ (leaf n.0 (sign_kind c.in-Some.sign) (node g.Term (raise 3 (derivation_of c.in_ok-term.term)) done)) l.invariant.goes (gone m2 (leaf n.0 (sign_kind c.in-Some.sign) (node g.Term (raise 3 (derivation_of c.in_ok-term.term)) done)) refl) c.in_ok-add.ensures (derivation-term n c.in-Some.sign c.in_ok-term.term);
       ahead = omega (arith, l.invariant.ahead, w.ahead, p.ahead);
       within = p.within;
     }
@@ -694,16 +676,13 @@ terms-loop-sign-preserved u c =
 pub terms-returns : goal.terms-returns
 terms-returns u c =
     let ws = c.args.source.now in
-    let d = c.args.depth in
     let l = c.loop-sign in
-    row-end term_shown l.rest.items l.invariant.goes (one_row g.NextTerm signs (Kept signs ∷ Of Once g.Term ∷ []) (terminal_at ws l.at) false refl c.in_default.ensures) l.invariant.ahead l.invariant.within
+    row-end term_derivation l.rest.items l.invariant.goes (one_row g.NextTerm signs (Kept signs ∷ Of Once g.Term ∷ []) (terminal_at ws l.at) false refl c.in_default.ensures) l.invariant.ahead l.invariant.within
 
 pub factors-loop-operator-init : goal.factors-loop-operator-init
 factors-loop-operator-init u c =
-    let ws = c.args.source.now in
-    let d = c.args.depth in
     record {
-      goes = row-start factor_shown c.new-rest.result.items c.new-rest.ensures.items;
+      goes = row-start factor_derivation c.new-rest.result.items c.new-rest.ensures.items;
       ahead = omega arith;
       within = c.requires.within;
     }
@@ -719,7 +698,7 @@ factors-returns-in_err-factor u c =
     let r = c.from_residual in
     let m0 = opened ws d at g.NextFactor (Kept multiplications ∷ Of Once g.Factor ∷ []) refl (one_row g.NextFactor multiplications (Kept multiplications ∷ Of Once g.Factor ∷ []) (terminal_at ws at) true refl w.among) l.invariant.within in
     let m1 = to m0 (kept at refl w) in
-    exit (λ r. GivesRow ws d g.NextFactor c.args.start (λ v. map factor_shown v.items) r) r.result e r.ensures.1
+    exit (λ r. GivesRow ws d g.NextFactor c.args.start (λ v. map factor_derivation v.items) r) r.result e r.ensures.1
     (row-stops ws d c.args.start at g.NextFactor _ l.invariant.goes e (stops-in Many m1 e (once-stops ws d c.in-Some.next g.Factor e c.in_err-factor.ensures)))
 
 pub factors-loop-operator-preserved : goal.factors-loop-operator-preserved
@@ -734,7 +713,7 @@ factors-loop-operator-preserved u c =
     let p = c.in_ok-factor.ensures.1 in
     let m2 = to (to m0 (kept n.0 c.token_no-token.ensures w)) (once p) in
     record {
-      goes = row-more factor_shown l.rest.items c.add.new.list.items _ (leaf n.0 (multiplication_kind c.in-Some.operator) (node g.Factor (raise 2 (shown c.in_ok-factor.factor)) done)) l.invariant.goes (gone m2 (leaf n.0 (multiplication_kind c.in-Some.operator) (node g.Factor (raise 2 (shown c.in_ok-factor.factor)) done)) refl) c.in_ok-add.ensures (shown-factor n c.in-Some.operator c.in_ok-factor.factor);
+      goes = row-more factor_derivation l.rest.items c.add.new.list.items _ (leaf n.0 (multiplication_kind c.in-Some.operator) (node g.Factor (raise 2 (derivation_of c.in_ok-factor.factor)) done)) l.invariant.goes (gone m2 (leaf n.0 (multiplication_kind c.in-Some.operator) (node g.Factor (raise 2 (derivation_of c.in_ok-factor.factor)) done)) refl) c.in_ok-add.ensures (derivation-factor n c.in-Some.operator c.in_ok-factor.factor);
       ahead = omega (arith, l.invariant.ahead, w.ahead, p.ahead);
       within = p.within;
     }
@@ -742,9 +721,8 @@ factors-loop-operator-preserved u c =
 pub factors-returns : goal.factors-returns
 factors-returns u c =
     let ws = c.args.source.now in
-    let d = c.args.depth in
     let l = c.loop-operator in
-    row-end factor_shown l.rest.items l.invariant.goes (one_row g.NextFactor multiplications (Kept multiplications ∷ Of Once g.Factor ∷ []) (terminal_at ws l.at) false refl c.in_default.ensures) l.invariant.ahead l.invariant.within
+    row-end factor_derivation l.rest.items l.invariant.goes (one_row g.NextFactor multiplications (Kept multiplications ∷ Of Once g.Factor ∷ []) (terminal_at ws l.at) false refl c.in_default.ensures) l.invariant.ahead l.invariant.within
 
 pub postfix-returns-in_err-first : goal.postfix-returns-in_err-first
 postfix-returns-in_err-first u c =
@@ -781,7 +759,7 @@ postfix-returns-then-is_empty u c =
     let w1 = to w0 (once c.in_ok-first.ensures.1) in
     let w2 = to w1 c.in_ok-rest.ensures in
     let none = no-items c.in_ok-rest.rest.items (sym c.in_ok-rest.rest.ok.0 ∙ eqb-true (vec_len c.in_ok-rest.rest) 0 (sym c.if-is_empty.ensures)) in
-    level-up 0 c.in_ok-first.first c.in_ok-first.ensures.0 w2 (ap (λ l. node g.Primary (raise 0 (shown c.in_ok-first.first)) (row g.Selection (map selector_shown l) done)) none)
+    level-up 0 c.in_ok-first.first c.in_ok-first.ensures.0 w2 (ap (λ l. node g.Primary (raise 0 (derivation_of c.in_ok-first.first)) (row g.Selection (map selector_derivation l) done)) none)
 
 pub postfix-returns : goal.postfix-returns
 postfix-returns u c =
@@ -795,16 +773,13 @@ postfix-returns u c =
     let some = some-items c.in_ok-rest.rest.items (vec_len c.in_ok-rest.rest) c.in_ok-rest.rest.ok.0 (sym c.if-is_empty.ensures) in
     let y = c.in_ok-primary.primary in
     let v = c.in_ok-rest.rest in
-    level-made 1 _ _ (shown-Postfix y v ∙ selected-some (shown y.value) (map selector_shown v.items) (some-mapped selector_shown v.items some)) refl w2
-    (ap (λ z. node g.Primary (raise 0 (shown z)) (row g.Selection (map selector_shown v.items) done)) (sym c.in_ok-primary.ensures.ok))
+    level-made 1 _ _ (derivation-Postfix y v ∙ selected-some (derivation_of y.value) (map selector_derivation v.items) (some-mapped selector_derivation v.items some)) refl w2
+    (ap (λ z. node g.Primary (raise 0 (derivation_of z)) (row g.Selection (map selector_derivation v.items) done)) (sym c.in_ok-primary.ensures.ok))
 
 pub selectors-loop-rest-init : goal.selectors-loop-rest-init
 selectors-loop-rest-init u c =
-    let ws = c.args.source.now in
-    let d = c.args.depth in
-    let i = c.args.start in
     record {
-      goes = row-start selector_shown c.new-rest.result.items c.new-rest.ensures.items;
+      goes = row-start selector_derivation c.new-rest.result.items c.new-rest.ensures.items;
       ahead = omega arith;
       within = c.requires.within;
     }
@@ -816,18 +791,17 @@ selectors-returns-in_err-taken u c =
     let i = c.args.start in
     let e = c.in_err-taken.field-0.0 in
     let r = c.from_residual in
-    exit (λ r. GivesRow ws d g.Selection i (λ v. map selector_shown v.items) r) r.result e r.ensures.1
+    exit (λ r. GivesRow ws d g.Selection i (λ v. map selector_derivation v.items) r) r.result e r.ensures.1
     (row-stops ws d i c.loop-rest.at g.Selection _ c.loop-rest.invariant.goes e c.in_err-taken.ensures)
 
 pub selectors-loop-rest-preserved : goal.selectors-loop-rest-preserved
 selectors-loop-rest-preserved u c =
     let ws = c.args.source.now in
     let d = c.args.depth in
-    let i = c.args.start in
     let l = c.loop-rest in
-    let p = (subst (λ r. GivesNext ws d g.Selection l.at selector_shown (Ok r)) c.in-Some.is c.in_ok-taken.ensures).1 in
+    let p = (subst (λ r. GivesNext ws d g.Selection l.at selector_derivation (Ok r)) c.in-Some.is c.in_ok-taken.ensures).1 in
     record {
-      goes = row-more selector_shown l.rest.items c.add.new.list.items c.in-Some.taken (selector_shown c.in-Some.taken) l.invariant.goes p c.in_ok-add.ensures refl;
+      goes = row-more selector_derivation l.rest.items c.add.new.list.items c.in-Some.taken (selector_derivation c.in-Some.taken) l.invariant.goes p c.in_ok-add.ensures refl;
       ahead = omega (arith, l.invariant.ahead, p.ahead);
       within = p.within;
     }
@@ -836,9 +810,8 @@ pub selectors-returns : goal.selectors-returns
 selectors-returns u c =
     let ws = c.args.source.now in
     let d = c.args.depth in
-    let i = c.args.start in
     let l = c.loop-rest in
-    row-end selector_shown l.rest.items l.invariant.goes (subst (λ r. GivesNext ws d g.Selection l.at selector_shown (Ok r)) c.in_default.is c.in_ok-taken.ensures) l.invariant.ahead l.invariant.within
+    row-end selector_derivation l.rest.items l.invariant.goes (subst (λ r. GivesNext ws d g.Selection l.at selector_derivation (Ok r)) c.in_default.is c.in_ok-taken.ensures) l.invariant.ahead l.invariant.within
 
 pub selector-returns-in_err-name : goal.selector-returns-in_err-name
 selector-returns-in_err-name u c =
@@ -851,7 +824,7 @@ selector-returns-in_err-name u c =
     let m1 = to m0 (kept n.0 c.token_no-token.ensures (took_one ws i c.in-Some.next k.Dot refl w)) in
     let e = c.in_err-name.field-0.0 in
     let r = c.from_residual in
-    exit (λ r. GivesNext ws d g.Selection i selector_shown r) r.result e r.ensures.1
+    exit (λ r. GivesNext ws d g.Selection i selector_derivation r) r.result e r.ensures.1
     (stops-in Many m1 e (c.in_err-name.ensures d))
 
 pub selector-returns-in_err-arguments : goal.selector-returns-in_err-arguments
@@ -866,7 +839,7 @@ selector-returns-in_err-arguments u c =
     let m2 = to m1 (c.in_ok-name.ensures d) in
     let e = c.in_err-arguments.field-0.0 in
     let r = c.from_residual-in_err-arguments in
-    exit (λ r. GivesNext ws d g.Selection i selector_shown r) r.result e r.ensures.1
+    exit (λ r. GivesNext ws d g.Selection i selector_derivation r) r.result e r.ensures.1
     (stops-in Many m2 e c.in_err-arguments.ensures)
 
 pub selector-returns-in-Some : goal.selector-returns-in-Some
@@ -880,12 +853,11 @@ selector-returns-in-Some u c =
     let m1 = to m0 (kept n.0 c.token_no-token.ensures (took_one ws i c.in-Some.next k.Dot refl w)) in
     let m2 = to m1 (c.in_ok-name.ensures d) in
     let m3 = to m2 c.in_ok-arguments.ensures in
-    (omega (arith, w.1, (c.in_ok-name.ensures d).ahead, c.in_ok-arguments.ensures.ahead), gone m3 _ (sym (shown-Dot n c.in_ok-name.name c.in_ok-arguments.arguments)))
+    (omega (arith, w.1, (c.in_ok-name.ensures d).ahead, c.in_ok-arguments.ensures.ahead), gone m3 _ (sym (derivation-Dot n c.in_ok-name.name c.in_ok-arguments.arguments)))
 
 pub selector-returns-in_default-eat : goal.selector-returns-in_default-eat
 selector-returns-in_default-eat u c =
     let ws = c.args.source.now in
-    let d = c.args.depth in
     let i = c.args.at in
     no_selected (terminal_at ws i) c.in_default.ensures c.in_default-eat.ensures
 
@@ -900,7 +872,7 @@ selector-returns-in_err-class u c =
     let m1 = to m0 (kept n.0 c.token_no-token.ensures (took_one ws i c.in-Some-eat.next k.Qua refl w)) in
     let e = c.in_err-class.field-0.0 in
     let r = c.from_residual-in_err-class in
-    exit (λ r. GivesNext ws d g.Selection i selector_shown r) r.result e r.ensures.1
+    exit (λ r. GivesNext ws d g.Selection i selector_derivation r) r.result e r.ensures.1
     (stops-in Many m1 e (c.in_err-class.ensures d))
 
 pub selector-returns : goal.selector-returns
@@ -913,14 +885,13 @@ selector-returns u c =
     let m0 = opened ws d i g.Selection qua_symbols refl (by_test g.Selection (terminal_at ws i) t.Qua qua_symbols w.0 selected_qua) c.requires.within in
     let m1 = to m0 (kept n.0 c.token_no-token.ensures (took_one ws i c.in-Some-eat.next k.Qua refl w)) in
     let m2 = to m1 (c.in_ok-class.ensures d) in
-    (omega (arith, w.1, (c.in_ok-class.ensures d).ahead), gone m2 _ (sym (shown-Qua n c.in_ok-class.class)))
+    (omega (arith, w.1, (c.in_ok-class.ensures d).ahead), gone m2 _ (sym (derivation-Qua n c.in_ok-class.class)))
 
 pub arguments-returns-in_default : goal.arguments-returns-in_default
 arguments-returns-in_default u c =
     let ws = c.args.source.now in
-    let d = c.args.depth in
     let i = c.args.at in
-    to-as (λ f. f) (arguments (map shown c.new.result.items)) (λ f. ap (λ l. arguments (map shown l) f) (sym c.new.ensures.items))
+    to-as (λ f. f) (arguments (map derivation_of c.new.result.items)) (λ f. ap (λ l. arguments (map derivation_of l) f) (sym c.new.ensures.items))
     (skipped (one_row g.Arguments (just t.Open) args_symbols (terminal_at ws i) false refl (just_is _ _ _ c.in_default.ensures)) c.requires.within)
 
 pub arguments-returns-in_err-list : goal.arguments-returns-in_err-list
@@ -933,7 +904,7 @@ arguments-returns-in_err-list u c =
     let m1 = to m0 (marked w) in
     let e = c.in_err-list.field-0.0 in
     let r = c.from_residual in
-    exit (λ r. GivesTo ws d (Of Maybe g.Arguments) i (λ v. arguments (map shown v.items)) r) r.result e r.ensures.1
+    exit (λ r. GivesTo ws d (Of Maybe g.Arguments) i (λ v. arguments (map derivation_of v.items)) r) r.result e r.ensures.1
     (stops-at Maybe m1 e (c.in_err-list.ensures (Mark t.Close ∷ [])))
 
 pub arguments-returns-in_err-end : goal.arguments-returns-in_err-end
@@ -947,7 +918,7 @@ arguments-returns-in_err-end u c =
     let m2 = to-list m1 c.in_ok-list.ensures.1 in
     let e = c.in_err-end.field-0.0 in
     let r = c.from_residual-in_err-end in
-    exit (λ r. GivesTo ws d (Of Maybe g.Arguments) i (λ v. arguments (map shown v.items)) r) r.result e r.ensures.1
+    exit (λ r. GivesTo ws d (Of Maybe g.Arguments) i (λ v. arguments (map derivation_of v.items)) r) r.result e r.ensures.1
     (stops-in Maybe m2 e (mark-stops ws d c.in_ok-list.next t.Close e c.in_err-end.ensures))
 
 pub arguments-returns : goal.arguments-returns
@@ -960,8 +931,8 @@ arguments-returns u c =
     let m1 = to m0 (marked w) in
     let m2 = to-list m1 c.in_ok-list.ensures.1 in
     let m3 = to m2 (marked c.in_ok-end.ensures) in
-    let l = map shown c.in_ok-list.list.items in
-    to-as (node g.Arguments (listed l done)) (arguments l) (λ f. sym (arguments-some l f (some-mapped shown c.in_ok-list.list.items c.in_ok-list.ensures.0)))
+    let l = map derivation_of c.in_ok-list.list.items in
+    to-as (node g.Arguments (listed l done)) (arguments l) (λ f. sym (arguments-some l f (some-mapped derivation_of c.in_ok-list.list.items c.in_ok-list.ensures.0)))
     (maybe (gone m3 (listed l done) refl))
 
 pub argument_list-returns-in_err-first : goal.argument_list-returns-in_err-first
@@ -976,14 +947,13 @@ argument_list-returns-in_err-first u c =
 
 pub argument_list-loop-next-init : goal.argument_list-loop-next-init
 argument_list-loop-next-init u c =
-    let ws = c.args.source.now in
     let d = c.args.depth in
     let i = c.args.start in
     let x = c.in_ok-first.first in
     let p = c.in_ok-first.ensures.1 in
     let items : c.add.new.list.items ≡ x ∷ [] = c.in_ok-add.ensures ∙ ap (λ l. l ++ x ∷ []) c.new-list.ensures.items in
     record {
-      goes = λ s. leads-as (λ f. node g.Expression (whole (shown x)) f) (listed (map shown c.add.new.list.items)) (λ f. ap (λ l. listed (map shown l) f) (sym items))
+      goes = λ s. leads-as (λ f. node g.Expression (whole (derivation_of x)) f) (listed (map derivation_of c.add.new.list.items)) (λ f. ap (λ l. listed (map derivation_of l) f) (sym items))
           (past-one (start d (Of Once g.Expression ∷ Of Many g.NextArgument ∷ s) i) p);
       some = omega (arith, ap length items);
       ahead = p.ahead;
@@ -1009,7 +979,6 @@ pub argument_list-loop-next-preserved : goal.argument_list-loop-next-preserved
 argument_list-loop-next-preserved u c =
     let ws = c.args.source.now in
     let d = c.args.depth in
-    let i = c.args.start in
     let l = c.loop-next in
     let at = l.at in
     let w = c.in-Some.ensures in
@@ -1018,9 +987,9 @@ argument_list-loop-next-preserved u c =
     let x = c.in_ok-argument.argument in
     let p = c.in_ok-argument.ensures.1 in
     let items = c.in_ok-add-2.ensures in
-    let part = gone (to m1 (once p)) (node g.Expression (whole (shown x)) done) refl in
+    let part = gone (to m1 (once p)) (node g.Expression (whole (derivation_of x)) done) refl in
     record {
-      goes = λ s. leads-as (λ h. listed (map shown l.list.items) (node g.NextArgument (argument (shown x)) h)) (listed (map shown c.add-in-Some.new.list.items)) (λ h. listed-more l.list.items c.add-in-Some.new.list.items x h l.invariant.some items)
+      goes = λ s. leads-as (λ h. listed (map derivation_of l.list.items) (node g.NextArgument (argument (derivation_of x)) h)) (listed (map derivation_of c.add-in-Some.new.list.items)) (λ h. listed-more l.list.items c.add-in-Some.new.list.items x h l.invariant.some items)
           (past-one (l.invariant.goes s) part);
       some = omega (arith, ap length items, length-append l.list.items (x ∷ []));
       ahead = omega (arith, l.invariant.ahead, w.1, p.ahead);
@@ -1030,8 +999,6 @@ argument_list-loop-next-preserved u c =
 pub argument_list-returns : goal.argument_list-returns
 argument_list-returns u c =
     let ws = c.args.source.now in
-    let d = c.args.depth in
-    let i = c.args.start in
     let l = c.loop-next in
     let none = one_row g.NextArgument (just t.Comma) more_symbols (terminal_at ws l.at) false refl (just_is _ _ _ c.in_default.ensures) in (
       l.invariant.some,
@@ -1050,7 +1017,7 @@ selector-arguments-requires u c =
 
 pub selectors-loop-rest-smaller : goal.selectors-loop-rest-smaller
 selectors-loop-rest-smaller u c =
-    let p = subst (λ r. GivesNext c.args.source.now c.args.depth g.Selection c.loop-rest.at selector_shown (Ok r)) c.in-Some.is c.in_ok-taken.ensures in
+    let p = subst (λ r. GivesNext c.args.source.now c.args.depth g.Selection c.loop-rest.at selector_derivation (Ok r)) c.in-Some.is c.in_ok-taken.ensures in
     omega (arith, p.0, p.1.within)
 
 pub named-returns-in_err-name : goal.named-returns-in_err-name
@@ -1086,7 +1053,7 @@ named-returns u c =
     λ h.
     let m0 = opened ws d i g.Primary name_symbols refl (by_test g.Primary (terminal_at ws i) t.Identifier name_symbols h primary_name) c.requires.within in
     let m1 = to m0 (c.in_ok-name.ensures d) in
-    level-made 0 _ _ (shown-Named c.in_ok-name.name c.in_ok-arguments.arguments) refl (to m1 c.in_ok-arguments.ensures) refl
+    level-made 0 _ _ (derivation-Named c.in_ok-name.name c.in_ok-arguments.arguments) refl (to m1 c.in_ok-arguments.ensures) refl
 
 pub parentheses-returns-in_err-next : goal.parentheses-returns-in_err-next
 parentheses-returns-in_err-next u c =
@@ -1094,7 +1061,6 @@ parentheses-returns-in_err-next u c =
     let d = c.args.depth in
     let i = c.args.at in
     λ h.
-    let n = c.token_no-token.result in
     let m0 = opened ws d i g.Primary open_symbols refl (by_test g.Primary (terminal_at ws i) t.Open open_symbols h primary_open) c.requires.within in
     let e = c.in_err-next.field-0.0 in
     let r = c.from_residual in
@@ -1140,7 +1106,7 @@ parentheses-returns u c =
     let m0 = opened ws d i g.Primary open_symbols refl (by_test g.Primary (terminal_at ws i) t.Open open_symbols h primary_open) c.requires.within in
     let m1 = to m0 (kept n.0 c.token_no-token.ensures (took_one ws i c.in_ok-next.next k.Open refl c.in_ok-next.ensures)) in
     let m2 = to m1 (once c.in_ok-inner.ensures.1) in
-    level-made 0 _ _ (shown-Parentheses n c.in_ok-inner.inner) refl (to m2 (marked c.in_ok-end.ensures)) refl
+    level-made 0 _ _ (derivation-Parentheses n c.in_ok-inner.inner) refl (to m2 (marked c.in_ok-end.ensures)) refl
 
 pub generator-returns-in_err-next : goal.generator-returns-in_err-next
 generator-returns-in_err-next u c =
@@ -1148,7 +1114,6 @@ generator-returns-in_err-next u c =
     let d = c.args.depth in
     let i = c.args.at in
     λ h.
-    let n = c.token_no-token.result in
     let m0 = opened ws d i g.Primary new_symbols refl (by_test g.Primary (terminal_at ws i) t.New new_symbols h primary_new) c.requires.within in
     let e = c.in_err-next.field-0.0 in
     let r = c.from_residual in
@@ -1194,7 +1159,7 @@ generator-returns u c =
     let m0 = opened ws d i g.Primary new_symbols refl (by_test g.Primary (terminal_at ws i) t.New new_symbols h primary_new) c.requires.within in
     let m1 = to m0 (kept n.0 c.token_no-token.ensures (took_one ws i c.in_ok-next.next k.New refl c.in_ok-next.ensures)) in
     let m2 = to m1 (c.in_ok-class.ensures d) in
-    level-made 0 _ _ (shown-New n c.in_ok-class.class c.in_ok-arguments.arguments) refl (to m2 c.in_ok-arguments.ensures) refl
+    level-made 0 _ _ (derivation-New n c.in_ok-class.class c.in_ok-arguments.arguments) refl (to m2 c.in_ok-arguments.ensures) refl
 
 pub primary-returns-in-Identifier : goal.primary-returns-in-Identifier
 primary-returns-in-Identifier u c =

@@ -1,7 +1,7 @@
 use Rattle.std.proofs.Common.{ℕ, ◌+◌, ◌*◌, ◌-◌, ◌<◌, ◌≤◌, length, map, List, ◌∷◌}
 use Rattle.sim_tree.specs.Grammar as g
 use Rattle.sim_tree.specs.Grammar.{Symbol, Once, Many, Of}
-use Rattle.sim_tree.specs.Shown.{shown, item, operand_shown, term_shown, factor_shown, selector_shown}
+use Rattle.sim_tree.specs.Derivation.{derivation_of, item, operand_derivation, term_derivation, factor_derivation, selector_derivation}
 use Rattle.sim_tree.proofs.Steps.{Leads}
 use Rattle.sim_expr_parser.specs.Level.{under, below_of, word_kind, many}
 use Rattle.sim_expr_parser.specs.Operators.{IsRead}
@@ -89,7 +89,7 @@ decreases-raised-loop-operators l = 14 - l.reached
 
 abbrev pub invariant-operands-loop-next : goal.invariant-operands-loop-next
 invariant-operands-loop-next l = record {
-  goes : Row l.source l.depth (many l.level) l.start (map (λ o. item (under l.level) (word_kind l.level) (operand_shown o)) l.rest.items) l.at;
+  goes : Row l.source l.depth (many l.level) l.start (map (λ o. item (under l.level) (word_kind l.level) (operand_derivation o)) l.rest.items) l.at;
   ahead : l.start ≤ l.at;
   within : l.at < length l.source;
 }
@@ -99,7 +99,7 @@ decreases-operands-loop-next l = length l.source - l.at
 
 abbrev pub invariant-terms-loop-sign : goal.invariant-terms-loop-sign
 invariant-terms-loop-sign l = record {
-  goes : Row l.source l.depth g.NextTerm l.start (map term_shown l.rest.items) l.at;
+  goes : Row l.source l.depth g.NextTerm l.start (map term_derivation l.rest.items) l.at;
   ahead : l.start ≤ l.at;
   within : l.at < length l.source;
 }
@@ -109,7 +109,7 @@ decreases-terms-loop-sign l = length l.source - l.at
 
 abbrev pub invariant-factors-loop-operator : goal.invariant-factors-loop-operator
 invariant-factors-loop-operator l = record {
-  goes : Row l.source l.depth g.NextFactor l.start (map factor_shown l.rest.items) l.at;
+  goes : Row l.source l.depth g.NextFactor l.start (map factor_derivation l.rest.items) l.at;
   ahead : l.start ≤ l.at;
   within : l.at < length l.source;
 }
@@ -119,7 +119,7 @@ decreases-factors-loop-operator l = length l.source - l.at
 
 abbrev pub invariant-selectors-loop-rest : goal.invariant-selectors-loop-rest
 invariant-selectors-loop-rest l = record {
-  goes : Row l.source l.depth g.Selection l.start (map selector_shown l.rest.items) l.at;
+  goes : Row l.source l.depth g.Selection l.start (map selector_derivation l.rest.items) l.at;
   ahead : l.start ≤ l.at;
   within : l.at < length l.source;
 }
@@ -129,7 +129,7 @@ decreases-selectors-loop-rest l = length l.source - l.at
 
 abbrev pub invariant-argument_list-loop-next : goal.invariant-argument_list-loop-next
 invariant-argument_list-loop-next l = record {
-  goes : (s : List Symbol) → Leads l.source l.depth (Of Once g.Expression ∷ Of Many g.NextArgument ∷ s) l.start (listed (map shown l.list.items)) l.depth (Of Many g.NextArgument ∷ s) l.at;
+  goes : (s : List Symbol) → Leads l.source l.depth (Of Once g.Expression ∷ Of Many g.NextArgument ∷ s) l.start (listed (map derivation_of l.list.items)) l.depth (Of Many g.NextArgument ∷ s) l.at;
   some : 0 < length l.list.items;
   ahead : l.start ≤ l.at;
   within : l.at < length l.source;

@@ -4,7 +4,7 @@ use Rattle.sim_tree.specs.declared.terminal.Terminal.TheVariants as t
 use Rattle.sim_tree.specs.Grammar as g
 use Rattle.sim_tree.specs.Grammar.{just}
 use Rattle.sim_tree.specs.Reading.{terminal_at}
-use Rattle.sim_tree.proofs.ShownLemmas.{shown-This}
+use Rattle.sim_tree.proofs.DerivationLemmas.{derivation-This}
 use Rattle.sim_expr_parser.specs.Parsing.{GivesLevel}
 use Rattle.sim_expr_parser.proofs.Tables.{by_test, just_is, primary_this, this_symbols}
 use Rattle.sim_expr_parser.proofs.Terminals.{took_one}
@@ -43,4 +43,4 @@ returns c =
     λ d h.
     let m0 = opened ws d i g.Primary this_symbols refl (by_test g.Primary (terminal_at ws i) t.This this_symbols h primary_this) c.requires.within in
     let m1 = to m0 (kept n.0 c.token_no-token.ensures (took_one ws i c.in_ok-next.next k.This refl c.in_ok-next.ensures)) in
-    level-made 0 _ _ (shown-This n c.in_ok-class.class) refl (to m1 (c.in_ok-class.ensures d)) refl
+    level-made 0 _ _ (derivation-This n c.in_ok-class.class) refl (to m1 (c.in_ok-class.ensures d)) refl

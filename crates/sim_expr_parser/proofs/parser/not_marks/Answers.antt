@@ -4,7 +4,7 @@ use Rattle.sim_tree.specs.declared.terminal.Terminal.TheVariants as t
 use Rattle.sim_tree.specs.Grammar as g
 use Rattle.sim_tree.specs.Grammar.{Kept, just}
 use Rattle.sim_tree.specs.Reading.{terminal_at, leaf, done}
-use Rattle.sim_tree.specs.Shown.{not_mark}
+use Rattle.sim_tree.specs.Derivation.{not_mark}
 use Rattle.sim_expr_parser.proofs.Terminals.{took_one}
 use Rattle.sim_expr_parser.proofs.Tables.{one_row, just_is}
 use Rattle.sim_expr_parser.proofs.Steps.{opened, to, kept, gone, row-more, row-end}

@@ -1,6 +1,6 @@
 use Rattle.std.proofs.Common.{ℕ, ◌-◌, ◌≤◌, ◌<◌, length, map}
 use Rattle.sim_tree.specs.Grammar as g
-use Rattle.sim_tree.specs.Shown.{not_mark}
+use Rattle.sim_tree.specs.Derivation.{not_mark}
 use Rattle.sim_expr_parser.proofs.Steps.{Row}
 use Rattle.sim_expr_parser.proofs.parser.not_marks.Given as goal
 

@@ -5,7 +5,7 @@ use Rattle.sim_tree.specs.declared.expr.Relation.TheVariants as relation
 use Rattle.sim_tree.specs.Terminal.{terminal_of}
 use Rattle.sim_tree.specs.Grammar.{is, relations}
 use Rattle.sim_tree.specs.Reading.{terminal_at}
-use Rattle.sim_tree.specs.Shown.{relation_kind}
+use Rattle.sim_tree.specs.Derivation.{relation_kind}
 use Rattle.sim_expr_parser.specs.Parsing.{Took}
 use Rattle.sim_expr_parser.proofs.Terminals.{took}
 use Rattle.sim_expr_parser.proofs.signs.relation_at.Goals as goal

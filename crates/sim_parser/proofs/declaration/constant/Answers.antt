@@ -7,7 +7,7 @@ use Rattle.sim_tree.specs.declared.terminal.Terminal.TheVariants as t
 use Rattle.sim_tree.specs.Grammar as g
 use Rattle.sim_tree.specs.Grammar.{is, just}
 use Rattle.sim_tree.specs.Reading.{kind_at}
-use Rattle.sim_tree.specs.ShownProgram.{constant_shown}
+use Rattle.sim_tree.specs.ProgramDerivation.{constant_derivation}
 use Rattle.sim_tree.specs.Tree.{ReadsPart}
 use Rattle.sim_expr_parser.proofs.Terminals.{kind_read}
 use Rattle.sim_parser.proofs.DeclarationConstants.{constants, not_integer, no_constant, among_at, reads_integer, reads_made, fails_signed, fails_plain}
@@ -26,7 +26,7 @@ returns-in-Integer c = λ d.
     let within : j < length ws = search rules in
     let fits : SFits w64 c.in-Integer.value = search rules in
     let kind : kind_at ws j ≡ k.Integer c.in-Integer.value = sym (kind_read ws j x.result within (x.is ∙ ap (λ z. slice_index_or z j x.result) same)) ∙ ap (λ y. y.kind) x.is ∙ c.in-Integer.is in
-    subst (λ z. ReadsPart ws d g.Constant i (constant_shown (constant.Integer s n z)) (j + 1)) (sym (to_z-of_z w64 c.in-Integer.value fits))
+    subst (λ z. ReadsPart ws d g.Constant i (constant_derivation (constant.Integer s n z)) (j + 1)) (sym (to_z-of_z w64 c.in-Integer.value fits))
     (reads_integer ws d i j s n c.in-Integer.value c.tokens-tokens.ensures.whole.ended c.requires.within within c.leading_sign-sign.ensures c.token_no-token.ensures kind)
 
 pub returns-then-is_some : goal.returns-then-is_some

@@ -3,8 +3,8 @@ use Rattle.sim_tree.specs.declared.terminal.Terminal.TheVariants as t
 use Rattle.sim_tree.specs.Grammar as g
 use Rattle.sim_tree.specs.Grammar.{Of, Maybe, just}
 use Rattle.sim_tree.specs.Reading.{terminal_at, done, node}
-use Rattle.sim_tree.specs.Shown.{identifier}
-use Rattle.sim_tree.specs.ShownProgram.{constant_shown, variable_shown}
+use Rattle.sim_tree.specs.Derivation.{identifier}
+use Rattle.sim_tree.specs.ProgramDerivation.{constant_derivation, variable_derivation}
 use Rattle.sim_expr_parser.proofs.Tables.{one_row, just_is}
 use Rattle.sim_expr_parser.proofs.Steps.{exit, opened, to, gone, once, maybe, skipped, marked, stops, stops-in, once-stops}
 use Rattle.sim_parser.specs.Parsing.{GivesPart}
@@ -16,7 +16,7 @@ pub returns-in_err-name : goal.returns-in_err-name
 returns-in_err-name c = λ d.
     let e = c.in_err-name.field-0.0 in
     let r = c.from_residual in
-    exit (λ r. GivesPart c.args.source.now d g.Variable c.args.at variable_shown r) r.result e r.ensures.1
+    exit (λ r. GivesPart c.args.source.now d g.Variable c.args.at variable_derivation r) r.result e r.ensures.1
     (first-stops c.args.source.now d c.args.at g.Variable (just t.Identifier) (Of Maybe g.Value ∷ []) refl refl c.requires.within e (c.in_err-name.ensures d (Of Maybe g.Value ∷ [])))
 
 pub eat-requires-clause-within : goal.eat-requires-clause-within
@@ -40,7 +40,7 @@ returns-in_err-constant c = λ d.
     let m1 = to m0 (marked w) in
     let e = c.in_err-constant.field-0.0 in
     let r = c.from_residual-in_err-constant in
-    exit (λ r. GivesPart ws d g.Variable c.args.at variable_shown r) r.result e r.ensures.1
+    exit (λ r. GivesPart ws d g.Variable c.args.at variable_derivation r) r.result e r.ensures.1
     (stops w1 e (stops-in Maybe m1 e (once-stops ws d c.in-Some.next g.Constant e (c.in_err-constant.ensures d))))
 
 pub returns : goal.returns
@@ -52,4 +52,4 @@ returns c = λ d.
     let w1 = opened-past ws d c.args.at at g.Variable (just t.Identifier) (Of Maybe g.Value ∷ []) (identifier c.in_ok-name.name) refl refl c.requires.within name in
     let m0 = opened ws d at g.Value value_symbols refl (one_row g.Value (just t.Equal) value_symbols (terminal_at ws at) true refl (just_is _ _ _ w.0)) name.within in
     let m1 = to m0 (marked w) in
-    gone (to w1 (maybe (gone (to m1 (once (c.in_ok-constant.ensures d))) (node g.Constant (constant_shown c.in_ok-constant.constant) done) refl))) _ refl
+    gone (to w1 (maybe (gone (to m1 (once (c.in_ok-constant.ensures d))) (node g.Constant (constant_derivation c.in_ok-constant.constant) done) refl))) _ refl

@@ -4,7 +4,7 @@ use Rattle.sim_tree.specs.declared.terminal.Terminal.TheVariants as t
 use Rattle.sim_tree.specs.Grammar as g
 use Rattle.sim_tree.specs.Grammar.{Of, Once, Maybe, Many, Kept, Mark, just}
 use Rattle.sim_tree.specs.Reading.{terminal_at, done, leaf}
-use Rattle.sim_tree.specs.ShownProgram.{for_element_shown, expr}
+use Rattle.sim_tree.specs.ProgramDerivation.{for_element_derivation, expr}
 use Rattle.sim_expr_parser.proofs.Tables.{only, by_test}
 use Rattle.sim_expr_parser.proofs.Terminals.{took_one}
 use Rattle.sim_expr_parser.proofs.Steps.{exit, opened, to, gone, once, maybe, skipped, marked, kept, stops, stops-in, once-stops, mark-stops}
@@ -20,7 +20,7 @@ returns-in_err-value c =
     let w0 = opened ws d i g.ForElement element_symbols refl (only g.ForElement element_symbols (terminal_at ws i) refl) c.requires.within in
     let e = c.in_err-value.field-0.0 in
     let r = c.from_residual in
-    exit (λ r. GivesPart ws d g.ForElement i for_element_shown r) r.result e r.ensures.1
+    exit (λ r. GivesPart ws d g.ForElement i for_element_derivation r) r.result e r.ensures.1
     (stops w0 e (once-stops ws d i g.Expression e c.in_err-value.ensures))
 
 pub returns-in_err-step : goal.returns-in_err-step
@@ -38,7 +38,7 @@ returns-in_err-step c =
     let m1 = to m0 (kept n.0 c.token_no-token.ensures (took_one ws at c.in-Some.next k.Step refl w)) in
     let e = c.in_err-step.field-0.0 in
     let r = c.from_residual-in_err-step in
-    exit (λ r. GivesPart ws d g.ForElement i for_element_shown r) r.result e r.ensures.1
+    exit (λ r. GivesPart ws d g.ForElement i for_element_derivation r) r.result e r.ensures.1
     (stops w1 e (stops-in Maybe m1 e (once-stops ws d c.in-Some.next g.Expression e c.in_err-step.ensures)))
 
 pub returns-in_err-next : goal.returns-in_err-next
@@ -57,7 +57,7 @@ returns-in_err-next c =
     let m2 = to m1 (once c.in_ok-step.ensures.1) in
     let e = c.in_err-next.field-0.0 in
     let r = c.from_residual-in_err-next in
-    exit (λ r. GivesPart ws d g.ForElement i for_element_shown r) r.result e r.ensures.1
+    exit (λ r. GivesPart ws d g.ForElement i for_element_derivation r) r.result e r.ensures.1
     (stops w1 e (stops-in Maybe m2 e (mark-stops ws d c.in_ok-step.next t.Until e c.in_err-next.ensures)))
 
 pub returns-in_err-limit : goal.returns-in_err-limit
@@ -77,7 +77,7 @@ returns-in_err-limit c =
     let m3 = to m2 (marked c.in_ok-next.ensures) in
     let e = c.in_err-limit.field-0.0 in
     let r = c.from_residual-in_err-limit in
-    exit (λ r. GivesPart ws d g.ForElement i for_element_shown r) r.result e r.ensures.1
+    exit (λ r. GivesPart ws d g.ForElement i for_element_derivation r) r.result e r.ensures.1
     (stops w1 e (stops-in Maybe m3 e (once-stops ws d c.in_ok-next.next g.Expression e c.in_err-limit.ensures)))
 
 pub returns-in-Some : goal.returns-in-Some
@@ -123,7 +123,7 @@ returns-in_err-condition c =
     let m1 = to m0 (kept n.0 c.token_no-token.ensures (took_one ws at c.in-Some-eat.next k.While refl w)) in
     let e = c.in_err-condition.field-0.0 in
     let r = c.from_residual-in_err-condition in
-    exit (λ r. GivesPart ws d g.ForElement i for_element_shown r) r.result e r.ensures.1
+    exit (λ r. GivesPart ws d g.ForElement i for_element_derivation r) r.result e r.ensures.1
     (stops w1 e (stops-in Maybe m1 e (once-stops ws d c.in-Some-eat.next g.Expression e c.in_err-condition.ensures)))
 
 pub returns : goal.returns

@@ -4,7 +4,7 @@ use Rattle.sim_tree.specs.declared.terminal.Terminal.TheVariants as t
 use Rattle.sim_tree.specs.Grammar as g
 use Rattle.sim_tree.specs.Grammar.{Of, Once, Maybe, Many, Kept, Mark, just}
 use Rattle.sim_tree.specs.Reading.{terminal_at, done, leaf}
-use Rattle.sim_tree.specs.ShownProgram.{reference_element_shown, expr}
+use Rattle.sim_tree.specs.ProgramDerivation.{reference_element_derivation, expr}
 use Rattle.sim_expr_parser.proofs.Tables.{only, one_row, just_is}
 use Rattle.sim_expr_parser.proofs.Terminals.{took_one}
 use Rattle.sim_expr_parser.proofs.Steps.{exit, opened, to, gone, once, maybe, skipped, kept, stops, stops-in, once-stops}
@@ -20,7 +20,7 @@ returns-in_err-value c =
     let w0 = opened ws d i g.ReferenceElement reference_symbols refl (only g.ReferenceElement reference_symbols (terminal_at ws i) refl) c.requires.within in
     let e = c.in_err-value.field-0.0 in
     let r = c.from_residual in
-    exit (λ r. GivesPart ws d g.ReferenceElement i reference_element_shown r) r.result e r.ensures.1
+    exit (λ r. GivesPart ws d g.ReferenceElement i reference_element_derivation r) r.result e r.ensures.1
     (stops w0 e (once-stops ws d i g.Expression e c.in_err-value.ensures))
 
 pub returns-in_default : goal.returns-in_default
@@ -49,7 +49,7 @@ returns-in_err-condition c =
     let m1 = to m0 (kept n.0 c.token_no-token.ensures (took_one ws at c.in-Some.next k.While refl w)) in
     let e = c.in_err-condition.field-0.0 in
     let r = c.from_residual-in_err-condition in
-    exit (λ r. GivesPart ws d g.ReferenceElement i reference_element_shown r) r.result e r.ensures.1
+    exit (λ r. GivesPart ws d g.ReferenceElement i reference_element_derivation r) r.result e r.ensures.1
     (stops w1 e (stops-in Maybe m1 e (once-stops ws d c.in-Some.next g.Expression e c.in_err-condition.ensures)))
 
 pub returns : goal.returns

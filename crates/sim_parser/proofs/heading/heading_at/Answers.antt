@@ -4,7 +4,7 @@ use Rattle.sim_tree.specs.Grammar as g
 use Rattle.sim_tree.specs.Grammar.{Once}
 use Rattle.sim_tree.specs.Reading.{terminal_at, fails-part}
 use Rattle.sim_tree.specs.Claim.{one}
-use Rattle.sim_tree.specs.ShownProgram.{heading_shown}
+use Rattle.sim_tree.specs.ProgramDerivation.{heading_derivation}
 use Rattle.sim_expr_parser.specs.Parsing.{Stops}
 use Rattle.sim_expr_parser.proofs.Steps.{opened, to, stops, stops-at, gone, exit, once, once-stops, marked, mark-stops}
 use Rattle.sim_expr_parser.proofs.Tables.{by_test}
@@ -28,7 +28,7 @@ returns-in_err-next c = λ d.
     let e = c.in_err-next.field-0.0 in
     let r = c.from_residual in
     let h = c.in_err-next.ensures in
-    exit (λ r. GivesPart ws d g.Heading i (λ h. heading_shown h.parameters.items h.modes.items h.specifications.items) r) r.result e r.ensures.1
+    exit (λ r. GivesPart ws d g.Heading i (λ h. heading_derivation h.parameters.items h.modes.items h.specifications.items) r) r.result e r.ensures.1
     (subst (λ z. Stops ws d (one g.Heading) i z) (sym h.1) (fails-part (heading-row (terminal_at ws i) false false h.0 c.in_default.ensures) refl))
 
 pub returns-in_err-parameters : goal.returns-in_err-parameters
@@ -38,7 +38,7 @@ returns-in_err-parameters c = λ d.
     let w1 = open-parameters ws d i c.in_ok-next.next c.requires.within c.in_ok-next.ensures in
     let e = c.in_err-parameters.field-0.0 in
     let r = c.from_residual-in_err-parameters in
-    exit (λ r. GivesPart ws d g.Heading i (λ h. heading_shown h.parameters.items h.modes.items h.specifications.items) r) r.result e r.ensures.1
+    exit (λ r. GivesPart ws d g.Heading i (λ h. heading_derivation h.parameters.items h.modes.items h.specifications.items) r) r.result e r.ensures.1
     (stops w1 e (once-stops ws d c.in_ok-next.next g.Identifiers e (c.in_err-parameters.ensures d)))
 
 pub expect-requires-2-clause-within : goal.expect-requires-2-clause-within
@@ -52,7 +52,7 @@ returns-in_err-next-2 c = λ d.
     let w2 = to w1 (once (c.in_ok-parameters.ensures d)) in
     let e = c.in_err-next-2.field-0.0 in
     let r = c.from_residual-in_err-next-2 in
-    exit (λ r. GivesPart ws d g.Heading i (λ h. heading_shown h.parameters.items h.modes.items h.specifications.items) r) r.result e r.ensures.1
+    exit (λ r. GivesPart ws d g.Heading i (λ h. heading_derivation h.parameters.items h.modes.items h.specifications.items) r) r.result e r.ensures.1
     (stops w2 e (mark-stops ws d c.in_ok-parameters.next t.Close e c.in_err-next-2.ensures))
 
 pub returns-in_err-next-3 : goal.returns-in_err-next-3
@@ -64,7 +64,7 @@ returns-in_err-next-3 c = λ d.
     let w3 = to w2 (marked c.in_ok-next-2.ensures) in
     let e = c.in_err-next-3.field-0.0 in
     let r = c.from_residual-in_err-next-3 in
-    exit (λ r. GivesPart ws d g.Heading i (λ h. heading_shown h.parameters.items h.modes.items h.specifications.items) r) r.result e r.ensures.1
+    exit (λ r. GivesPart ws d g.Heading i (λ h. heading_derivation h.parameters.items h.modes.items h.specifications.items) r) r.result e r.ensures.1
     (stops w3 e (mark-stops ws d c.in_ok-next-2.next t.Semicolon e c.in_err-next-3.ensures))
 
 pub returns-in_err-modes : goal.returns-in_err-modes
@@ -77,7 +77,7 @@ returns-in_err-modes c = λ d.
     let w4 = to w3 (marked c.in_ok-next-3.ensures) in
     let e = c.in_err-modes.field-0.0 in
     let r = c.from_residual-in_err-modes in
-    exit (λ r. GivesPart ws d g.Heading i (λ h. heading_shown h.parameters.items h.modes.items h.specifications.items) r) r.result e r.ensures.1
+    exit (λ r. GivesPart ws d g.Heading i (λ h. heading_derivation h.parameters.items h.modes.items h.specifications.items) r) r.result e r.ensures.1
     (stops w4 e (c.in_err-modes.ensures d))
 
 pub specifications-requires : goal.specifications-requires
@@ -94,7 +94,7 @@ returns-in_err-specifications c = λ d.
     let w5 = to w4 (c.in_ok-modes.ensures d) in
     let e = c.in_err-specifications.field-0.0 in
     let r = c.from_residual-in_err-specifications in
-    exit (λ r. GivesPart ws d g.Heading i (λ h. heading_shown h.parameters.items h.modes.items h.specifications.items) r) r.result e r.ensures.1
+    exit (λ r. GivesPart ws d g.Heading i (λ h. heading_derivation h.parameters.items h.modes.items h.specifications.items) r) r.result e r.ensures.1
     (stops-at Once w5 e (c.in_err-specifications.ensures d) [])
 
 pub returns : goal.returns

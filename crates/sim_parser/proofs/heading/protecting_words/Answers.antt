@@ -3,7 +3,7 @@ use Rattle.std.specs.Option.{is_some}
 use Rattle.sim_tree.specs.Grammar as g
 use Rattle.sim_tree.specs.Grammar.{right_side}
 use Rattle.sim_tree.specs.Reading.{terminal_at}
-use Rattle.sim_tree.specs.ShownProgram.{protecting}
+use Rattle.sim_tree.specs.ProgramDerivation.{protecting}
 use Rattle.sim_parser.specs.Fronts.{ReadsFront, names_row}
 use Rattle.sim_parser.proofs.HeadingSteps.{hidden-front, protected-front, no-words}
 use Rattle.sim_parser.proofs.heading.protecting_words.Goals as goal

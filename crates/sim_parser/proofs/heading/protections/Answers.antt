@@ -2,7 +2,7 @@ use Rattle.std.proofs.Common.{arith, refl, map}
 use Rattle.sim_tree.specs.Grammar as g
 use Rattle.sim_tree.specs.Grammar.{Many}
 use Rattle.sim_tree.specs.Reading.{done, node}
-use Rattle.sim_tree.specs.ShownProgram.{ids, protecting, protection_shown}
+use Rattle.sim_tree.specs.ProgramDerivation.{ids, protecting, protection_derivation}
 use Rattle.sim_expr_parser.specs.Parsing.{GivesRow}
 use Rattle.sim_expr_parser.proofs.Steps.{exit, row-more, row-end, row-stops}
 use Rattle.sim_parser.proofs.HeadingSteps.{names-end, names-first-stop, names-last-stop}
@@ -17,7 +17,7 @@ returns-in_err-names c = λ d.
     let l = c.loop-words in
     let e = c.in_err-names.field-0.0 in
     let r = c.from_residual in
-    exit (λ r. GivesRow ws d g.Protection c.args.start (λ v. map protection_shown v.items) r) r.result e r.ensures.1
+    exit (λ r. GivesRow ws d g.Protection c.args.start (λ v. map protection_derivation v.items) r) r.result e r.ensures.1
     (row-stops ws d c.args.start l.at g.Protection _ (l.invariant.goes d) e (λ s. (c.in-Some.ensures d).fails e (names-first-stop ws d c.in-Some.next e (c.in_err-names.ensures d)) s Many))
 
 pub expect-requires-clause-within : goal.expect-requires-clause-within
@@ -30,7 +30,7 @@ returns-in_err-end c = λ d.
     let e = c.in_err-end.field-0.0 in
     let r = c.from_residual-in_err-end in
     let q = c.in-Some.ensures d in
-    exit (λ r. GivesRow ws d g.Protection c.args.start (λ v. map protection_shown v.items) r) r.result e r.ensures.1
+    exit (λ r. GivesRow ws d g.Protection c.args.start (λ v. map protection_derivation v.items) r) r.result e r.ensures.1
     (row-stops ws d c.args.start l.at g.Protection _ (l.invariant.goes d) e (λ s. q.fails e (names-last-stop e q.within (c.in_ok-names.ensures d) c.in_err-end.ensures) s Many))
 
 pub loop-words-smaller : goal.loop-words-smaller
@@ -44,7 +44,7 @@ loop-words-preserved c =
     record {
       goes = λ d.
           let q = c.in-Some.ensures d in
-          row-more protection_shown l.list.items c.push.new.self.items _ f (l.invariant.goes d) (q.reads _ _ (names-end c.in_ok-names.names.items q.within (c.in_ok-names.ensures d) c.in_ok-end.ensures)) c.in_ok-push.ensures.items refl;
+          row-more protection_derivation l.list.items c.push.new.self.items _ f (l.invariant.goes d) (q.reads _ _ (names-end c.in_ok-names.names.items q.within (c.in_ok-names.ensures d) c.in_ok-end.ensures)) c.in_ok-push.ensures.items refl;
       ahead = omega (arith, l.invariant.ahead, (c.in-Some.ensures 0).ahead, (c.in_ok-names.ensures 0).ahead, c.in_ok-end.ensures.1);
       within = c.in_ok-end.ensures.2;
     }
@@ -52,4 +52,4 @@ loop-words-preserved c =
 pub returns : goal.returns
 returns c = λ d.
     let l = c.loop-words in
-    row-end protection_shown l.list.items (l.invariant.goes d) c.in_default.ensures l.invariant.ahead l.invariant.within
+    row-end protection_derivation l.list.items (l.invariant.goes d) c.in_default.ensures l.invariant.ahead l.invariant.within

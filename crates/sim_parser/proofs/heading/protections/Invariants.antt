@@ -1,12 +1,12 @@
 use Rattle.std.proofs.Common.{ℕ, ◌-◌, ◌≤◌, ◌<◌, length, map}
 use Rattle.sim_tree.specs.Grammar as g
-use Rattle.sim_tree.specs.ShownProgram.{protection_shown}
+use Rattle.sim_tree.specs.ProgramDerivation.{protection_derivation}
 use Rattle.sim_expr_parser.proofs.Steps.{Row}
 use Rattle.sim_parser.proofs.heading.protections.Given as goal
 
 abbrev pub invariant-loop-words : goal.invariant-loop-words
 invariant-loop-words l = record {
-  goes : (d : ℕ) → Row l.source d g.Protection l.start (map protection_shown l.list.items) l.at;
+  goes : (d : ℕ) → Row l.source d g.Protection l.start (map protection_derivation l.list.items) l.at;
   ahead : l.start ≤ l.at;
   within : l.at < length l.source;
 }

@@ -3,7 +3,7 @@ use Rattle.sim_tree.specs.declared.terminal.Terminal.TheVariants as t
 use Rattle.sim_tree.specs.Grammar as g
 use Rattle.sim_tree.specs.Grammar.{is}
 use Rattle.sim_tree.specs.Reading.{terminal_at}
-use Rattle.sim_tree.specs.ShownProgram.{typed}
+use Rattle.sim_tree.specs.ProgramDerivation.{typed}
 use Rattle.sim_expr_parser.proofs.Steps.{opened, to, once, exit}
 use Rattle.sim_expr_parser.proofs.Tables.{by_test}
 use Rattle.sim_expr_parser.proofs.Terminals.{made_is}

@@ -4,7 +4,7 @@ use Rattle.sim_tree.specs.declared.terminal.Terminal.TheVariants as t
 use Rattle.sim_tree.specs.Grammar as g
 use Rattle.sim_tree.specs.Grammar.{is}
 use Rattle.sim_tree.specs.Reading.{terminal_at}
-use Rattle.sim_tree.specs.ShownProgram.{specifier_shown}
+use Rattle.sim_tree.specs.ProgramDerivation.{specifier_derivation}
 use Rattle.sim_expr_parser.proofs.Steps.{opened, to, once, kept, exit}
 use Rattle.sim_expr_parser.proofs.Tables.{by_test}
 use Rattle.sim_expr_parser.proofs.Terminals.{took_one}
@@ -26,7 +26,7 @@ returns-in_err-element c = λ d.
     let i = c.args.at in
     let e = c.in_err-element.field-0.0 in
     let r = c.from_residual in
-    exit (λ r. GivesFront ws d g.Specification i specifier_shown names_row r) r.result e r.ensures.1
+    exit (λ r. GivesFront ws d g.Specification i specifier_derivation names_row r) r.result e r.ensures.1
     (type-stops ws d i c.requires.within c.in_default.ensures e (c.in_err-element.ensures d)).0
 
 pub token_no-token-requires-2 : goal.token_no-token-requires-2

@@ -4,10 +4,9 @@ use Rattle.sim_tree.specs.declared.terminal.Terminal.TheVariants as t
 use Rattle.sim_tree.specs.Grammar as g
 use Rattle.sim_tree.specs.Grammar.{Of, Many, Kept, just}
 use Rattle.sim_tree.specs.Reading.{done}
-use Rattle.sim_tree.specs.Shown.{identifier}
-use Rattle.sim_tree.specs.ShownProgram.{ids}
-use Rattle.sim_expr_parser.specs.Parsing.{GivesTo}
-use Rattle.sim_parser.specs.CommaLists.{listed_with}
+use Rattle.sim_tree.specs.Derivation.{identifier}
+use Rattle.sim_tree.specs.ProgramDerivation.{ids}
+use Rattle.sim_parser.specs.CommaLists.{ReadsAt, listed_with}
 use Rattle.sim_parser.proofs.ListSteps.{items-all}
 use Rattle.sim_parser.proofs.DeclarationSteps.{kept-part}
 use Rattle.sim_parser.proofs.names.identifiers.Goals as goal
@@ -22,10 +21,10 @@ returns c = λ d.
     let i = c.args.start in
     kept-part ws d i g.Identifiers (just t.Identifier) (Of Many g.NextIdentifier ∷ []) (λ v. ids v.items) refl refl c.requires.within c.comma_list.result
     (items-all ws d i (Kept (just t.Identifier)) g.NextIdentifier identifier (λ v. ids v.items) (λ v. same v.items) c.comma_list.result
-    (c.comma_list.ensures d (Kept (just t.Identifier)) g.NextIdentifier identifier (refl, refl) (λ j r h p. let k = p.said-raw.1.1.0.ensures d in search rules)))
+    (c.comma_list.ensures d (Kept (just t.Identifier)) g.NextIdentifier identifier (refl, refl) (λ j r h p. let here : ReadsAt ws (Kept (just t.Identifier)) identifier j r = search rules in here.each d)))
 
 pub comma_list-requires-clause-reader : goal.comma_list-requires-clause-reader
 comma_list-requires-clause-reader c = record {
   callable = λ i h. search rules;
-  ahead = λ i x j h p. let q : GivesTo c.args.source.now 0 (Kept (just t.Identifier)) i identifier (Ok (x, j)) = let k = p.said-raw.1.1.0.ensures 0 in search rules in (q.ahead, q.within);
+  ahead = λ i x j h p. let here : ReadsAt c.args.source.now (Kept (just t.Identifier)) identifier i (Ok (x, j)) = search rules in ((here.each 0).ahead, (here.each 0).within);
 }

@@ -4,8 +4,8 @@ use Rattle.sim_tree.specs.declared.terminal.Terminal.TheVariants as t
 use Rattle.sim_tree.specs.Grammar as g
 use Rattle.sim_tree.specs.Grammar.{is, right_side}
 use Rattle.sim_tree.specs.Reading.{terminal_at, leaf, done}
-use Rattle.sim_tree.specs.Shown.{identifier}
-use Rattle.sim_tree.specs.ShownProgram.{type_shown}
+use Rattle.sim_tree.specs.Derivation.{identifier}
+use Rattle.sim_tree.specs.ProgramDerivation.{type_derivation}
 use Rattle.sim_expr_parser.proofs.Steps.{to, stops, gone, marked, mark-stops, exit}
 use Rattle.sim_parser.specs.Parsing.{GivesPart}
 use Rattle.sim_parser.proofs.NameSteps.{simple-type, no-types, no-type-stops, opened-ref}
@@ -33,7 +33,7 @@ returns-in_err-next c = λ d.
     let i = c.args.at in
     let e = c.in_err-next.field-0.0 in
     let none = no-types (terminal_at ws i) c.in_default.ensures c.in_default-eat.ensures c.in_default-eat-2.ensures c.in_default-eat-3.ensures c.in_err-next.ensures.0 in
-    exit (λ r. GivesPart ws d g.TypeName i type_shown r) c.from_residual.result e c.from_residual.ensures.1
+    exit (λ r. GivesPart ws d g.TypeName i type_derivation r) c.from_residual.result e c.from_residual.ensures.1
     (no-type-stops ws d i e none c.in_err-next.ensures.1)
 
 pub returns-in_err-next-2 : goal.returns-in_err-next-2
@@ -43,7 +43,7 @@ returns-in_err-next-2 c = λ d.
     let e = c.in_err-next-2.field-0.0 in
     let r = c.from_residual-in_err-next-2 in
     let w0 = opened-ref ws d i c.in_ok-next.next c.token_no-token.result c.in_ok-next.ensures c.token_no-token.ensures c.requires.within in
-    exit (λ r. GivesPart ws d g.TypeName i type_shown r) r.result e r.ensures.1
+    exit (λ r. GivesPart ws d g.TypeName i type_derivation r) r.result e r.ensures.1
     (stops w0 e (mark-stops ws d c.in_ok-next.next t.Open e c.in_err-next-2.ensures))
 
 pub returns-in_err-class : goal.returns-in_err-class
@@ -54,7 +54,7 @@ returns-in_err-class c = λ d.
     let r = c.from_residual-in_err-class in
     let w0 = opened-ref ws d i c.in_ok-next.next c.token_no-token.result c.in_ok-next.ensures c.token_no-token.ensures c.requires.within in
     let w1 = to w0 (marked c.in_ok-next-2.ensures) in
-    exit (λ r. GivesPart ws d g.TypeName i type_shown r) r.result e r.ensures.1
+    exit (λ r. GivesPart ws d g.TypeName i type_derivation r) r.result e r.ensures.1
     (stops w1 e (c.in_err-class.ensures d))
 
 pub expect-requires-3-clause-within : goal.expect-requires-3-clause-within
@@ -68,7 +68,7 @@ returns-in_err-end c = λ d.
     let r = c.from_residual-in_err-end in
     let w0 = opened-ref ws d i c.in_ok-next.next c.token_no-token.result c.in_ok-next.ensures c.token_no-token.ensures c.requires.within in
     let w2 = to (to w0 (marked c.in_ok-next-2.ensures)) (c.in_ok-class.ensures d) in
-    exit (λ r. GivesPart ws d g.TypeName i type_shown r) r.result e r.ensures.1
+    exit (λ r. GivesPart ws d g.TypeName i type_derivation r) r.result e r.ensures.1
     (stops w2 e (mark-stops ws d c.in_ok-class.next t.Close e c.in_err-end.ensures))
 
 pub returns : goal.returns

@@ -4,7 +4,7 @@ use Rattle.sim_base.specs.declared.token.TokenKind.TheVariants as k
 use Rattle.sim_tree.specs.declared.terminal.Terminal.TheVariants as t
 use Rattle.sim_tree.specs.Grammar.{Kept, is}
 use Rattle.sim_tree.specs.Reading.{leaf, terminal_at}
-use Rattle.sim_tree.specs.ShownProgram.{activation_kind}
+use Rattle.sim_tree.specs.ProgramDerivation.{activation_kind}
 use Rattle.sim_expr_parser.specs.Parsing.{GivesTo}
 use Rattle.sim_expr_parser.proofs.Terminals.{took}
 use Rattle.sim_expr_parser.proofs.Steps.{exit, kept, kept-stops}

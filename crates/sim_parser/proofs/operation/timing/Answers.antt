@@ -4,7 +4,7 @@ use Rattle.sim_tree.specs.declared.terminal.Terminal.TheVariants as t
 use Rattle.sim_tree.specs.Grammar as g
 use Rattle.sim_tree.specs.Grammar.{Maybe, Of, is}
 use Rattle.sim_tree.specs.Reading.{terminal_at, leaf, done}
-use Rattle.sim_tree.specs.ShownProgram.{expr, prior_shown, timing_shown}
+use Rattle.sim_tree.specs.ProgramDerivation.{expr, prior_derivation, timing_derivation}
 use Rattle.sim_expr_parser.proofs.Terminals.{took}
 use Rattle.sim_expr_parser.proofs.Tables.{by_test}
 use Rattle.sim_expr_parser.proofs.Steps.{exit, opened, to, kept, gone, once, once-stops, stops-in}
@@ -23,7 +23,7 @@ returns-in_err-time c =
     let m0 = opened ws d at g.Timing time_symbols refl (by_test g.Timing (terminal_at ws at) t.At time_symbols w.0 timing_at) c.requires.within in
     let m1 = to m0 (kept at refl (took ws at c.in-Some.next times k.At refl refl w)) in
     let e = c.in_err-time.field-0.0 in
-    exit (λ r. GivesAll ws d (Of Maybe g.Timing ∷ []) at timing_shown r) c.from_residual.result e c.from_residual.ensures.1
+    exit (λ r. GivesAll ws d (Of Maybe g.Timing ∷ []) at timing_derivation r) c.from_residual.result e c.from_residual.ensures.1
     (stops-in Maybe m1 e (once-stops ws d c.in-Some.next g.Expression e c.in_err-time.ensures) [])
 
 pub returns-in-Some : goal.returns-in-Some
@@ -36,7 +36,7 @@ returns-in-Some c =
     let m0 = opened ws d at g.Timing time_symbols refl (by_test g.Timing (terminal_at ws at) t.At time_symbols w.0 timing_at) c.requires.within in
     let n = c.token_no-token.result in
     let m2 = to (to m0 (kept n.0 c.token_no-token.ensures (took ws at c.in-Some.next times k.At refl refl w))) (once c.in_ok-time.ensures.1) in
-    maybe-all (closed-by m2 (prior_shown c.prior-prior.result.0) (c.prior-prior.ensures d) (leaf n.0 k.At (expr c.in_ok-time.time (prior_shown c.prior-prior.result.0))) refl) c.requires.within
+    maybe-all (closed-by m2 (prior_derivation c.prior-prior.result.0) (c.prior-prior.ensures d) (leaf n.0 k.At (expr c.in_ok-time.time (prior_derivation c.prior-prior.result.0))) refl) c.requires.within
 
 pub returns-in_err-time-2 : goal.returns-in_err-time-2
 unfolding is
@@ -48,7 +48,7 @@ returns-in_err-time-2 c =
     let m0 = opened ws d at g.Timing time_symbols refl (by_test g.Timing (terminal_at ws at) t.Delay time_symbols w.0 timing_delay) c.requires.within in
     let m1 = to m0 (kept at refl (took ws at c.in-Some-eat.next times k.Delay refl refl w)) in
     let e = c.in_err-time-2.field-0.0 in
-    exit (λ r. GivesAll ws d (Of Maybe g.Timing ∷ []) at timing_shown r) c.from_residual-in_err-time-2.result e c.from_residual-in_err-time-2.ensures.1
+    exit (λ r. GivesAll ws d (Of Maybe g.Timing ∷ []) at timing_derivation r) c.from_residual-in_err-time-2.result e c.from_residual-in_err-time-2.ensures.1
     (stops-in Maybe m1 e (once-stops ws d c.in-Some-eat.next g.Expression e c.in_err-time-2.ensures) [])
 
 pub returns-in-Some-eat : goal.returns-in-Some-eat
@@ -61,7 +61,7 @@ returns-in-Some-eat c =
     let m0 = opened ws d at g.Timing time_symbols refl (by_test g.Timing (terminal_at ws at) t.Delay time_symbols w.0 timing_delay) c.requires.within in
     let n = c.token_no-token.result in
     let m2 = to (to m0 (kept n.0 c.token_no-token.ensures (took ws at c.in-Some-eat.next times k.Delay refl refl w))) (once c.in_ok-time-2.ensures.1) in
-    maybe-all (closed-by m2 (prior_shown c.prior-prior-in-Some-eat.result.0) (c.prior-prior-in-Some-eat.ensures d) (leaf n.0 k.Delay (expr c.in_ok-time-2.time (prior_shown c.prior-prior-in-Some-eat.result.0))) refl) c.requires.within
+    maybe-all (closed-by m2 (prior_derivation c.prior-prior-in-Some-eat.result.0) (c.prior-prior-in-Some-eat.ensures d) (leaf n.0 k.Delay (expr c.in_ok-time-2.time (prior_derivation c.prior-prior-in-Some-eat.result.0))) refl) c.requires.within
 
 pub returns-in_err-process : goal.returns-in_err-process
 unfolding is
@@ -73,7 +73,7 @@ returns-in_err-process c =
     let m0 = opened ws d at g.Timing place_symbols refl (by_test g.Timing (terminal_at ws at) t.Before place_symbols w.0 timing_before) c.requires.within in
     let m1 = to m0 (kept at refl (took ws at c.in-Some-eat-2.next places k.Before refl refl w)) in
     let e = c.in_err-process.field-0.0 in
-    exit (λ r. GivesAll ws d (Of Maybe g.Timing ∷ []) at timing_shown r) c.from_residual-in_err-process.result e c.from_residual-in_err-process.ensures.1
+    exit (λ r. GivesAll ws d (Of Maybe g.Timing ∷ []) at timing_derivation r) c.from_residual-in_err-process.result e c.from_residual-in_err-process.ensures.1
     (stops-in Maybe m1 e (once-stops ws d c.in-Some-eat-2.next g.Expression e c.in_err-process.ensures) [])
 
 pub returns-in-Some-eat-2 : goal.returns-in-Some-eat-2
@@ -102,7 +102,7 @@ returns-in_err-process-2 c =
     let m0 = opened ws d at g.Timing place_symbols refl (by_test g.Timing (terminal_at ws at) t.After place_symbols w.0 timing_after) c.requires.within in
     let m1 = to m0 (kept at refl (took ws at c.in-Some-eat-3.next places k.After refl refl w)) in
     let e = c.in_err-process-2.field-0.0 in
-    exit (λ r. GivesAll ws d (Of Maybe g.Timing ∷ []) at timing_shown r) c.from_residual-in_err-process-2.result e c.from_residual-in_err-process-2.ensures.1
+    exit (λ r. GivesAll ws d (Of Maybe g.Timing ∷ []) at timing_derivation r) c.from_residual-in_err-process-2.result e c.from_residual-in_err-process-2.ensures.1
     (stops-in Maybe m1 e (once-stops ws d c.in-Some-eat-3.next g.Expression e c.in_err-process-2.ensures) [])
 
 pub returns : goal.returns

@@ -3,7 +3,7 @@ use Rattle.sim_tree.specs.declared.terminal.Terminal.TheVariants as t
 use Rattle.sim_tree.specs.Grammar as g
 use Rattle.sim_tree.specs.Grammar.{Maybe, Of, Kept, is, just}
 use Rattle.sim_tree.specs.Reading.{terminal_at}
-use Rattle.sim_tree.specs.Shown.{arguments, identifier, shown}
+use Rattle.sim_tree.specs.Derivation.{arguments, identifier, derivation_of}
 use Rattle.sim_expr_parser.proofs.Terminals.{not_is}
 use Rattle.sim_expr_parser.proofs.Steps.{exit}
 use Rattle.sim_parser.specs.Program.{GivesPrefix, NamesToken, program_rest}
@@ -66,7 +66,7 @@ returns c =
     let row = prefixed-row (terminal_at ws 0) (ap (λ z. is z t.Identifier) (sym c.terminal_at.ensures) ∙ not_is _ _ false c.if-ne.ensures) in
     let w2 = past (past (along 0 0 prefixed_symbols ended.some) (c.in_ok-class.ensures 0)) c.in_ok-arguments.ensures in
     record {
-      reads = λ f m r. program-reads ws prefixed_symbols (identifier c.in_ok-class.class (arguments (map shown c.in_ok-arguments.arguments.items) f)) m row (w2.leads.reads f m r);
+      reads = λ f m r. program-reads ws prefixed_symbols (identifier c.in_ok-class.class (arguments (map derivation_of c.in_ok-arguments.arguments.items) f)) m row (w2.leads.reads f m r);
       fails = λ e r. program-fails ws prefixed_symbols e row (w2.leads.fails e r);
       within = w2.within;
     }

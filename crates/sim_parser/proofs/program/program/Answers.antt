@@ -4,7 +4,7 @@ use Rattle.sim_tree.specs.Grammar as g
 use Rattle.sim_tree.specs.Grammar.{Any, Mark, is}
 use Rattle.sim_tree.specs.Reading.{Reads, Unexpected, done, fails-mark, node, reads-done, reads-mark, terminal_at}
 use Rattle.sim_tree.specs.Claim.{one}
-use Rattle.sim_tree.specs.ShownProgram.{block_shown, prefixed}
+use Rattle.sim_tree.specs.ProgramDerivation.{block_derivation, prefixed}
 use Rattle.sim_tree.specs.Tree.{limit, line}
 use Rattle.sim_tree.proofs.Completion.{is_same}
 use Rattle.sim_expr_parser.proofs.Terminals.{not_is}
@@ -44,7 +44,7 @@ returns c =
     let end = c.past_semicolons-end.result in
     let w = past (past (along 0 c.in_ok-prefix.at program_rest before.within) (once c.in_ok-block.ensures)) (c.past_semicolons-end.ensures 0) in
     let is-end = ap (λ z. is z t.EndOfSource) (sym c.terminal_at.ensures) ∙ not_is _ _ false c.if-ne.ensures in
-    let f = node g.Compound (block_shown c.in_ok-block.block) done in
+    let f = node g.Compound (block_derivation c.in_ok-block.block) done in
     record {
       reads = subst (λ m. Reads limit ws 0 (one g.Program) 0 (node g.Program (prefixed c.in_ok-prefix.prefix f) done) m) (c.requires.source.only end w.within (is_same (terminal_at ws end) t.EndOfSource is-end))
           (before.reads f (end + 1) (w.leads.reads done (end + 1) (reads-mark is-end reads-done)));

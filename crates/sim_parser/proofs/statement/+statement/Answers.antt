@@ -9,23 +9,23 @@ use Rattle.sim_expr_parser.specs.Parsing.{ReadsTo, Stops}
 use Rattle.sim_expr_parser.specs.declared.refusal.Stop.TheVariants as stop
 use Rattle.sim_parser.proofs.Exits.{here, here_kept, here_mark, here_part, out, out_part, past_kept, past_mark, past_part, past_to, rest}
 use Rattle.sim_parser.proofs.Along.{all, along, along-ends, along-stops, closed-by, left, past}
-use Rattle.sim_parser.proofs.BlockShapes.{contents_declared, inspect_shown, inspect_when_shown, statements-more}
+use Rattle.sim_parser.proofs.BlockShapes.{contents_declared, inspect_derivation, inspect_when_derivation, statements-more}
 use Rattle.sim_parser.proofs.BlockSteps.{at_place, declares_more, declares_none, kept_one, many_of_one, many_reads, many_stops, part_ahead, sequence_reads, sequence_stops, to_closed, type_stops, unexpected}
 use Rattle.sim_parser.proofs.BlockTables.{after_class, arm_row, arms_do, arms_row, arms_when, array_row, block_declares, block_ends, block_named, class_row, cls_row, compound_row, decl_class, decl_procedure, decl_typed, declaring_row, end_row, named_row, next_row, no_arms, no_block, no_do, no_typed, or_left, or_right, plain_class_row, proc_row, procedure_row, type_begins, typed_array, typed_procedure, typed_row, typed_variables, variables_row}
 use Rattle.sim_parser.proofs.StatementRows.{after_head, block_at, branch_no_end, branch_row, branch_uncounted, for_at, from_inside, identified_at, if_at, inner_at, inside, inspect_at, nothing_read, operation_begins, operation_stands, too_deep, while_at, activate_at, reactivate_at}
-use Rattle.sim_parser.proofs.StatementShapes.{acted_named, for_reference_shown, for_shown, if_shown, while_shown}
-use Rattle.sim_parser.specs.Elements.{for_list_shown}
-use Rattle.sim_parser.specs.Parsing.{GivesAll, GivesPart, begins, body_row, connection_row, connection_shown, branch_part, branch_shown, branch_word, for_row, identified_row, if_row, inspect_row, operation_row, activation_row, while_row, GivesDecl, GivesDeclaration, GivesDeclarations, GivesStatements, GivesTyped, ReadsDeclarations, begins_declaration, declared, statement_list, statements_then}
+use Rattle.sim_parser.proofs.StatementShapes.{acted_named, for_reference_derivation, for_derivation, if_derivation, while_derivation}
+use Rattle.sim_parser.specs.Elements.{for_list_derivation}
+use Rattle.sim_parser.specs.Parsing.{GivesAll, GivesPart, begins, body_row, connection_row, connection_derivation, branch_part, branch_derivation, branch_word, for_row, identified_row, if_row, inspect_row, operation_row, activation_row, while_row, GivesDecl, GivesDeclaration, GivesDeclarations, GivesStatements, GivesTyped, ReadsDeclarations, begins_declaration, declared, statement_list, statements_then}
 use Rattle.sim_parser.specs.declared.statement.Branch.TheVariants as branch
-use Rattle.sim_tree.proofs.ShownLemmas.{raise-same, shown-Named, map-append}
-use Rattle.sim_tree.proofs.StatementLemmas.{shown-Block, shown-Empty, shown-PrefixedBlock, shown-Arrays, shown-Class, shown-Class-prefixed, shown-Procedure, shown-Procedure-typed, shown-Variables, shown-block, shown-class, shown-procedure, shown-when}
+use Rattle.sim_tree.proofs.DerivationLemmas.{raise-same, derivation-Named, map-append}
+use Rattle.sim_tree.proofs.StatementLemmas.{derivation-Block, derivation-Empty, derivation-PrefixedBlock, derivation-Arrays, derivation-Class, derivation-Class-prefixed, derivation-Procedure, derivation-Procedure-typed, derivation-Variables, derivation-block, derivation-class, derivation-procedure, derivation-when}
 use Rattle.sim_tree.proofs.Steps.{leads-as, past-one, start}
 use Rattle.sim_tree.specs.Claim.{one}
 use Rattle.sim_tree.specs.Grammar as g
 use Rattle.sim_tree.specs.Grammar.{Once, Maybe, Many, Of, Kept, Mark, is, just, one_of, right_side, begins_statement}
 use Rattle.sim_tree.specs.Reading.{done, leaf, node, place, terminal_at, Unexpected, reads-done, reads-skip, after-skip, fails-kept, fails-part}
-use Rattle.sim_tree.specs.Shown.{Shown, arguments, identifier, raise, row, selector_shown, shown}
-use Rattle.sim_tree.specs.ShownProgram.{acted, assigned_shown, block_shown, stmt_shown, class_shown, decl_shown, heading_shown, next_statement, procedure_shown, protection_shown, segments_shown, statements as statements_shown, type_shown, variables_shown, virtuals_shown, when_shown}
+use Rattle.sim_tree.specs.Derivation.{Derivation, arguments, identifier, raise, row, selector_derivation, derivation_of}
+use Rattle.sim_tree.specs.ProgramDerivation.{acted, assigned_derivation, block_derivation, statement_derivation, class_derivation, declaration_derivation, heading_derivation, next_statement, procedure_derivation, protection_derivation, segments_derivation, statements as statements_derivation, type_derivation, variables_derivation, virtuals_derivation, when_derivation}
 use Rattle.sim_tree.specs.Tree.{ReadsPart}
 use Rattle.sim_tree.specs.declared.program.BlockPrefix.{BlockPrefix}
 use Rattle.sim_tree.specs.declared.stmt.Stmt.TheVariants as s
@@ -39,7 +39,7 @@ block_statement-returns-in_err-block u c =
     let d = c.args.depth in
     let i = c.args.at in
     let r = c.from_residual in
-    exit (λ r. GivesAll ws d (one g.Compound) i stmt_shown r) r.result c.in_err-block.field-0.0 r.ensures.1 c.in_err-block.ensures
+    exit (λ r. GivesAll ws d (one g.Compound) i statement_derivation r) r.result c.in_err-block.field-0.0 r.ensures.1 c.in_err-block.ensures
 
 pub block_statement-returns : goal.block_statement-returns
 block_statement-returns u c =
@@ -47,36 +47,36 @@ block_statement-returns u c =
     let d = c.args.depth in
     let i = c.args.at in
     let b = c.in_ok-block.block in
-    all (past (along d i (one g.Compound) c.requires.within) (once c.in_ok-block.ensures)) (stmt_shown (s.Block b)) (sym (shown-Block b))
+    all (past (along d i (one g.Compound) c.requires.within) (once c.in_ok-block.ensures)) (statement_derivation (s.Block b)) (sym (derivation-Block b))
 
 pub if_statement-returns-in_err-next : goal.if_statement-returns-in_err-next
 if_statement-returns-in_err-next u c =
     let r = c.from_residual in
-    out c.args.source.now c.args.depth if_row c.args.at stmt_shown r.result c.in_err-next.field-0.0 r.ensures.1
+    out c.args.source.now c.args.depth if_row c.args.at statement_derivation r.result c.in_err-next.field-0.0 r.ensures.1
     (here_kept c.in_err-next.ensures)
 
 pub if_statement-returns-in_err-condition : goal.if_statement-returns-in_err-condition
 if_statement-returns-in_err-condition u c =
     let r = c.from_residual-in_err-condition in
-    out c.args.source.now c.args.depth if_row c.args.at stmt_shown r.result c.in_err-condition.field-0.0 r.ensures.1
+    out c.args.source.now c.args.depth if_row c.args.at statement_derivation r.result c.in_err-condition.field-0.0 r.ensures.1
     (past_kept c.in_ok-next.ensures (here_part c.in_err-condition.ensures))
 
 pub if_statement-returns-in_err-next-2 : goal.if_statement-returns-in_err-next-2
 if_statement-returns-in_err-next-2 u c =
     let r = c.from_residual-in_err-next-2 in
-    out c.args.source.now c.args.depth if_row c.args.at stmt_shown r.result c.in_err-next-2.field-0.0 r.ensures.1
+    out c.args.source.now c.args.depth if_row c.args.at statement_derivation r.result c.in_err-next-2.field-0.0 r.ensures.1
     (past_kept c.in_ok-next.ensures (past_part c.in_ok-condition.ensures.1 (here_mark c.in_err-next-2.ensures)))
 
 pub if_statement-returns-in_err-first : goal.if_statement-returns-in_err-first
 if_statement-returns-in_err-first u c =
     let r = c.from_residual-in_err-first in
-    out c.args.source.now c.args.depth if_row c.args.at stmt_shown r.result c.in_err-first.field-0.0 r.ensures.1
+    out c.args.source.now c.args.depth if_row c.args.at statement_derivation r.result c.in_err-first.field-0.0 r.ensures.1
     (past_kept c.in_ok-next.ensures (past_part c.in_ok-condition.ensures.1 (past_mark c.in_ok-next-2.ensures (here_part c.in_err-first.ensures))))
 
 pub if_statement-returns-in_err-else_branch : goal.if_statement-returns-in_err-else_branch
 if_statement-returns-in_err-else_branch u c =
     let r = c.from_residual-in_err-else_branch in
-    out c.args.source.now c.args.depth if_row c.args.at stmt_shown r.result c.in_err-else_branch.field-0.0 r.ensures.1
+    out c.args.source.now c.args.depth if_row c.args.at statement_derivation r.result c.in_err-else_branch.field-0.0 r.ensures.1
     (past_kept c.in_ok-next.ensures (past_part c.in_ok-condition.ensures.1 (past_mark c.in_ok-next-2.ensures (past_part c.in_ok-first.ensures (rest c.in_err-else_branch.ensures)))))
 
 pub if_statement-returns : goal.if_statement-returns
@@ -93,7 +93,7 @@ if_statement-returns u c =
     let a = c.in_ok-then_branch.then_branch in
     let o = c.in_ok-else_branch.else_branch in
     let e = c.in_ok-condition.condition in
-    left w4 (branch_shown branch.Else o) c.in_ok-else_branch.ensures (stmt_shown (s.If n e a o)) (if_shown n e c.in_ok-first.first a o c.in_ok-then_branch.ensures.ok)
+    left w4 (branch_derivation branch.Else o) c.in_ok-else_branch.ensures (statement_derivation (s.If n e a o)) (if_derivation n e c.in_ok-first.first a o c.in_ok-then_branch.ensures.ok)
 
 pub optional_branch-eat-requires-clause-no_end : goal.optional_branch-eat-requires-clause-no_end
 optional_branch-eat-requires-clause-no_end u c = ap (is t.EndOfSource) c.word.ensures ∙ branch_no_end c.args.branch
@@ -119,7 +119,7 @@ optional_branch-returns-in_err-body u c =
     let m1 = to m0 (marked (h, w.1, w.2)) in
     let e = c.in_err-body.field-0.0 in
     let r = c.from_residual in
-    exit (λ r. GivesAll ws d (Of Maybe (branch_part b) ∷ []) i (branch_shown b) r) r.result e r.ensures.1
+    exit (λ r. GivesAll ws d (Of Maybe (branch_part b) ∷ []) i (branch_derivation b) r) r.result e r.ensures.1
     (stops-at Maybe m1 e c.in_err-body.ensures [])
 
 pub optional_branch-returns : goal.optional_branch-returns
@@ -135,25 +135,25 @@ optional_branch-returns u c =
     let m2 = to m1 (once c.in_ok-body.ensures) in
     let x = c.in_ok-body.body in
     let a = c.in_ok-new.field-0 in
-    all (past (along d i (Of Maybe (branch_part b) ∷ []) c.requires.within) (maybe (gone m2 (node g.Statement (stmt_shown x) done) refl))) (branch_shown b (Some a))
-    (ap (λ z. node (branch_part b) (node g.Statement (stmt_shown z) done) done) (sym c.in_ok-new.ensures.ok))
+    all (past (along d i (Of Maybe (branch_part b) ∷ []) c.requires.within) (maybe (gone m2 (node g.Statement (statement_derivation x) done) refl))) (branch_derivation b (Some a))
+    (ap (λ z. node (branch_part b) (node g.Statement (statement_derivation z) done) done) (sym c.in_ok-new.ensures.ok))
 
 pub while_statement-returns-in_err-next : goal.while_statement-returns-in_err-next
 while_statement-returns-in_err-next u c =
     let r = c.from_residual in
-    out c.args.source.now c.args.depth while_row c.args.at stmt_shown r.result c.in_err-next.field-0.0 r.ensures.1
+    out c.args.source.now c.args.depth while_row c.args.at statement_derivation r.result c.in_err-next.field-0.0 r.ensures.1
     (here_kept c.in_err-next.ensures)
 
 pub while_statement-returns-in_err-condition : goal.while_statement-returns-in_err-condition
 while_statement-returns-in_err-condition u c =
     let r = c.from_residual-in_err-condition in
-    out c.args.source.now c.args.depth while_row c.args.at stmt_shown r.result c.in_err-condition.field-0.0 r.ensures.1
+    out c.args.source.now c.args.depth while_row c.args.at statement_derivation r.result c.in_err-condition.field-0.0 r.ensures.1
     (past_kept c.in_ok-next.ensures (here_part c.in_err-condition.ensures))
 
 pub while_statement-returns-in_err-body : goal.while_statement-returns-in_err-body
 while_statement-returns-in_err-body u c =
     let r = c.from_residual-in_err-body in
-    out c.args.source.now c.args.depth while_row c.args.at stmt_shown r.result c.in_err-body.field-0.0 r.ensures.1
+    out c.args.source.now c.args.depth while_row c.args.at statement_derivation r.result c.in_err-body.field-0.0 r.ensures.1
     (past_kept c.in_ok-next.ensures (past_part c.in_ok-condition.ensures.1 (rest c.in_err-body.ensures)))
 
 pub while_statement-returns : goal.while_statement-returns
@@ -167,12 +167,12 @@ while_statement-returns u c =
     let w2 = past w1 (once c.in_ok-condition.ensures.1) in
     let e = c.in_ok-condition.condition in
     let a = c.in_ok-body-2.body in
-    left w2 (node g.Statement (stmt_shown c.in_ok-body.body) done) c.in_ok-body.ensures (stmt_shown (s.While n e a)) (while_shown n e c.in_ok-body.body a c.in_ok-body-2.ensures.ok)
+    left w2 (node g.Statement (statement_derivation c.in_ok-body.body) done) c.in_ok-body.ensures (statement_derivation (s.While n e a)) (while_derivation n e c.in_ok-body.body a c.in_ok-body-2.ensures.ok)
 
 pub body-returns-in_err-next : goal.body-returns-in_err-next
 body-returns-in_err-next u c =
     let r = c.from_residual in
-    out c.args.source.now c.args.depth body_row c.args.at (λ x. node g.Statement (stmt_shown x) done) r.result c.in_err-next.field-0.0 r.ensures.1
+    out c.args.source.now c.args.depth body_row c.args.at (λ x. node g.Statement (statement_derivation x) done) r.result c.in_err-next.field-0.0 r.ensures.1
     (here_mark c.in_err-next.ensures)
 
 pub body-returns : goal.body-returns
@@ -181,44 +181,44 @@ body-returns u c =
     let d = c.args.depth in
     let i = c.args.at in
     let w1 = past (along d i body_row c.requires.within) (marked c.in_ok-next.ensures) in
-    passed (GivesPart ws d g.Statement c.in_ok-next.next stmt_shown) (GivesAll ws d body_row i (λ x. node g.Statement (stmt_shown x) done))
-    (λ x h. all (past w1 (once h)) (node g.Statement (stmt_shown x.0) done) refl) (λ e h. along-ends w1 e h)
+    passed (GivesPart ws d g.Statement c.in_ok-next.next statement_derivation) (GivesAll ws d body_row i (λ x. node g.Statement (statement_derivation x) done))
+    (λ x h. all (past w1 (once h)) (node g.Statement (statement_derivation x.0) done) refl) (λ e h. along-ends w1 e h)
     c.statement.result c.statement.ensures
 
 pub for_statement-returns-in_err-next : goal.for_statement-returns-in_err-next
 for_statement-returns-in_err-next u c =
     let r = c.from_residual in
-    out c.args.source.now c.args.depth for_row c.args.at stmt_shown r.result c.in_err-next.field-0.0 r.ensures.1
+    out c.args.source.now c.args.depth for_row c.args.at statement_derivation r.result c.in_err-next.field-0.0 r.ensures.1
     (here_kept c.in_err-next.ensures)
 
 pub for_statement-returns-in_err-variable : goal.for_statement-returns-in_err-variable
 for_statement-returns-in_err-variable u c =
     let r = c.from_residual-in_err-variable in
-    out c.args.source.now c.args.depth for_row c.args.at stmt_shown r.result c.in_err-variable.field-0.0 r.ensures.1
+    out c.args.source.now c.args.depth for_row c.args.at statement_derivation r.result c.in_err-variable.field-0.0 r.ensures.1
     (past_kept c.in_ok-next.ensures (here (c.in_err-variable.ensures c.args.depth)))
 
 pub for_statement-returns-in_err-list : goal.for_statement-returns-in_err-list
 for_statement-returns-in_err-list u c =
     let r = c.from_residual-in_err-list in
-    out c.args.source.now c.args.depth for_row c.args.at stmt_shown r.result c.in_err-list.field-0.0 r.ensures.1
+    out c.args.source.now c.args.depth for_row c.args.at statement_derivation r.result c.in_err-list.field-0.0 r.ensures.1
     (past_kept c.in_ok-next.ensures (past_to (c.in_ok-variable.ensures c.args.depth) (here_part c.in_err-list.ensures)))
 
 pub for_statement-returns-in_err-body : goal.for_statement-returns-in_err-body
 for_statement-returns-in_err-body u c =
     let r = c.from_residual-in_err-body in
-    out c.args.source.now c.args.depth for_row c.args.at stmt_shown r.result c.in_err-body.field-0.0 r.ensures.1
+    out c.args.source.now c.args.depth for_row c.args.at statement_derivation r.result c.in_err-body.field-0.0 r.ensures.1
     (past_kept c.in_ok-next.ensures (past_to (c.in_ok-variable.ensures c.args.depth) (past_part c.in_ok-list.ensures (rest c.in_err-body.ensures))))
 
 pub identified_statement-returns-in_err-name : goal.identified_statement-returns-in_err-name
 identified_statement-returns-in_err-name u c =
     let r = c.from_residual in
-    out c.args.source.now c.args.depth identified_row c.args.at stmt_shown r.result c.in_err-name.field-0.0 r.ensures.1
+    out c.args.source.now c.args.depth identified_row c.args.at statement_derivation r.result c.in_err-name.field-0.0 r.ensures.1
     (here (c.in_err-name.ensures c.args.depth))
 
 pub identified_statement-returns-in_err-arguments : goal.identified_statement-returns-in_err-arguments
 identified_statement-returns-in_err-arguments u c =
     let r = c.from_residual-in_err-arguments in
-    out c.args.source.now c.args.depth identified_row c.args.at stmt_shown r.result c.in_err-arguments.field-0.0 r.ensures.1
+    out c.args.source.now c.args.depth identified_row c.args.at statement_derivation r.result c.in_err-arguments.field-0.0 r.ensures.1
     (past_to (c.in_ok-name.ensures c.args.depth) (here c.in_err-arguments.ensures))
 
 pub identified_statement-returns-in_err-block : goal.identified_statement-returns-in_err-block
@@ -232,7 +232,7 @@ identified_statement-returns-in_err-block u c =
     let m0 = opened ws d j g.AfterFirstOperand (one g.Compound) refl (after_head (terminal_at ws j) true begin) w2.within in
     let e = c.in_err-block.field-0.0 in
     let r = c.from_residual-in_err-block in
-    exit (λ r. GivesAll ws d identified_row i stmt_shown r) r.result e r.ensures.1
+    exit (λ r. GivesAll ws d identified_row i statement_derivation r) r.result e r.ensures.1
     (along-stops w2 e (stops-at Once m0 e c.in_err-block.ensures))
 
 pub identified_statement-returns-then-eq : goal.identified_statement-returns-then-eq
@@ -245,9 +245,9 @@ identified_statement-returns-then-eq u c =
     let begin = ap (λ z. is z t.Begin) (sym c.terminal_at.ensures) ∙ made_is _ _ true c.if-eq.ensures in
     let m0 = opened ws d j g.AfterFirstOperand (one g.Compound) refl (after_head (terminal_at ws j) true begin) w2.within in
     let b = c.in_ok-block.block in
-    let m1 = gone (to m0 (once c.in_ok-block.ensures)) (node g.Compound (block_shown b) done) refl in
+    let m1 = gone (to m0 (once c.in_ok-block.ensures)) (node g.Compound (block_derivation b) done) refl in
     let p : BlockPrefix = record { class = c.in_ok-name.name; arguments = c.in_ok-arguments.arguments } in
-    all (past w2 (once m1)) (stmt_shown (s.PrefixedBlock p b)) (sym (shown-PrefixedBlock p b))
+    all (past w2 (once m1)) (statement_derivation (s.PrefixedBlock p b)) (sym (derivation-PrefixedBlock p b))
 
 pub identified_statement-returns-in_err-selectors : goal.identified_statement-returns-in_err-selectors
 identified_statement-returns-in_err-selectors u c =
@@ -260,7 +260,7 @@ identified_statement-returns-in_err-selectors u c =
     let m0 = opened ws d j g.AfterFirstOperand (Of Many g.Selection ∷ Of Many g.Assigned ∷ []) refl (after_head (terminal_at ws j) false begin) w2.within in
     let e = c.in_err-selectors.field-0.0 in
     let r = c.from_residual-in_err-selectors in
-    exit (λ r. GivesAll ws d identified_row i stmt_shown r) r.result e r.ensures.1
+    exit (λ r. GivesAll ws d identified_row i statement_derivation r) r.result e r.ensures.1
     (along-stops w2 e (stops-in Once m0 e c.in_err-selectors.ensures))
 
 pub identified_statement-returns-in_err-rest : goal.identified_statement-returns-in_err-rest
@@ -275,7 +275,7 @@ identified_statement-returns-in_err-rest u c =
     let m1 = to m0 c.in_ok-selectors.ensures in
     let e = c.in_err-rest.field-0.0 in
     let r = c.from_residual-in_err-rest in
-    exit (λ r. GivesAll ws d identified_row i stmt_shown r) r.result e r.ensures.1
+    exit (λ r. GivesAll ws d identified_row i statement_derivation r) r.result e r.ensures.1
     (along-stops w2 e (stops-in Once m1 e c.in_err-rest.ensures))
 
 pub identified_statement-returns : goal.identified_statement-returns
@@ -290,15 +290,15 @@ identified_statement-returns u c =
     let m2 = to (to m0 c.in_ok-selectors.ensures) c.in_ok-rest.ensures in
     let x = c.in_ok-name.name in
     let l = c.in_ok-arguments.arguments in
-    let v = map selector_shown c.in_ok-selectors.selectors.items in
-    let rest = row g.Assigned (map assigned_shown c.in_ok-rest.rest.items) done in
-    let named = shown-Named x l in
-    let inner : Shown = record { level = 0; inside = identifier x (arguments (map shown l.items) done) } in
+    let v = map selector_derivation c.in_ok-selectors.selectors.items in
+    let rest = row g.Assigned (map assigned_derivation c.in_ok-rest.rest.items) done in
+    let named = derivation-Named x l in
+    let inner : Derivation = record { level = 0; inside = identifier x (arguments (map derivation_of l.items) done) } in
     let left =
     c.in_ok-left.ensures (ap (λ z. z.level) named) ∙ ap (λ z. node g.Primary (raise 0 z) (row g.Selection v done)) named
     ∙ ap (λ z. node g.Primary z (row g.Selection v done)) (raise-same 0 inner refl) in
-    let made = c.operation.ensures ∙ ap (λ z. acted z rest) left ∙ acted_named x (map shown l.items) v rest in
-    all (past w2 (once (gone m2 (row g.Selection v rest) refl))) (stmt_shown c.operation.result) (sym made)
+    let made = c.operation.ensures ∙ ap (λ z. acted z rest) left ∙ acted_named x (map derivation_of l.items) v rest in
+    all (past w2 (once (gone m2 (row g.Selection v rest) refl))) (statement_derivation c.operation.result) (sym made)
 
 pub statement-returns-then-not-begins_statement : goal.statement-returns-then-not-begins_statement
 statement-returns-then-not-begins_statement u c =
@@ -307,7 +307,7 @@ statement-returns-then-not-begins_statement u c =
     let i = c.args.at in
     let n = c.token_no-token.result in
     let none = ap (one_of begins) (sym c.terminal_at.ensures) ∙ sym c.begins_statement.ensures ∙ c.if-not-begins_statement.true in
-    subst (λ z. ReadsPart ws d g.Statement i z i) (ap (λ z. place z done) (sym c.token_no-token.ensures) ∙ sym (shown-Empty n)) (nothing_read ws d i none c.requires.within)
+    subst (λ z. ReadsPart ws d g.Statement i z i) (ap (λ z. place z done) (sym c.token_no-token.ensures) ∙ sym (derivation-Empty n)) (nothing_read ws d i none c.requires.within)
 
 pub statement-returns-then-depth-eq-LIMIT : goal.statement-returns-then-depth-eq-LIMIT
 statement-returns-then-depth-eq-LIMIT u c =
@@ -382,15 +382,15 @@ for_statement-returns u c =
     let y = c.in_ok-body.body in
     let a = c.in_ok-body-2.body in
     let m = c.match-list-3.statement in
-    let made : leaf n.0 k.For (identifier x (node g.ForList (for_list_shown c.in_ok-list.list) (node g.Statement (stmt_shown y) done))) ≡ stmt_shown m = elim c.match-list-3.branch [
+    let made : leaf n.0 k.For (identifier x (node g.ForList (for_list_derivation c.in_ok-list.list) (node g.Statement (statement_derivation y) done))) ≡ statement_derivation m = elim c.match-list-3.branch [
       | for_statement-in-Values w ↦
-          ap (λ z. leaf n.0 k.For (identifier x (node g.ForList (for_list_shown z) (node g.Statement (stmt_shown y) done)))) w.in-Values.is
-          ∙ for_shown n x w.in-Values.sign w.in-Values.elements y a c.in_ok-body-2.ensures.ok ∙ ap stmt_shown (sym w.statement-is)
+          ap (λ z. leaf n.0 k.For (identifier x (node g.ForList (for_list_derivation z) (node g.Statement (statement_derivation y) done)))) w.in-Values.is
+          ∙ for_derivation n x w.in-Values.sign w.in-Values.elements y a c.in_ok-body-2.ensures.ok ∙ ap statement_derivation (sym w.statement-is)
       | for_statement-in-References w ↦
-          ap (λ z. leaf n.0 k.For (identifier x (node g.ForList (for_list_shown z) (node g.Statement (stmt_shown y) done)))) w.in-References.is
-          ∙ for_reference_shown n x w.in-References.sign w.in-References.elements y a c.in_ok-body-2.ensures.ok ∙ ap stmt_shown (sym w.statement-is)
+          ap (λ z. leaf n.0 k.For (identifier x (node g.ForList (for_list_derivation z) (node g.Statement (statement_derivation y) done)))) w.in-References.is
+          ∙ for_reference_derivation n x w.in-References.sign w.in-References.elements y a c.in_ok-body-2.ensures.ok ∙ ap statement_derivation (sym w.statement-is)
     ] in
-    left w3 (node g.Statement (stmt_shown y) done) c.in_ok-body.ensures (stmt_shown m) made
+    left w3 (node g.Statement (statement_derivation y) done) c.in_ok-body.ensures (statement_derivation m) made
 
 pub for_statement-for_list-requires-clause-within : goal.for_statement-for_list-requires-clause-within
 for_statement-for_list-requires-clause-within u c = (c.in_ok-variable.ensures 0).within
@@ -411,13 +411,13 @@ identified_statement-compound-requires u c =
 pub inspect_statement-returns-in_err-next : goal.inspect_statement-returns-in_err-next
 inspect_statement-returns-in_err-next u c =
     let r = c.from_residual in
-    out c.args.source.now c.args.depth inspect_row c.args.at stmt_shown r.result c.in_err-next.field-0.0 r.ensures.1
+    out c.args.source.now c.args.depth inspect_row c.args.at statement_derivation r.result c.in_err-next.field-0.0 r.ensures.1
     (here_kept c.in_err-next.ensures)
 
 pub inspect_statement-returns-in_err-object : goal.inspect_statement-returns-in_err-object
 inspect_statement-returns-in_err-object u c =
     let r = c.from_residual-in_err-object in
-    out c.args.source.now c.args.depth inspect_row c.args.at stmt_shown r.result c.in_err-object.field-0.0 r.ensures.1
+    out c.args.source.now c.args.depth inspect_row c.args.at statement_derivation r.result c.in_err-object.field-0.0 r.ensures.1
     (past_kept c.in_ok-next.ensures (here_part c.in_err-object.ensures))
 
 pub inspect_statement-returns-in_err-connection : goal.inspect_statement-returns-in_err-connection
@@ -433,7 +433,7 @@ inspect_statement-returns-in_err-connection u c =
     let m0 = opened ws d j g.Arms connection_row refl (by_test g.Arms (terminal_at ws j) t.Do connection_row h arms_do) w2.within in
     let e = c.in_err-connection.field-0.0 in
     let r = c.from_residual-in_err-connection in
-    exit (λ r. GivesAll ws d inspect_row i stmt_shown r) r.result e r.ensures.1
+    exit (λ r. GivesAll ws d inspect_row i statement_derivation r) r.result e r.ensures.1
     (along-stops w2 e (stops-at Once m0 e c.in_err-connection.ensures))
 
 pub inspect_statement-returns-in_err-otherwise : goal.inspect_statement-returns-in_err-otherwise
@@ -447,10 +447,10 @@ inspect_statement-returns-in_err-otherwise u c =
     let j = c.in_ok-object.next in
     let h = ap (λ z. is z t.Do) (sym c.terminal_at.ensures) ∙ made_is _ _ true c.if-eq.ensures in
     let m0 = opened ws d j g.Arms connection_row refl (by_test g.Arms (terminal_at ws j) t.Do connection_row h arms_do) w2.within in
-    let w3 = past w2 (once (closed-by m0 (connection_shown c.in_ok-connection.connection) c.in_ok-connection.ensures (connection_shown c.in_ok-connection.connection) refl)) in
+    let w3 = past w2 (once (closed-by m0 (connection_derivation c.in_ok-connection.connection) c.in_ok-connection.ensures (connection_derivation c.in_ok-connection.connection) refl)) in
     let e = c.in_err-otherwise.field-0.0 in
     let r = c.from_residual-in_err-otherwise in
-    exit (λ r. GivesAll ws d inspect_row i stmt_shown r) r.result e r.ensures.1
+    exit (λ r. GivesAll ws d inspect_row i statement_derivation r) r.result e r.ensures.1
     (along-ends w3 e c.in_err-otherwise.ensures)
 
 pub inspect_statement-returns-then-eq : goal.inspect_statement-returns-then-eq
@@ -465,23 +465,23 @@ inspect_statement-returns-then-eq u c =
     let j = c.in_ok-object.next in
     let h = ap (λ z. is z t.Do) (sym c.terminal_at.ensures) ∙ made_is _ _ true c.if-eq.ensures in
     let m0 = opened ws d j g.Arms connection_row refl (by_test g.Arms (terminal_at ws j) t.Do connection_row h arms_do) w2.within in
-    let w3 = past w2 (once (closed-by m0 (connection_shown c.in_ok-connection.connection) c.in_ok-connection.ensures (connection_shown c.in_ok-connection.connection) refl)) in
+    let w3 = past w2 (once (closed-by m0 (connection_derivation c.in_ok-connection.connection) c.in_ok-connection.ensures (connection_derivation c.in_ok-connection.connection) refl)) in
     let a = c.in_ok-body.body in
     let o = c.in_ok-otherwise.otherwise in
     let x = c.in_ok-object.object in
     let b = c.in_ok-connection.connection in
-    left w3 (branch_shown branch.Otherwise o) c.in_ok-otherwise.ensures (stmt_shown (s.Inspect n x b.opening a b.end o)) (inspect_shown n x b.opening b.body b.end a o c.in_ok-body.ensures.ok)
+    left w3 (branch_derivation branch.Otherwise o) c.in_ok-otherwise.ensures (statement_derivation (s.Inspect n x b.opening a b.end o)) (inspect_derivation n x b.opening b.body b.end a o c.in_ok-body.ensures.ok)
 
 pub inspect_statement-returns-in_err-arms : goal.inspect_statement-returns-in_err-arms
 inspect_statement-returns-in_err-arms u c =
     let r = c.from_residual-in_err-arms in
-    out c.args.source.now c.args.depth inspect_row c.args.at stmt_shown r.result c.in_err-arms.field-0.0 r.ensures.1
+    out c.args.source.now c.args.depth inspect_row c.args.at statement_derivation r.result c.in_err-arms.field-0.0 r.ensures.1
     (past_kept c.in_ok-next.ensures (past_part c.in_ok-object.ensures.1 (here_part c.in_err-arms.ensures)))
 
 pub inspect_statement-returns-in_err-otherwise-2 : goal.inspect_statement-returns-in_err-otherwise-2
 inspect_statement-returns-in_err-otherwise-2 u c =
     let r = c.from_residual-in_err-otherwise-2 in
-    out c.args.source.now c.args.depth inspect_row c.args.at stmt_shown r.result c.in_err-otherwise-2.field-0.0 r.ensures.1
+    out c.args.source.now c.args.depth inspect_row c.args.at statement_derivation r.result c.in_err-otherwise-2.field-0.0 r.ensures.1
     (past_kept c.in_ok-next.ensures (past_part c.in_ok-object.ensures.1 (past_part c.in_ok-arms.ensures (rest c.in_err-otherwise-2.ensures))))
 
 pub inspect_statement-returns : goal.inspect_statement-returns
@@ -497,7 +497,7 @@ inspect_statement-returns u c =
     let o = c.in_ok-otherwise-2.otherwise in
     let x = c.in_ok-object.object in
     let v = c.in_ok-arms.arms in
-    left w3 (branch_shown branch.Otherwise o) c.in_ok-otherwise-2.ensures (stmt_shown (s.InspectWhen n x v o)) (inspect_when_shown n x v o)
+    left w3 (branch_derivation branch.Otherwise o) c.in_ok-otherwise-2.ensures (statement_derivation (s.InspectWhen n x v o)) (inspect_when_derivation n x v o)
 
 pub when_arms-returns-in_err-expect : goal.when_arms-returns-in_err-expect
 when_arms-returns-in_err-expect u c =
@@ -506,7 +506,7 @@ when_arms-returns-in_err-expect u c =
     let i = c.args.start in
     let e = c.in_err-expect.field-0.0 in
     let r = c.from_residual in
-    exit (λ r. GivesPart ws d g.Arms i (λ v. row g.WhenArm (map when_shown v.items) done) r) r.result e r.ensures.1
+    exit (λ r. GivesPart ws d g.Arms i (λ v. row g.WhenArm (map when_derivation v.items) done) r) r.result e r.ensures.1
     (unexpected ws d i g.Arms e c.in_err-expect.ensures.1 (no_arms (terminal_at ws i) (no_do (terminal_at ws i) c.requires.no_do) c.in_err-expect.ensures.0))
 
 pub when_arms-loop-arms-init : goal.when_arms-loop-arms-init
@@ -515,7 +515,7 @@ when_arms-loop-arms-init u c =
     let d = c.args.depth in
     let i = c.args.start in
     record {
-      goes = row-start when_shown c.new-arms.result.items c.new-arms.ensures.items;
+      goes = row-start when_derivation c.new-arms.result.items c.new-arms.ensures.items;
       ahead = omega arith;
       within = c.requires.within;
     }
@@ -527,7 +527,7 @@ when_arms-returns-in_err-arm u c =
     let at = ap (λ z. is z t.When) (sym c.terminal_at.ensures) ∙ made_is _ _ true c.loop-arms-test.ensures in
     let e = c.in_err-arm.field-0.0 in
     let r = c.from_residual-in_err-arm in
-    out_part ws c.args.depth c.args.start g.Arms arms_row refl (by_test g.Arms (terminal_at ws c.args.start) t.When arms_row c.in_ok-expect.ensures.0 arms_when) c.requires.within (λ v. row g.WhenArm (map when_shown v.items) done) r.result e r.ensures.1
+    out_part ws c.args.depth c.args.start g.Arms arms_row refl (by_test g.Arms (terminal_at ws c.args.start) t.When arms_row c.in_ok-expect.ensures.0 arms_when) c.requires.within (λ v. row g.WhenArm (map when_derivation v.items) done) r.result e r.ensures.1
     (rest (many_stops ws c.args.depth c.args.start g.WhenArm arm_row [] (one_row g.WhenArm (just t.When) arm_row (terminal_at ws c.args.start) true refl (just_is _ _ _ c.in_ok-expect.ensures.0)) e (row-stops ws c.args.depth c.args.start l.at g.WhenArm _ l.invariant.goes e (many_of_one ws c.args.depth l.at g.WhenArm arm_row (one_row g.WhenArm (just t.When) arm_row (terminal_at ws l.at) true refl (just_is _ _ _ at)) e c.in_err-arm.ensures) [])))
 
 pub when_arms-loop-arms-preserved : goal.when_arms-loop-arms-preserved
@@ -538,7 +538,7 @@ when_arms-loop-arms-preserved u c =
     let l = c.loop-arms in
     let p = c.in_ok-arm.ensures in
     record {
-      goes = row-more when_shown l.arms.items c.push.new.self.items c.in_ok-arm.arm (when_shown c.in_ok-arm.arm) l.invariant.goes p c.in_ok-push.ensures.items refl;
+      goes = row-more when_derivation l.arms.items c.push.new.self.items c.in_ok-arm.arm (when_derivation c.in_ok-arm.arm) l.invariant.goes p c.in_ok-push.ensures.items refl;
       ahead = omega (arith, l.invariant.ahead, p.ahead);
       within = p.within;
     }
@@ -551,9 +551,9 @@ when_arms-returns u c =
     let l = c.loop-arms in
     let h = c.in_ok-expect.ensures.0 in
     let w0 = opened ws d i g.Arms arms_row refl (by_test g.Arms (terminal_at ws i) t.When arms_row h arms_when) c.requires.within in
-    let fs = map when_shown l.arms.items in
+    let fs = map when_derivation l.arms.items in
     let no = ap (λ z. is z t.When) (sym c.terminal_at.ensures) ∙ made_is _ _ false c.loop-arms-test.ensures in
-    let to_end = row-end when_shown l.arms.items l.invariant.goes (one_row g.WhenArm (just t.When) arm_row (terminal_at ws l.at) false refl (just_is _ _ _ no)) l.invariant.ahead l.invariant.within in
+    let to_end = row-end when_derivation l.arms.items l.invariant.goes (one_row g.WhenArm (just t.When) arm_row (terminal_at ws l.at) false refl (just_is _ _ _ no)) l.invariant.ahead l.invariant.within in
     let read = to_end.reads [] done l.at reads-done in
     closed-by w0 (row g.WhenArm fs done) (record { reads = many_reads (one_row g.WhenArm (just t.When) arm_row (terminal_at ws i) true refl (just_is _ _ _ h)) read; ahead = l.invariant.ahead; within = l.invariant.within }) (row g.WhenArm fs done) refl
 
@@ -564,19 +564,19 @@ when_arm-returns-in_err-next u c =
     let i = c.args.at in
     let e = c.in_err-next.field-0.0 in
     let r = c.from_residual in
-    exit (λ r. GivesPart ws d g.WhenArm i when_shown r) r.result e r.ensures.1
+    exit (λ r. GivesPart ws d g.WhenArm i when_derivation r) r.result e r.ensures.1
     (unexpected ws d i g.WhenArm e c.in_err-next.ensures.1 (one_row g.WhenArm (just t.When) arm_row (terminal_at ws i) false refl (just_is _ _ _ c.in_err-next.ensures.0)))
 
 pub when_arm-returns-in_err-class : goal.when_arm-returns-in_err-class
 when_arm-returns-in_err-class u c =
     let r = c.from_residual-in_err-class in
-    out_part c.args.source.now c.args.depth c.args.at g.WhenArm arm_row refl (one_row g.WhenArm (just t.When) arm_row (terminal_at c.args.source.now c.args.at) true refl (just_is _ _ _ c.in_ok-next.ensures.0)) c.requires.within when_shown r.result c.in_err-class.field-0.0 r.ensures.1
+    out_part c.args.source.now c.args.depth c.args.at g.WhenArm arm_row refl (one_row g.WhenArm (just t.When) arm_row (terminal_at c.args.source.now c.args.at) true refl (just_is _ _ _ c.in_ok-next.ensures.0)) c.requires.within when_derivation r.result c.in_err-class.field-0.0 r.ensures.1
     (past_kept c.in_ok-next.ensures (here (c.in_err-class.ensures c.args.depth)))
 
 pub when_arm-returns-in_err-connection : goal.when_arm-returns-in_err-connection
 when_arm-returns-in_err-connection u c =
     let r = c.from_residual-in_err-connection in
-    out_part c.args.source.now c.args.depth c.args.at g.WhenArm arm_row refl (one_row g.WhenArm (just t.When) arm_row (terminal_at c.args.source.now c.args.at) true refl (just_is _ _ _ c.in_ok-next.ensures.0)) c.requires.within when_shown r.result c.in_err-connection.field-0.0 r.ensures.1
+    out_part c.args.source.now c.args.depth c.args.at g.WhenArm arm_row refl (one_row g.WhenArm (just t.When) arm_row (terminal_at c.args.source.now c.args.at) true refl (just_is _ _ _ c.in_ok-next.ensures.0)) c.requires.within when_derivation r.result c.in_err-connection.field-0.0 r.ensures.1
     (past_kept c.in_ok-next.ensures (past_to (c.in_ok-class.ensures c.args.depth) (rest c.in_err-connection.ensures)))
 
 pub when_arm-returns : goal.when_arm-returns
@@ -589,18 +589,18 @@ when_arm-returns u c =
     let m1 = to m0 (kept n.0 c.token_no-token.ensures (took_one ws i c.in_ok-next.next k.When refl c.in_ok-next.ensures)) in
     let m2 = to m1 (c.in_ok-class.ensures d) in
     let b = c.in_ok-connection.connection in
-    closed-by m2 (connection_shown b) c.in_ok-connection.ensures _ (sym (shown-when n c.in_ok-class.class b.opening b.body b.end))
+    closed-by m2 (connection_derivation b) c.in_ok-connection.ensures _ (sym (derivation-when n c.in_ok-class.class b.opening b.body b.end))
 
 pub connected_at-returns-in_err-next : goal.connected_at-returns-in_err-next
 connected_at-returns-in_err-next u c =
     let r = c.from_residual in
-    out c.args.source.now c.args.depth connection_row c.args.at connection_shown r.result c.in_err-next.field-0.0 r.ensures.1
+    out c.args.source.now c.args.depth connection_row c.args.at connection_derivation r.result c.in_err-next.field-0.0 r.ensures.1
     (here_kept c.in_err-next.ensures)
 
 pub connected_at-returns-in_err-body : goal.connected_at-returns-in_err-body
 connected_at-returns-in_err-body u c =
     let r = c.from_residual-in_err-body in
-    out c.args.source.now c.args.depth connection_row c.args.at connection_shown r.result c.in_err-body.field-0.0 r.ensures.1
+    out c.args.source.now c.args.depth connection_row c.args.at connection_derivation r.result c.in_err-body.field-0.0 r.ensures.1
     (past_kept c.in_ok-next.ensures (here_part c.in_err-body.ensures))
 
 pub connected_at-returns : goal.connected_at-returns
@@ -622,19 +622,19 @@ compound-returns-in_err-next u c =
     let i = c.args.at in
     let e = c.in_err-next.field-0.0 in
     let r = c.from_residual in
-    exit (λ r. GivesPart ws d g.Compound i block_shown r) r.result e r.ensures.1
+    exit (λ r. GivesPart ws d g.Compound i block_derivation r) r.result e r.ensures.1
     (unexpected ws d i g.Compound e c.in_err-next.ensures.1 (one_row g.Compound (just t.Begin) compound_row (terminal_at ws i) false refl (just_is _ _ _ c.in_err-next.ensures.0)))
 
 pub compound-returns-in_err-declarations : goal.compound-returns-in_err-declarations
 compound-returns-in_err-declarations u c =
     let r = c.from_residual-in_err-declarations in
-    out_part c.args.source.now c.args.depth c.args.at g.Compound compound_row refl (one_row g.Compound (just t.Begin) compound_row (terminal_at c.args.source.now c.args.at) true refl (just_is _ _ _ c.in_ok-next.ensures.0)) c.requires.within block_shown r.result c.in_err-declarations.field-0.0 r.ensures.1
+    out_part c.args.source.now c.args.depth c.args.at g.Compound compound_row refl (one_row g.Compound (just t.Begin) compound_row (terminal_at c.args.source.now c.args.at) true refl (just_is _ _ _ c.in_ok-next.ensures.0)) c.requires.within block_derivation r.result c.in_err-declarations.field-0.0 r.ensures.1
     (past_kept c.in_ok-next.ensures (past_to (c.past_semicolons-next.ensures c.args.depth) (here_part c.in_err-declarations.ensures)))
 
 pub compound-returns-in_err-sequence : goal.compound-returns-in_err-sequence
 compound-returns-in_err-sequence u c =
     let r = c.from_residual-in_err-sequence in
-    out_part c.args.source.now c.args.depth c.args.at g.Compound compound_row refl (one_row g.Compound (just t.Begin) compound_row (terminal_at c.args.source.now c.args.at) true refl (just_is _ _ _ c.in_ok-next.ensures.0)) c.requires.within block_shown r.result c.in_err-sequence.field-0.0 r.ensures.1
+    out_part c.args.source.now c.args.depth c.args.at g.Compound compound_row refl (one_row g.Compound (just t.Begin) compound_row (terminal_at c.args.source.now c.args.at) true refl (just_is _ _ _ c.in_ok-next.ensures.0)) c.requires.within block_derivation r.result c.in_err-sequence.field-0.0 r.ensures.1
     (past_kept c.in_ok-next.ensures (past_to (c.past_semicolons-next.ensures c.args.depth) (here_part (c.in_ok-declarations.ensures.0.fails c.in_err-sequence.field-0.0 c.in_err-sequence.ensures))))
 
 pub compound-returns : goal.compound-returns
@@ -649,16 +649,16 @@ compound-returns u c =
     let ds = c.in_ok-declarations.declarations in
     let q = c.in_ok-sequence.sequence in
     let p = c.in_ok-declarations.ensures.0.reads _ _ c.in_ok-sequence.ensures in
-    let fs = map stmt_shown q.statements.items in
+    let fs = map statement_derivation q.statements.items in
     gone (to w2 (once p)) _
-    (ap (λ z. leaf n.0 k.Begin (node g.Block z done)) (contents_declared (map decl_shown ds.items) fs q.end.0) ∙ sym (shown-block n ds q.statements q.end))
+    (ap (λ z. leaf n.0 k.Begin (node g.Block z done)) (contents_declared (map declaration_derivation ds.items) fs q.end.0) ∙ sym (derivation-block n ds q.statements q.end))
 
 pub declarations-loop-list-init : goal.declarations-loop-list-init
 declarations-loop-list-init u c =
     let ws = c.args.source.now in
     let d = c.args.depth in
     let i = c.args.start in
-    subst (λ z. ReadsDeclarations ws d i (map decl_shown z) i) (sym c.new-list.ensures.items) (declares_none c.requires.within)
+    subst (λ z. ReadsDeclarations ws d i (map declaration_derivation z) i) (sym c.new-list.ensures.items) (declares_none c.requires.within)
 
 pub declarations-returns-in_err-declared : goal.declarations-returns-in_err-declared
 declarations-returns-in_err-declared u c =
@@ -678,8 +678,8 @@ declarations-loop-list-preserved u c =
     let l = c.loop-list in
     let x = c.in-Some.declared in
     let got = subst (λ r. GivesDeclaration ws d l.at (Ok r)) c.in-Some.is c.in_ok-declared.ensures in
-    subst (λ z. ReadsDeclarations ws d i z c.in-Some.next) (sym (ap (map decl_shown) c.in_ok-push.ensures.items ∙ map-append decl_shown l.list.items x))
-    (declares_more (map decl_shown l.list.items) (decl_shown x) l.invariant got.1)
+    subst (λ z. ReadsDeclarations ws d i z c.in-Some.next) (sym (ap (map declaration_derivation) c.in_ok-push.ensures.items ∙ map-append declaration_derivation l.list.items x))
+    (declares_more (map declaration_derivation l.list.items) (declaration_derivation x) l.invariant got.1)
 
 pub declarations-returns : goal.declarations-returns
 declarations-returns u c =
@@ -763,10 +763,10 @@ declaration-returns-in-Some u c =
     let m2 = to m1 (once c.in_ok-class.ensures) in
     let closed = c.in_ok-end.ensures d in
     let m3 = to_closed m2 closed in
-    let shown = shown-Class-prefixed c.in_ok-prefix.prefix n c.in_ok-class.class in (
+    let derivation_of = derivation-Class-prefixed c.in_ok-prefix.prefix n c.in_ok-class.class in (
       omega (arith, f.1, m2.ahead, closed.0),
       record {
-        reads = λ f m p. gone (to w1 (once (gone (to m3 (once p)) _ refl))) _ (sym (ap (λ z. declared (z ∷ []) f) shown));
+        reads = λ f m p. gone (to w1 (once (gone (to m3 (once p)) _ refl))) _ (sym (ap (λ z. declared (z ∷ []) f) derivation_of));
         fails = λ e q. stops w1 e (stops-at Once m3 e q);
         ahead = omega (arith, f.1, m2.ahead, closed.0);
         within = closed.1;
@@ -821,7 +821,7 @@ declaration-returns u c =
     let w2 = to_closed w1 closed in (
       omega (arith, part_ahead ws d i c.in_ok-declared.next g.Declaration p.inside refl p.part, closed.0),
       record {
-        reads = λ f m q. gone (to w2 (once q)) _ (sym (ap (λ z. declared (z ∷ []) f) p.shown_is));
+        reads = λ f m q. gone (to w2 (once q)) _ (sym (ap (λ z. declared (z ∷ []) f) p.derivation_is));
         fails = λ e q. stops-at Once w2 e q [];
         ahead = omega (arith, p.part.ahead, closed.0);
         within = closed.1;
@@ -849,7 +849,7 @@ plain_declaration-returns-in-Some u c =
     let w0 = opened ws d i g.Declaration procedure_row refl (by_test g.Declaration (terminal_at ws i) t.Procedure procedure_row c.in-Some.ensures.0 decl_procedure) c.requires.within in
     let w1 = to w0 (kept n.0 c.token_no-token.ensures (took_one ws i c.in-Some.next k.Procedure refl c.in-Some.ensures)) in
     let p = c.in_ok-procedure.procedure in
-    record { inside = leaf n.0 k.Procedure (node g.Procedure (procedure_shown p) done); shown_is = shown-Procedure n p; part = gone (to w1 (once c.in_ok-procedure.ensures)) _ refl }
+    record { inside = leaf n.0 k.Procedure (node g.Procedure (procedure_derivation p) done); derivation_is = derivation-Procedure n p; part = gone (to w1 (once c.in_ok-procedure.ensures)) _ refl }
 
 pub plain_declaration-returns-in_err-class : goal.plain_declaration-returns-in_err-class
 plain_declaration-returns-in_err-class u c =
@@ -872,7 +872,7 @@ plain_declaration-returns-in-Some-eat u c =
     let w0 = opened ws d i g.Declaration plain_class_row refl (by_test g.Declaration (terminal_at ws i) t.Class plain_class_row c.in-Some-eat.ensures.0 decl_class) c.requires.within in
     let w1 = to w0 (kept n.0 c.token_no-token.ensures (took_one ws i c.in-Some-eat.next k.Class refl c.in-Some-eat.ensures)) in
     let p = c.in_ok-class.class in
-    record { inside = leaf n.0 k.Class (node g.Class (class_shown p) done); shown_is = shown-Class n p; part = gone (to w1 (once c.in_ok-class.ensures)) _ refl }
+    record { inside = leaf n.0 k.Class (node g.Class (class_derivation p) done); derivation_is = derivation-Class n p; part = gone (to w1 (once c.in_ok-class.ensures)) _ refl }
 
 pub plain_declaration-returns-in_err-name : goal.plain_declaration-returns-in_err-name
 plain_declaration-returns-in_err-name u c =
@@ -894,7 +894,7 @@ plain_declaration-returns u c =
     let w1 = to w0 (once p) in
     let x = c.in_ok-name.name in
     passed (GivesTyped x ws d c.in_ok-name.next) (GivesDecl ws d i)
-    (λ r h. record { inside = node g.TypeName (type_shown x) (node g.TypedDeclaration h.inside done); shown_is = h.shown_is; part = gone (to w1 (once h.part)) _ refl })
+    (λ r h. record { inside = node g.TypeName (type_derivation x) (node g.TypedDeclaration h.inside done); derivation_is = h.derivation_is; part = gone (to w1 (once h.part)) _ refl })
     (λ e h. stops w1 e (once-stops ws d c.in_ok-name.next g.TypedDeclaration e h)) c.typed_declaration.result c.typed_declaration.ensures
 
 pub typed_declaration-returns-in_err-procedure : goal.typed_declaration-returns-in_err-procedure
@@ -920,7 +920,7 @@ typed_declaration-returns-in-Some u c =
     let w0 = opened ws d i g.TypedDeclaration procedure_row refl (by_test g.TypedDeclaration (terminal_at ws i) t.Procedure procedure_row c.in-Some.ensures.0 typed_procedure) c.requires.within in
     let w1 = to w0 (kept n.0 c.token_no-token.ensures (took_one ws i c.in-Some.next k.Procedure refl c.in-Some.ensures)) in
     let p = c.in_ok-procedure.procedure in
-    record { inside = leaf n.0 k.Procedure (node g.Procedure (procedure_shown p) done); shown_is = shown-Procedure-typed x n p; part = gone (to w1 (once c.in_ok-procedure.ensures)) _ refl }
+    record { inside = leaf n.0 k.Procedure (node g.Procedure (procedure_derivation p) done); derivation_is = derivation-Procedure-typed x n p; part = gone (to w1 (once c.in_ok-procedure.ensures)) _ refl }
 
 pub typed_declaration-returns-in_err-segments : goal.typed_declaration-returns-in_err-segments
 typed_declaration-returns-in_err-segments u c =
@@ -945,7 +945,7 @@ typed_declaration-returns-in-Some-eat u c =
     let w0 = opened ws d i g.TypedDeclaration array_row refl (by_test g.TypedDeclaration (terminal_at ws i) t.Array array_row c.in-Some-eat.ensures.0 typed_array) c.requires.within in
     let w1 = to w0 (kept n.0 c.token_no-token.ensures (took_one ws i c.in-Some-eat.next k.Array refl c.in-Some-eat.ensures)) in
     let v = c.in_ok-segments.segments in
-    record { inside = leaf n.0 k.Array (segments_shown v.items); shown_is = shown-Arrays x n v; part = closed-by w1 (segments_shown v.items) c.in_ok-segments.ensures _ refl }
+    record { inside = leaf n.0 k.Array (segments_derivation v.items); derivation_is = derivation-Arrays x n v; part = closed-by w1 (segments_derivation v.items) c.in_ok-segments.ensures _ refl }
 
 pub typed_declaration-returns-in_err-expect : goal.typed_declaration-returns-in_err-expect
 typed_declaration-returns-in_err-expect u c =
@@ -978,24 +978,24 @@ typed_declaration-returns u c =
     let x = c.args.type_name in
     let w0 = opened ws d i g.TypedDeclaration variables_row refl (by_test g.TypedDeclaration (terminal_at ws i) t.Identifier variables_row c.in_ok-expect.ensures.0 typed_variables) c.requires.within in
     let v = c.in_ok-variables.variables in
-    record { inside = variables_shown v.items; shown_is = shown-Variables x v; part = closed-by w0 (variables_shown v.items) (c.in_ok-variables.ensures d) _ refl }
+    record { inside = variables_derivation v.items; derivation_is = derivation-Variables x v; part = closed-by w0 (variables_derivation v.items) (c.in_ok-variables.ensures d) _ refl }
 
 pub procedure-returns-in_err-name : goal.procedure-returns-in_err-name
 procedure-returns-in_err-name u c =
     let r = c.from_residual in
-    out_part c.args.source.now c.args.depth c.args.at g.Procedure proc_row refl (only g.Procedure proc_row (terminal_at c.args.source.now c.args.at) refl) c.requires.within procedure_shown r.result c.in_err-name.field-0.0 r.ensures.1
+    out_part c.args.source.now c.args.depth c.args.at g.Procedure proc_row refl (only g.Procedure proc_row (terminal_at c.args.source.now c.args.at) refl) c.requires.within procedure_derivation r.result c.in_err-name.field-0.0 r.ensures.1
     (here (c.in_err-name.ensures c.args.depth))
 
 pub procedure-returns-in_err-heading : goal.procedure-returns-in_err-heading
 procedure-returns-in_err-heading u c =
     let r = c.from_residual-in_err-heading in
-    out_part c.args.source.now c.args.depth c.args.at g.Procedure proc_row refl (only g.Procedure proc_row (terminal_at c.args.source.now c.args.at) refl) c.requires.within procedure_shown r.result c.in_err-heading.field-0.0 r.ensures.1
+    out_part c.args.source.now c.args.depth c.args.at g.Procedure proc_row refl (only g.Procedure proc_row (terminal_at c.args.source.now c.args.at) refl) c.requires.within procedure_derivation r.result c.in_err-heading.field-0.0 r.ensures.1
     (past_to (c.in_ok-name.ensures c.args.depth) (here_part (c.in_err-heading.ensures c.args.depth)))
 
 pub procedure-returns-in_err-body : goal.procedure-returns-in_err-body
 procedure-returns-in_err-body u c =
     let r = c.from_residual-in_err-body in
-    out_part c.args.source.now c.args.depth c.args.at g.Procedure proc_row refl (only g.Procedure proc_row (terminal_at c.args.source.now c.args.at) refl) c.requires.within procedure_shown r.result c.in_err-body.field-0.0 r.ensures.1
+    out_part c.args.source.now c.args.depth c.args.at g.Procedure proc_row refl (only g.Procedure proc_row (terminal_at c.args.source.now c.args.at) refl) c.requires.within procedure_derivation r.result c.in_err-body.field-0.0 r.ensures.1
     (past_to (c.in_ok-name.ensures c.args.depth) (past_part (c.in_ok-heading.ensures c.args.depth) (here_part c.in_err-body.ensures)))
 
 pub procedure-returns : goal.procedure-returns
@@ -1009,40 +1009,40 @@ procedure-returns u c =
     let x = c.in_ok-name.name in
     let h = c.in_ok-heading.heading in
     let b = c.in_ok-body-2.body in
-    let front = heading_shown h.parameters.items h.modes.items h.specifications.items in
+    let front = heading_derivation h.parameters.items h.modes.items h.specifications.items in
     let w3 = to w2 (once c.in_ok-body.ensures) in
     let n = c.token_no-end.result in
     gone (to w3 (at_place n.0 c.token_no-end.ensures w3.within)) _
-    (ap (λ z. identifier x (node g.Heading front (node g.Statement (stmt_shown z) (place n.0 done)))) (sym c.in_ok-body-2.ensures.ok) ∙ sym (shown-procedure x h.parameters h.modes h.specifications b n))
+    (ap (λ z. identifier x (node g.Heading front (node g.Statement (statement_derivation z) (place n.0 done)))) (sym c.in_ok-body-2.ensures.ok) ∙ sym (derivation-procedure x h.parameters h.modes h.specifications b n))
 
 pub class-returns-in_err-name : goal.class-returns-in_err-name
 class-returns-in_err-name u c =
     let r = c.from_residual in
-    out_part c.args.source.now c.args.depth c.args.at g.Class cls_row refl (only g.Class cls_row (terminal_at c.args.source.now c.args.at) refl) c.requires.within class_shown r.result c.in_err-name.field-0.0 r.ensures.1
+    out_part c.args.source.now c.args.depth c.args.at g.Class cls_row refl (only g.Class cls_row (terminal_at c.args.source.now c.args.at) refl) c.requires.within class_derivation r.result c.in_err-name.field-0.0 r.ensures.1
     (here (c.in_err-name.ensures c.args.depth))
 
 pub class-returns-in_err-heading : goal.class-returns-in_err-heading
 class-returns-in_err-heading u c =
     let r = c.from_residual-in_err-heading in
-    out_part c.args.source.now c.args.depth c.args.at g.Class cls_row refl (only g.Class cls_row (terminal_at c.args.source.now c.args.at) refl) c.requires.within class_shown r.result c.in_err-heading.field-0.0 r.ensures.1
+    out_part c.args.source.now c.args.depth c.args.at g.Class cls_row refl (only g.Class cls_row (terminal_at c.args.source.now c.args.at) refl) c.requires.within class_derivation r.result c.in_err-heading.field-0.0 r.ensures.1
     (past_to (c.in_ok-name.ensures c.args.depth) (here_part (c.in_err-heading.ensures c.args.depth)))
 
 pub class-returns-in_err-protections : goal.class-returns-in_err-protections
 class-returns-in_err-protections u c =
     let r = c.from_residual-in_err-protections in
-    out_part c.args.source.now c.args.depth c.args.at g.Class cls_row refl (only g.Class cls_row (terminal_at c.args.source.now c.args.at) refl) c.requires.within class_shown r.result c.in_err-protections.field-0.0 r.ensures.1
+    out_part c.args.source.now c.args.depth c.args.at g.Class cls_row refl (only g.Class cls_row (terminal_at c.args.source.now c.args.at) refl) c.requires.within class_derivation r.result c.in_err-protections.field-0.0 r.ensures.1
     (past_to (c.in_ok-name.ensures c.args.depth) (past_part (c.in_ok-heading.ensures c.args.depth) (here (c.in_err-protections.ensures c.args.depth))))
 
 pub class-returns-in_err-virtuals : goal.class-returns-in_err-virtuals
 class-returns-in_err-virtuals u c =
     let r = c.from_residual-in_err-virtuals in
-    out_part c.args.source.now c.args.depth c.args.at g.Class cls_row refl (only g.Class cls_row (terminal_at c.args.source.now c.args.at) refl) c.requires.within class_shown r.result c.in_err-virtuals.field-0.0 r.ensures.1
+    out_part c.args.source.now c.args.depth c.args.at g.Class cls_row refl (only g.Class cls_row (terminal_at c.args.source.now c.args.at) refl) c.requires.within class_derivation r.result c.in_err-virtuals.field-0.0 r.ensures.1
     (past_to (c.in_ok-name.ensures c.args.depth) (past_part (c.in_ok-heading.ensures c.args.depth) (past_to (c.in_ok-protections.ensures c.args.depth) (here (c.in_err-virtuals.ensures c.args.depth)))))
 
 pub class-returns-in_err-body : goal.class-returns-in_err-body
 class-returns-in_err-body u c =
     let r = c.from_residual-in_err-body in
-    out_part c.args.source.now c.args.depth c.args.at g.Class cls_row refl (only g.Class cls_row (terminal_at c.args.source.now c.args.at) refl) c.requires.within class_shown r.result c.in_err-body.field-0.0 r.ensures.1
+    out_part c.args.source.now c.args.depth c.args.at g.Class cls_row refl (only g.Class cls_row (terminal_at c.args.source.now c.args.at) refl) c.requires.within class_derivation r.result c.in_err-body.field-0.0 r.ensures.1
     (past_to (c.in_ok-name.ensures c.args.depth) (past_part (c.in_ok-heading.ensures c.args.depth) (past_to (c.in_ok-protections.ensures c.args.depth) (past_to (c.in_ok-virtuals.ensures c.args.depth) (here_part c.in_err-body.ensures)))))
 
 pub class-returns : goal.class-returns
@@ -1061,12 +1061,12 @@ class-returns u c =
     let x = c.in_ok-name.name in
     let h = c.in_ok-heading.heading in
     let b = c.in_ok-body-2.body in
-    let front = heading_shown h.parameters.items h.modes.items h.specifications.items in
+    let front = heading_derivation h.parameters.items h.modes.items h.specifications.items in
     let rs = c.in_ok-protections.protections in
     let vs = c.in_ok-virtuals.virtuals in
     gone w6 _
-    (ap (λ z. identifier x (node g.Heading front (row g.Protection (map protection_shown rs.items) (virtuals_shown vs.items (node g.Statement (stmt_shown z) (place n.0 done)))))) (sym c.in_ok-body-2.ensures.ok)
-    ∙ sym (shown-class x h.parameters h.modes h.specifications rs vs b n))
+    (ap (λ z. identifier x (node g.Heading front (row g.Protection (map protection_derivation rs.items) (virtuals_derivation vs.items (node g.Statement (statement_derivation z) (place n.0 done)))))) (sym c.in_ok-body-2.ensures.ok)
+    ∙ sym (derivation-class x h.parameters h.modes h.specifications rs vs b n))
 
 pub sequence_at-returns-in-Some : goal.sequence_at-returns-in-Some
 sequence_at-returns-in-Some u c =
@@ -1077,7 +1077,7 @@ sequence_at-returns-in-Some u c =
     let n = c.token_no-end.result in
     let w0 = opened ws d i g.Block end_row refl (by_test g.Block (terminal_at ws i) t.End end_row w.0 block_ends) c.requires.within in
     let w1 = to w0 (kept n.0 c.token_no-end.ensures (took_one ws i c.in-Some.next k.End refl w)) in
-    gone w1 _ (ap (λ z. statements_shown (map stmt_shown z) n.0) (sym c.new-statements.ensures.items))
+    gone w1 _ (ap (λ z. statements_derivation (map statement_derivation z) n.0) (sym c.new-statements.ensures.items))
 
 pub sequence_at-returns-then-not-begins_statement : goal.sequence_at-returns-then-not-begins_statement
 sequence_at-returns-then-not-begins_statement u c =
@@ -1096,7 +1096,7 @@ sequence_at-returns-in_err-statements u c =
     let b = ap (one_of begins) (sym c.terminal_at.ensures) ∙ sym c.if-not-begins_statement.ensures in
     let e = c.in_err-statements.field-0.0 in
     let r = c.from_residual in
-    exit (λ r. GivesPart ws d g.Block i (λ s. statements_shown (map stmt_shown s.statements.items) s.end.0) r) r.result e r.ensures.1
+    exit (λ r. GivesPart ws d g.Block i (λ s. statements_derivation (map statement_derivation s.statements.items) s.end.0) r) r.result e r.ensures.1
     (sequence_stops ws d i c.requires.no_declaration b c.in_default.ensures e (c.in_err-statements.ensures end_row))
 
 pub sequence_at-returns-in_err-next : goal.sequence_at-returns-in_err-next
@@ -1108,7 +1108,7 @@ sequence_at-returns-in_err-next u c =
     let j = c.in_ok-statements.next in
     let e = c.in_err-next.field-0.0 in
     let r = c.from_residual-in_err-next in
-    exit (λ r. GivesPart ws d g.Block i (λ s. statements_shown (map stmt_shown s.statements.items) s.end.0) r) r.result e r.ensures.1
+    exit (λ r. GivesPart ws d g.Block i (λ s. statements_derivation (map statement_derivation s.statements.items) s.end.0) r) r.result e r.ensures.1
     (subst (λ z. Stops ws d (one g.Block) i z) (sym c.in_err-next.ensures.1) (sequence_stops ws d i c.requires.no_declaration b c.in_default.ensures (stop.Unexpected j) (c.in_ok-statements.ensures.1.fails end_row (Unexpected j) (fails-kept (just_is _ _ _ c.in_err-next.ensures.0)))))
 
 pub sequence_at-returns : goal.sequence_at-returns
@@ -1123,7 +1123,7 @@ sequence_at-returns u c =
     let v = c.in_ok-statements.statements in
     let w = c.in_ok-next.ensures in
     let read = (kept {ws = ws} {d = d} n.0 c.token_no-end-2.ensures (took_one ws j c.in_ok-next.next k.End refl w)).reads [] done c.in_ok-next.next reads-done in
-    sequence_reads ws d i c.requires.no_declaration b c.in_default.ensures (map stmt_shown v.items) n.0 (some-mapped stmt_shown v.items q.0) (q.1.reads end_row (leaf n.0 k.End done) c.in_ok-next.next read) (omega (arith, q.1.ahead, w.1)) w.2
+    sequence_reads ws d i c.requires.no_declaration b c.in_default.ensures (map statement_derivation v.items) n.0 (some-mapped statement_derivation v.items q.0) (q.1.reads end_row (leaf n.0 k.End done) c.in_ok-next.next read) (omega (arith, q.1.ahead, w.1)) w.2
 
 pub statements-returns-in_err-first : goal.statements-returns-in_err-first
 statements-returns-in_err-first u c =
@@ -1144,7 +1144,7 @@ statements-loop-next-init u c =
     let p = c.in_ok-first.ensures in
     let items : c.push.new.self.items ≡ x ∷ [] = c.in_ok-push.ensures.items ∙ ap (λ l. l ++ x ∷ []) c.new-list.ensures.items in
     record {
-      goes = λ s. leads-as (λ f. node g.Statement (stmt_shown x) f) (statement_list (map stmt_shown c.push.new.self.items)) (λ f. ap (λ l. statement_list (map stmt_shown l) f) (sym items))
+      goes = λ s. leads-as (λ f. node g.Statement (statement_derivation x) f) (statement_list (map statement_derivation c.push.new.self.items)) (λ f. ap (λ l. statement_list (map statement_derivation l) f) (sym items))
           (past-one (start d (statements_then s) i) p);
       some = omega (arith, ap length items);
       ahead = p.ahead;
@@ -1179,9 +1179,9 @@ statements-loop-next-preserved u c =
     let x = c.in_ok-following.following in
     let p = c.in_ok-following.ensures in
     let items = c.in_ok-push-2.ensures.items in
-    let part = gone (to m1 (once p)) (next_statement (stmt_shown x)) refl in
+    let part = gone (to m1 (once p)) (next_statement (statement_derivation x)) refl in
     record {
-      goes = λ s. leads-as (λ h. statement_list (map stmt_shown l.list.items) (node g.NextStatement (next_statement (stmt_shown x)) h)) (statement_list (map stmt_shown c.push-in-Some.new.self.items)) (λ h. statements-more l.list.items c.push-in-Some.new.self.items x h l.invariant.some items)
+      goes = λ s. leads-as (λ h. statement_list (map statement_derivation l.list.items) (node g.NextStatement (next_statement (statement_derivation x)) h)) (statement_list (map statement_derivation c.push-in-Some.new.self.items)) (λ h. statements-more l.list.items c.push-in-Some.new.self.items x h l.invariant.some items)
           (past-one (l.invariant.goes s) part);
       some = omega (arith, ap length items, length-append l.list.items (x ∷ []));
       ahead = omega (arith, l.invariant.ahead, w.1, p.ahead);

@@ -1,7 +1,7 @@
 use Rattle.std.proofs.Common.{◌-◌, ◌<◌, ◌≤◌, length, map, List, ◌∷◌}
 use Rattle.sim_tree.specs.Grammar as g
 use Rattle.sim_tree.specs.Grammar.{Symbol, Many, Of}
-use Rattle.sim_tree.specs.ShownProgram.{decl_shown, stmt_shown, when_shown}
+use Rattle.sim_tree.specs.ProgramDerivation.{declaration_derivation, statement_derivation, when_derivation}
 use Rattle.sim_tree.proofs.Steps.{Leads}
 use Rattle.sim_expr_parser.proofs.Steps.{Row}
 use Rattle.sim_expr_parser.specs.Recursion.{calls_left}
@@ -77,7 +77,7 @@ decreases-optional_branch l = calls_left calls l.depth 1
 
 abbrev pub invariant-statements-loop-next : goal.invariant-statements-loop-next
 invariant-statements-loop-next l = record {
-  goes : (s : List Symbol) → Leads l.source l.depth (statements_then s) l.start (statement_list (map stmt_shown l.list.items)) l.depth (Of Many g.NextStatement ∷ s) l.at;
+  goes : (s : List Symbol) → Leads l.source l.depth (statements_then s) l.start (statement_list (map statement_derivation l.list.items)) l.depth (Of Many g.NextStatement ∷ s) l.at;
   some : 0 < length l.list.items;
   ahead : l.start ≤ l.at;
   within : l.at < length l.source;
@@ -88,7 +88,7 @@ decreases-statements-loop-next l = length l.source - l.at
 
 abbrev pub invariant-when_arms-loop-arms : goal.invariant-when_arms-loop-arms
 invariant-when_arms-loop-arms l = record {
-  goes : Row l.source l.depth g.WhenArm l.start (map when_shown l.arms.items) l.at;
+  goes : Row l.source l.depth g.WhenArm l.start (map when_derivation l.arms.items) l.at;
   ahead : l.start ≤ l.at;
   within : l.at < length l.source;
 }
@@ -97,7 +97,7 @@ abbrev pub decreases-when_arms-loop-arms : goal.decreases-when_arms-loop-arms
 decreases-when_arms-loop-arms l = length l.source - l.at
 
 abbrev pub invariant-declarations-loop-list : goal.invariant-declarations-loop-list
-invariant-declarations-loop-list l = ReadsDeclarations l.source l.depth l.start (map decl_shown l.list.items) l.at
+invariant-declarations-loop-list l = ReadsDeclarations l.source l.depth l.start (map declaration_derivation l.list.items) l.at
 
 abbrev pub decreases-declarations-loop-list : goal.decreases-declarations-loop-list
 decreases-declarations-loop-list l = length l.source - l.at

@@ -3,8 +3,8 @@ use Rattle.sim_base.specs.declared.token.TokenKind.TheVariants as k
 use Rattle.sim_tree.specs.declared.stmt.Stmt.TheVariants as s
 use Rattle.sim_tree.specs.declared.terminal.Terminal.TheVariants as t
 use Rattle.sim_tree.specs.Grammar.{Kept, just}
-use Rattle.sim_tree.specs.ShownProgram.{stmt_shown}
-use Rattle.sim_tree.proofs.StatementLemmas.{shown-Inner}
+use Rattle.sim_tree.specs.ProgramDerivation.{statement_derivation}
+use Rattle.sim_tree.proofs.StatementLemmas.{derivation-Inner}
 use Rattle.sim_expr_parser.proofs.Steps.{exit, kept, kept-stops}
 use Rattle.sim_expr_parser.proofs.Tables.{just_is}
 use Rattle.sim_expr_parser.proofs.Terminals.{took_one}
@@ -18,7 +18,7 @@ returns-in_err-end c = λ d.
     let i = c.args.at in
     let e = c.in_err-end.field-0.0 in
     let r = c.from_residual in
-    exit (λ r. GivesAll ws d (Kept (just t.Inner) ∷ []) i stmt_shown r) r.result e r.ensures.1
+    exit (λ r. GivesAll ws d (Kept (just t.Inner) ∷ []) i statement_derivation r) r.result e r.ensures.1
     (along-stops (along d i (Kept (just t.Inner) ∷ []) c.requires.within) e (kept-stops ws d i (just t.Inner) e (just_is _ _ _ c.in_err-end.ensures.0) c.in_err-end.ensures.1))
 
 pub returns : goal.returns
@@ -27,4 +27,4 @@ returns c = λ d.
     let i = c.args.at in
     let n = c.token_no-token.result in
     all (past (along d i (Kept (just t.Inner) ∷ []) c.requires.within) (kept n.0 c.token_no-token.ensures (took_one ws i c.in_ok-end.end k.Inner refl c.in_ok-end.ensures)))
-    (stmt_shown (s.Inner n)) (sym (shown-Inner n))
+    (statement_derivation (s.Inner n)) (sym (derivation-Inner n))

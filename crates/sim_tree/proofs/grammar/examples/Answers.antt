@@ -4,7 +4,7 @@ use Rattle.sim_tree.specs.Grammar as g
 use Rattle.sim_tree.specs.Grammar.{Symbol, right_side, is}
 use Rattle.sim_tree.specs.Reading.{Forest, kind_at, terminal_at, Reads, Fails, Fault, Unexpected}
 use Rattle.sim_tree.specs.Claim.{IsFirstBad, one}
-use Rattle.sim_tree.specs.Shown.{raise}
+use Rattle.sim_tree.specs.Derivation.{raise}
 use Rattle.sim_tree.specs.Tree.{limit}
 use Rattle.sim_tree.proofs.Completion.{first_bad}
 use Rattle.sim_tree.proofs.Decide.{Answer, Read, Faulty, run, Sound, sound}

@@ -4,7 +4,7 @@ use Rattle.sim_tree.specs.Grammar as g
 use Rattle.sim_tree.specs.Reading.{Forest, done, node}
 use Rattle.sim_tree.specs.Tree.{limit, is_bare}
 use Rattle.sim_tree.specs.Nesting.{is_full}
-use Rattle.sim_tree.specs.ShownProgram.{program_shown}
+use Rattle.sim_tree.specs.ProgramDerivation.{program_derivation}
 use Rattle.sim_tree.proofs.Full.{reads_full}
 use Rattle.sim_tree.proofs.Laws.{one_reading}
 use Rattle.sim_tree.proofs.Nests.{inside_of}
@@ -19,5 +19,5 @@ returns-clause-derivation c = λ ws p q x y. (insides _ _ (one_reading limit ws 
 
 pub returns-clause-syntax : goal.returns-clause-syntax
 returns-clause-syntax c = λ ws p q x y.
-    let f = program_shown p in
+    let f = program_derivation p in
     same_syntax p q (inside_of (not (is_bare f)) (is_full f) true (reads_full x.reads)) (insides _ _ (one_reading limit ws x.reads y.reads).0)

@@ -5,7 +5,7 @@ use Rattle.sim_tree.specs.Grammar.{right_side, is}
 use Rattle.sim_tree.specs.Reading.{Forest, done, node, kind_at, terminal_at}
 use Rattle.sim_tree.specs.Claim.{one}
 use Rattle.sim_tree.specs.Examples.{source}
-use Rattle.sim_tree.specs.ShownProgram.{program_shown}
+use Rattle.sim_tree.specs.ProgramDerivation.{program_derivation}
 use Rattle.sim_tree.specs.Syntax.{Program}
 use Rattle.sim_tree.specs.SyntaxExamples.{HasSyntax}
 use Rattle.sim_tree.specs.Tree.{limit}
@@ -31,7 +31,7 @@ has {kinds} {program} f e is =
       derivation = f;
       is_program = reads;
       syntax = λ tree h.
-          let full = is_full-Full (node g.Program (program_shown tree) done) (reads_full h.reads) in
+          let full = is_full-Full (node g.Program (program_derivation tree) done) (reads_full h.reads) in
           sym (read_program tree full.1) ∙ ap program_read (insides _ _ (one_reading limit ws h.reads reads).0) ∙ is;
     }
 

@@ -3,18 +3,18 @@ use Rattle.std.proofs.Common.{◌+◌, ◌*◌}
 use Rattle.sim_tree.specs.declared.stmt.Stmt.{size-Stmt}
 use Rattle.sim_tree.specs.declared.stmt.Decl.TheViews.{size-When}
 use Rattle.sim_tree.specs.Nesting.{apart, Nests}
-use Rattle.sim_tree.specs.ShownProgram.{decl_shown, next_statement, stmt_shown, when_shown}
+use Rattle.sim_tree.specs.ProgramDerivation.{declaration_derivation, next_statement, statement_derivation, when_derivation}
 use Rattle.sim_tree.proofs.Nests.{SoFar}
 use Rattle.sim_tree.proofs.nesting.+statement.Given as goal
 
 abbrev pub invariant-arms-loop-item : goal.invariant-arms-loop-item
-invariant-arms-loop-item l = SoFar (λ x. Nests (when_shown x)) l.list l.item-index l.deepest
+invariant-arms-loop-item l = SoFar (λ x. Nests (when_derivation x)) l.list l.item-index l.deepest
 
 abbrev pub invariant-declarations-loop-item : goal.invariant-declarations-loop-item
-invariant-declarations-loop-item l = SoFar (λ x. Nests (apart (decl_shown x))) l.list l.item-index l.deepest
+invariant-declarations-loop-item l = SoFar (λ x. Nests (apart (declaration_derivation x))) l.list l.item-index l.deepest
 
 abbrev pub invariant-statements-loop-item : goal.invariant-statements-loop-item
-invariant-statements-loop-item l = SoFar (λ x. Nests (next_statement (stmt_shown x))) l.list l.item-index l.deepest
+invariant-statements-loop-item l = SoFar (λ x. Nests (next_statement (statement_derivation x))) l.list l.item-index l.deepest
 
 abbrev pub decreases-arms : goal.decreases-arms
 decreases-arms l = 8 * most size-When l.list.now + 2

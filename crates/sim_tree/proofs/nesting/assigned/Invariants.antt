@@ -1,7 +1,7 @@
 use Rattle.sim_tree.specs.Nesting.{Nests}
-use Rattle.sim_tree.specs.ShownProgram.{assigned_shown}
+use Rattle.sim_tree.specs.ProgramDerivation.{assigned_derivation}
 use Rattle.sim_tree.proofs.Nests.{SoFar}
 use Rattle.sim_tree.proofs.nesting.assigned.Given as goal
 
 abbrev pub invariant-loop-item : goal.invariant-loop-item
-invariant-loop-item l = SoFar (λ x. Nests (assigned_shown x)) l.list l.item-index l.deepest
+invariant-loop-item l = SoFar (λ x. Nests (assigned_derivation x)) l.list l.item-index l.deepest

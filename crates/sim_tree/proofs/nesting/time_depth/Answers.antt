@@ -1,5 +1,5 @@
 use Rattle.std.proofs.Common.{ap}
-use Rattle.sim_tree.specs.ShownProgram.{timing_inside}
+use Rattle.sim_tree.specs.ProgramDerivation.{timing_inside}
 use Rattle.sim_tree.proofs.Nests as nests
 use Rattle.sim_tree.proofs.Statements as st
 use Rattle.sim_tree.proofs.nesting.time_depth.Goals as goal

@@ -11,9 +11,9 @@ use Rattle.sim_tree.specs.Terminal.{terminal_of}
 use Rattle.sim_tree.specs.Grammar.{is, one_of, literals}
 use Rattle.sim_tree.specs.declared.terminal.Terminal.TheVariants as t
 use Rattle.sim_tree.specs.Reading.{kind_at, terminal_at, leaf, done}
-use Rattle.sim_tree.specs.Shown.{Shown, shown}
+use Rattle.sim_tree.specs.Derivation.{Derivation, derivation_of}
 use Rattle.sim_tree.specs.Tree.{IsEnded}
-use Rattle.sim_tree.proofs.ShownLemmas.{shown-Integer, shown-Character, shown-Text, shown-True, shown-False, shown-NoObject, shown-Notext}
+use Rattle.sim_tree.proofs.DerivationLemmas.{derivation-Integer, derivation-Character, derivation-Text, derivation-True, derivation-False, derivation-NoObject, derivation-Notext}
 use Rattle.sim_expr_parser.specs.Parsing.{Took}
 use Rattle.sim_expr_parser.proofs.Terminals.{kind_read, no_literal, took_literal}
 use Rattle.sim_expr_parser.proofs.source.Source.constant_at.Goals as goal
@@ -24,15 +24,15 @@ unfolding terminal_at
 at_terminal ws i x e h = ap (λ z. one_of literals (terminal_of z)) (sym e) ∙ h
 
 made : (ws : List Token) (i : ℕ) (n : TokenNo) (x kind : TokenKind) (e y : Expr) → IsEnded ws → i < length ws → x ≡ kind_at ws i → x ≡ kind → n.0 ≡ i → e ≡ y
-    → shown y ≡ record { level = 0; inside = leaf n.0 kind done } → one_of literals (terminal_of kind) ≡ true → is t.EndOfSource (terminal_of kind) ≡ false → is (terminal_of kind) (terminal_of kind) ≡ true
-    → Took ws i literals (kind_at ws i) (i + 1) × (shown e ≡ record { level = 0; inside = leaf i (kind_at ws i) done })
+    → derivation_of y ≡ record { level = 0; inside = leaf n.0 kind done } → one_of literals (terminal_of kind) ≡ true → is t.EndOfSource (terminal_of kind) ≡ false → is (terminal_of kind) (terminal_of kind) ≡ true
+    → Took ws i literals (kind_at ws i) (i + 1) × (derivation_of e ≡ record { level = 0; inside = leaf i (kind_at ws i) done })
 made ws i n x kind e y ended within read is_kind number same shape among no_end self = (
   took_literal ws i kind ended within (sym read ∙ is_kind) among no_end self,
-  ap shown same ∙ shape ∙ ap (λ z. the_shown z kind) number ∙ ap (λ z. the_shown i z) (sym is_kind ∙ read),
+  ap derivation_of same ∙ shape ∙ ap (λ z. the_derivation z kind) number ∙ ap (λ z. the_derivation i z) (sym is_kind ∙ read),
 )
   where
-    the_shown : ℕ → TokenKind → Shown
-    the_shown z kind = record { level = 0; inside = leaf z kind done }
+    the_derivation : ℕ → TokenKind → Derivation
+    the_derivation z kind = record { level = 0; inside = leaf z kind done }
 
 pub returns-in_default : goal.returns-in_default
 returns-in_default c =
@@ -60,11 +60,11 @@ returns c =
     let is = c.index-self-at.is ∙ ap (λ z. slice_index_or z i x) c.self.view_is in
     let read = ap (λ y. y.kind) (sym c.index-self-at.is) ∙ kind_read ws i x c.requires.within is in
     elim c.match-self-at.branch [
-      | in-Integer w ↦ (let fits : SFits w64 w.in-Integer.value = search rules in made-of _ e _ ended c.requires.within read w.in-Integer.is c.token_no-token.ensures (w.constant-is ∙ ap (expr.Integer n) (to_z-of_z w64 w.in-Integer.value fits)) (shown-Integer n w.in-Integer.value) refl refl refl)
-      | in-Character w ↦ made-of _ e _ ended c.requires.within read w.in-Character.is c.token_no-token.ensures w.constant-is (shown-Character _ _) refl refl refl
-      | in-Text+in_ok-copy-in-Text w ↦ made-of _ e _ ended c.requires.within read (w.in-Text.is ∙ ap k.Text (sym w.in_ok-copy-in-Text.ensures.same)) c.token_no-token.ensures w.constant-is (shown-Text _ _) refl refl refl
-      | in-True w ↦ made-of _ e _ ended c.requires.within read w.in-True.is c.token_no-token.ensures w.constant-is (shown-True _) refl refl refl
-      | in-False w ↦ made-of _ e _ ended c.requires.within read w.in-False.is c.token_no-token.ensures w.constant-is (shown-False _) refl refl refl
-      | in-None w ↦ made-of _ e _ ended c.requires.within read w.in-None.is c.token_no-token.ensures w.constant-is (shown-NoObject _) refl refl refl
-      | in-Notext w ↦ made-of _ e _ ended c.requires.within read w.in-Notext.is c.token_no-token.ensures w.constant-is (shown-Notext _) refl refl refl
+      | in-Integer w ↦ (let fits : SFits w64 w.in-Integer.value = search rules in made-of _ e _ ended c.requires.within read w.in-Integer.is c.token_no-token.ensures (w.constant-is ∙ ap (expr.Integer n) (to_z-of_z w64 w.in-Integer.value fits)) (derivation-Integer n w.in-Integer.value) refl refl refl)
+      | in-Character w ↦ made-of _ e _ ended c.requires.within read w.in-Character.is c.token_no-token.ensures w.constant-is (derivation-Character _ _) refl refl refl
+      | in-Text+in_ok-copy-in-Text w ↦ made-of _ e _ ended c.requires.within read (w.in-Text.is ∙ ap k.Text (sym w.in_ok-copy-in-Text.ensures.same)) c.token_no-token.ensures w.constant-is (derivation-Text _ _) refl refl refl
+      | in-True w ↦ made-of _ e _ ended c.requires.within read w.in-True.is c.token_no-token.ensures w.constant-is (derivation-True _) refl refl refl
+      | in-False w ↦ made-of _ e _ ended c.requires.within read w.in-False.is c.token_no-token.ensures w.constant-is (derivation-False _) refl refl refl
+      | in-None w ↦ made-of _ e _ ended c.requires.within read w.in-None.is c.token_no-token.ensures w.constant-is (derivation-NoObject _) refl refl refl
+      | in-Notext w ↦ made-of _ e _ ended c.requires.within read w.in-Notext.is c.token_no-token.ensures w.constant-is (derivation-Notext _) refl refl refl
     ]

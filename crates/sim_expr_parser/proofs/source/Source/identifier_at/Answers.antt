@@ -4,7 +4,7 @@ use Rattle.sim_base.specs.declared.token.TokenKind.TheVariants as k
 use Rattle.sim_tree.specs.declared.terminal.Terminal.TheVariants as t
 use Rattle.sim_tree.specs.Grammar.{just, Kept}
 use Rattle.sim_tree.specs.Reading.{kind_at, terminal_at}
-use Rattle.sim_tree.specs.Shown.{identifier}
+use Rattle.sim_tree.specs.Derivation.{identifier}
 use Rattle.sim_expr_parser.specs.Parsing.{GivesTo}
 use Rattle.sim_expr_parser.proofs.Terminals.{an_identifier, took_identifier, kind_read}
 use Rattle.sim_expr_parser.proofs.Tables.{just_is}

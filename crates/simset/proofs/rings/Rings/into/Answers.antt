@@ -1,9 +1,7 @@
-use Rattle.std.proofs.Common.{◌≡◌, ◌∙◌, ap, arith}
-use Rattle.simset.specs.Sets.{Simset, out, times_in}
+use Rattle.std.proofs.Common.{◌≡◌, ◌∙◌, arith}
+use Rattle.simset.specs.Sets.{out, times_in}
 use Rattle.simset.proofs.Stepwise.{into, into-is}
-use Rattle.simset.specs.Nodes.{KeepsSets}
 use Rattle.simset.proofs.Keeps.{head_nowhere, proper-out}
-use Rattle.simset.proofs.Closings.{kept-view}
 use Rattle.simset.proofs.Effects.{length-out, is_link_at-out, is_head_at-out, is_head_at-made, times_in-out, put_before-last, places_from-some}
 use Rattle.simset.proofs.rings.Rings.into.Goals as goal
 
@@ -23,9 +21,8 @@ insert_before-requires-clause-placed c =
 pub returns-in-Some-clause-sets : goal.returns-in-Some-clause-sets
 unfolding into
 returns-in-Some-clause-sets c =
-    let kept : KeepsSets c.self.inside.nodes.items c.args.self.now.sets = (kept-view _ _ (ap (λ (v : Simset). v.sets) c.self.view_is) c.self.invariant) in
     let nowhere : times_in c.in-Some.place.0 c.leave.new.self.sets ≡ 0 =
-    rw c.leave.ensures.sets (head_nowhere _ _ (proper-out _ _ kept.proper) (rw is_head_at-out (c.requires.head _ c.in-Some.is)))
+    rw c.leave.ensures.sets (head_nowhere _ _ (proper-out _ _ c.members_stand_once.ensures) (rw is_head_at-out (c.requires.head _ c.in-Some.is)))
     in
     rw (into-is, c.in-Some.is, ← c.leave.ensures.sets) (c.insert_before.ensures.sets ∙ put_before-last _ _ 0 _ nowhere)
 

@@ -1,6 +1,8 @@
-use Rattle.std.proofs.Common.{◌∙◌, sym, refl, arith}
+use Rattle.std.proofs.Common.{◌∙◌, ap, sym, refl, arith}
+use Rattle.std.specs.Prelude.{Some}
+use Rattle.frame_arena.specs.Frames.{frame_at}
 use Rattle.frame_arena.proofs.Reading.{level_start, level_gone, level_here, level_top, level_up, no_fuel}
-use Rattle.frame_arena.proofs.frames.at_level.Goals as goal
+use Rattle.frame_arena.proofs.frames.region_at_level.Goals as goal
 
 pub loop-init : goal.loop-init
 loop-init c cells m h leads = (leads, level_start m c.args.level c.args.home.stamp)
@@ -13,7 +15,9 @@ returns-in_default-clause-level c cells m h leads =
 pub returns-then-frame-level-clause-level : goal.returns-then-frame-level-clause-level
 returns-then-frame-level-clause-level c cells m h leads =
     let i = c.loop.invariant cells m h leads in
-    sym (i.1 ∙ level_here c.args.frames.now cells m c.in-Some.place c.loop.at.stamp c.args.home.stamp c.loop.counter c.args.level c.loop-test.true h c.in-Some.ensures.there c.if-frame-level.true)
+    let there = c.in-Some.ensures.there in
+    ap (λ p. Some (frame_at c.args.frames.now p).number) (sym c.in-Some.ensures.place) ∙ ap Some there.2
+    ∙ sym (i.1 ∙ level_here c.args.frames.now cells m c.in-Some.place c.loop.at.stamp c.args.home.stamp c.loop.counter c.args.level c.loop-test.true h there c.if-frame-level.true)
 
 pub returns-in-None-clause-level : goal.returns-in-None-clause-level
 returns-in-None-clause-level c cells m h leads =

@@ -25,7 +25,7 @@ use Rattle.sim_tree.specs.Grammar.{Part}
 use Rattle.sim_tree.specs.Reading.{Forest, done, leaf, node}
 
 -- a derivation, and the level that it is inside of
-pub record Shown : Type 0 where
+pub record Derivation : Type 0 where
   pub level : ℕ
   pub inside : Forest
 
@@ -37,7 +37,7 @@ level_part level =
     level g.Expression
 
 -- the same inside of a higher level: a level with a single operand makes no node in the tree
-unfoldable pub raise : ℕ → Shown → Forest
+unfoldable pub raise : ℕ → Derivation → Forest
 raise zero s = if nat_eq s.level 0 then s.inside else done
 raise (suc m) s = if nat_eq s.level (suc m) then s.inside else node (level_part m) (raise m s) done
 
@@ -45,11 +45,11 @@ abbrev pub expr_level : ℕ
 expr_level = 14
 
 -- the inside of an expression
-abbrev pub whole : Shown → Forest
+abbrev pub whole : Derivation → Forest
 whole s = raise expr_level s
 
 -- a tree that no tokens have
-abbrev pub nothing : Shown
+abbrev pub nothing : Derivation
 nothing = record { level = expr_level; inside = done }
 
 -- one part after the other, and then the rest
@@ -60,11 +60,11 @@ row n (f ∷ fs) rest = node n f (row n fs rest)
 abbrev pub identifier : Identifier → Forest → Forest
 identifier x rest = leaf x.token.0 (k.Identifier x.name) rest
 
-abbrev pub argument : Shown → Forest
+abbrev pub argument : Derivation → Forest
 argument s = node g.Expression (whole s) done
 
 -- the actuals, where there are some
-abbrev pub arguments : List Shown → Forest → Forest
+abbrev pub arguments : List Derivation → Forest → Forest
 arguments [] rest = rest
 arguments (s ∷ ss) rest = node g.Arguments (node g.Expression (whole s) (row g.NextArgument (map argument ss) done)) rest
 
@@ -93,13 +93,13 @@ membership_kind membership.In = k.In
 -- an operator's token, and its operand
 pub record Item : Type 0 where
   pub token : ℕ
-  pub operand : Shown
+  pub operand : Derivation
 
 abbrev pub item : ℕ → TokenKind → Item → Forest
 item level operator i = leaf i.token operator (node (level_part level) (raise level i.operand) done)
 
 -- the level above one, with the one operator that it has
-abbrev pub operated : ℕ → TokenKind → Part → Shown → List Item → Shown
+abbrev pub operated : ℕ → TokenKind → Part → Derivation → List Item → Derivation
 operated level operator many first [] = nothing
 operated level operator many first (i ∷ is) = record {
   level = level + 1;
@@ -109,38 +109,38 @@ operated level operator many first (i ∷ is) = record {
 abbrev pub not_mark : TokenNo → Forest
 not_mark i = leaf i.0 k.Not done
 
-abbrev pub negated : List TokenNo → Shown → Shown
+abbrev pub negated : List TokenNo → Derivation → Derivation
 negated [] operand = nothing
 negated (i ∷ is) operand = record { level = 7; inside = row g.NotSign (map not_mark (i ∷ is)) (node g.Relation (raise 6 operand) done) }
 
-abbrev pub summed : Option LeadingSign → Shown → List Forest → Shown
+abbrev pub summed : Option LeadingSign → Derivation → List Forest → Derivation
 summed None first [] = nothing
 summed None first (f ∷ fs) = record { level = 4; inside = node g.Term (raise 3 first) (row g.NextTerm (f ∷ fs) done) }
 summed (Some s) first fs =
     record { level = 4; inside = node g.LeadingSign (leaf s.token.0 (sign_kind s.sign) done) (node g.Term (raise 3 first) (row g.NextTerm fs done)) }
 
-abbrev pub multiplied : Shown → List Forest → Shown
+abbrev pub multiplied : Derivation → List Forest → Derivation
 multiplied first [] = nothing
 multiplied first (f ∷ fs) = record { level = 3; inside = node g.Factor (raise 2 first) (row g.NextFactor (f ∷ fs) done) }
 
-abbrev pub selected : Shown → List Forest → Shown
+abbrev pub selected : Derivation → List Forest → Derivation
 selected primary [] = nothing
 selected primary (f ∷ fs) = record { level = 1; inside = node g.Primary (raise 0 primary) (row g.Selection (f ∷ fs) done) }
 
-abbrev pub operand_layer : Operand-F Shown Forest Forest Item Forest → Item
+abbrev pub operand_layer : Operand-F Derivation Forest Forest Item Forest → Item
 operand_layer o = record { token = o.token.0; operand = o.operand }
 
-abbrev pub term_layer : Term-F Shown Forest Forest Item Forest → Forest
+abbrev pub term_layer : Term-F Derivation Forest Forest Item Forest → Forest
 term_layer x = leaf x.token.0 (sign_kind x.sign) (node g.Term (raise 3 x.term) done)
 
-abbrev pub factor_layer : Factor-F Shown Forest Forest Item Forest → Forest
+abbrev pub factor_layer : Factor-F Derivation Forest Forest Item Forest → Forest
 factor_layer x = leaf x.token.0 (multiplication_kind x.operator) (node g.Factor (raise 2 x.factor) done)
 
-abbrev pub selector_layer : Selector-F Shown Forest Forest Item Forest → Forest
+abbrev pub selector_layer : Selector-F Derivation Forest Forest Item Forest → Forest
 selector_layer (Selector-F.Dot i name args) = leaf i.0 k.Dot (identifier name (arguments args.items done))
 selector_layer (Selector-F.Qua i class) = leaf i.0 k.Qua (identifier class done)
 
-abbrev pub expr_layer : Expr-F Shown Forest Forest Item Forest → Shown
+abbrev pub expr_layer : Expr-F Derivation Forest Forest Item Forest → Derivation
 expr_layer (Expr-F.If i condition first second) = record {
   level = 14;
   inside = leaf i.0 k.If (node g.Expression (whole condition.value) (node g.SimpleExpression (raise 13 first.value) (node g.Expression (whole second.value) done)));
@@ -177,21 +177,21 @@ expr_layer (Expr-F.This i class) = record { level = 0; inside = leaf i.0 k.This 
 expr_layer (Expr-F.New i class args) = record { level = 0; inside = leaf i.0 k.New (identifier class (arguments args.items done)) }
 expr_layer (Expr-F.Parentheses i inner) = record { level = 0; inside = leaf i.0 k.Open (node g.Expression (whole inner.value) done) }
 
-abbrev pub shown : Expr → Shown
-shown = fold-Expr Shown Forest Forest Item Forest expr_layer selector_layer factor_layer operand_layer term_layer
+abbrev pub derivation_of : Expr → Derivation
+derivation_of = fold-Expr Derivation Forest Forest Item Forest expr_layer selector_layer factor_layer operand_layer term_layer
 
-abbrev pub operand_shown : Operand → Item
-operand_shown = fold-Operand Shown Forest Forest Item Forest expr_layer selector_layer factor_layer operand_layer term_layer
+abbrev pub operand_derivation : Operand → Item
+operand_derivation = fold-Operand Derivation Forest Forest Item Forest expr_layer selector_layer factor_layer operand_layer term_layer
 
-abbrev pub term_shown : Term → Forest
-term_shown = fold-Term Shown Forest Forest Item Forest expr_layer selector_layer factor_layer operand_layer term_layer
+abbrev pub term_derivation : Term → Forest
+term_derivation = fold-Term Derivation Forest Forest Item Forest expr_layer selector_layer factor_layer operand_layer term_layer
 
-abbrev pub factor_shown : Factor → Forest
-factor_shown = fold-Factor Shown Forest Forest Item Forest expr_layer selector_layer factor_layer operand_layer term_layer
+abbrev pub factor_derivation : Factor → Forest
+factor_derivation = fold-Factor Derivation Forest Forest Item Forest expr_layer selector_layer factor_layer operand_layer term_layer
 
-abbrev pub selector_shown : Selector → Forest
-selector_shown = fold-Selector Shown Forest Forest Item Forest expr_layer selector_layer factor_layer operand_layer term_layer
+abbrev pub selector_derivation : Selector → Forest
+selector_derivation = fold-Selector Derivation Forest Forest Item Forest expr_layer selector_layer factor_layer operand_layer term_layer
 
 -- the inside of the expression that a tree stands for
 abbrev pub expression : Expr → Forest
-expression e = whole (shown e)
+expression e = whole (derivation_of e)

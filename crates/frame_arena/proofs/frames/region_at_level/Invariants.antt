@@ -3,7 +3,7 @@ use Rattle.sim_code.specs.Instances.{at_level, level_within}
 use Rattle.sim_code.specs.Machine.{Frames}
 use Rattle.frame_arena.specs.declared.slot.Slot.{Slot}
 use Rattle.frame_arena.specs.Frames.{Holds, Leads}
-use Rattle.frame_arena.proofs.frames.at_level.Given as goal
+use Rattle.frame_arena.proofs.frames.region_at_level.Given as goal
 
 abbrev pub invariant-loop : goal.invariant-loop
 invariant-loop l =

@@ -43,7 +43,7 @@ use Rattle.sim_tree.specs.declared.stmt.VirtualSpecification.{VirtualSpecificati
 use Rattle.sim_tree.specs.declared.stmt.When.{When}
 use Rattle.sim_tree.specs.Grammar as g
 use Rattle.sim_tree.specs.Reading.{Forest, done, leaf, place, node}
-use Rattle.sim_tree.specs.Shown.{shown, raise, expression, row, identifier, arguments, sign_kind}
+use Rattle.sim_tree.specs.Derivation.{derivation_of, raise, expression, row, identifier, arguments, sign_kind}
 
 -- one derivation in a row after the other
 abbrev pub joined : Forest → Forest → Forest
@@ -64,81 +64,81 @@ ids [] = done
 ids (x ∷ xs) = identifier x (row g.NextIdentifier (map next_id xs) done)
 
 -- Types and constants.
-abbrev pub type_shown : TypeName → Forest
-type_shown (type_name.Integer i) = leaf i.0 k.IntegerWord done
-type_shown (type_name.Boolean i) = leaf i.0 k.Boolean done
-type_shown (type_name.Character i) = leaf i.0 k.CharacterWord done
-type_shown (type_name.Text i) = leaf i.0 k.TextWord done
-type_shown (type_name.Reference i class) = leaf i.0 k.Ref (identifier class done)
+abbrev pub type_derivation : TypeName → Forest
+type_derivation (type_name.Integer i) = leaf i.0 k.IntegerWord done
+type_derivation (type_name.Boolean i) = leaf i.0 k.Boolean done
+type_derivation (type_name.Character i) = leaf i.0 k.CharacterWord done
+type_derivation (type_name.Text i) = leaf i.0 k.TextWord done
+type_derivation (type_name.Reference i class) = leaf i.0 k.Ref (identifier class done)
 
 -- a type, where one is written, and what stands behind it
 abbrev pub typed : Option TypeName → Forest → Forest
 typed None rest = rest
-typed (Some t) rest = node g.TypeName (type_shown t) rest
+typed (Some t) rest = node g.TypeName (type_derivation t) rest
 
-abbrev pub constant_shown : Constant → Forest
-constant_shown (constant.Integer None i value) = leaf i.0 (k.Integer value) done
-constant_shown (constant.Integer (Some s) i value) = leaf s.token.0 (sign_kind s.sign) (leaf i.0 (k.Integer value) done)
-constant_shown (constant.Character i value) = leaf i.0 (k.Character value) done
-constant_shown (constant.Text i value) = leaf i.0 (k.Text value) done
-constant_shown (constant.True i) = leaf i.0 k.True done
-constant_shown (constant.False i) = leaf i.0 k.False done
+abbrev pub constant_derivation : Constant → Forest
+constant_derivation (constant.Integer None i value) = leaf i.0 (k.Integer value) done
+constant_derivation (constant.Integer (Some s) i value) = leaf s.token.0 (sign_kind s.sign) (leaf i.0 (k.Integer value) done)
+constant_derivation (constant.Character i value) = leaf i.0 (k.Character value) done
+constant_derivation (constant.Text i value) = leaf i.0 (k.Text value) done
+constant_derivation (constant.True i) = leaf i.0 k.True done
+constant_derivation (constant.False i) = leaf i.0 k.False done
 
-abbrev pub value_shown : Option Constant → Forest
-value_shown None = done
-value_shown (Some c) = node g.Value (node g.Constant (constant_shown c) done) done
+abbrev pub value_derivation : Option Constant → Forest
+value_derivation None = done
+value_derivation (Some c) = node g.Value (node g.Constant (constant_derivation c) done) done
 
-abbrev pub variable_shown : Variable → Forest
-variable_shown v = identifier v.name (value_shown v.value)
+abbrev pub variable_derivation : Variable → Forest
+variable_derivation v = identifier v.name (value_derivation v.value)
 
 abbrev pub next_variable : Variable → Forest
-next_variable v = node g.Variable (variable_shown v) done
+next_variable v = node g.Variable (variable_derivation v) done
 
-abbrev pub variables_shown : List Variable → Forest
-variables_shown [] = done
-variables_shown (v ∷ vs) = node g.Variable (variable_shown v) (row g.NextVariable (map next_variable vs) done)
+abbrev pub variables_derivation : List Variable → Forest
+variables_derivation [] = done
+variables_derivation (v ∷ vs) = node g.Variable (variable_derivation v) (row g.NextVariable (map next_variable vs) done)
 
 -- Arrays.
-abbrev pub bounds_shown : Bounds → Forest
-bounds_shown b = expr b.lower (expr b.upper done)
+abbrev pub bounds_derivation : Bounds → Forest
+bounds_derivation b = expr b.lower (expr b.upper done)
 
 abbrev pub next_bounds : Bounds → Forest
-next_bounds b = node g.Bounds (bounds_shown b) done
+next_bounds b = node g.Bounds (bounds_derivation b) done
 
 abbrev pub dimensions : List Bounds → Forest
 dimensions [] = done
-dimensions (b ∷ bs) = node g.Bounds (bounds_shown b) (row g.NextBounds (map next_bounds bs) done)
+dimensions (b ∷ bs) = node g.Bounds (bounds_derivation b) (row g.NextBounds (map next_bounds bs) done)
 
-abbrev pub segment_shown : ArraySegment → Forest
-segment_shown s = node g.Identifiers (ids s.names.items) (dimensions s.bounds.items)
+abbrev pub segment_derivation : ArraySegment → Forest
+segment_derivation s = node g.Identifiers (ids s.names.items) (dimensions s.bounds.items)
 
 abbrev pub next_segment : ArraySegment → Forest
-next_segment s = node g.ArraySegment (segment_shown s) done
+next_segment s = node g.ArraySegment (segment_derivation s) done
 
-abbrev pub segments_shown : List ArraySegment → Forest
-segments_shown [] = done
-segments_shown (s ∷ ss) = node g.ArraySegment (segment_shown s) (row g.NextArraySegment (map next_segment ss) done)
+abbrev pub segments_derivation : List ArraySegment → Forest
+segments_derivation [] = done
+segments_derivation (s ∷ ss) = node g.ArraySegment (segment_derivation s) (row g.NextArraySegment (map next_segment ss) done)
 
 -- Formal parameters.
 abbrev pub mode_kind : Mode → TokenKind
 mode_kind mode.Value = k.Value
 mode_kind mode.Name = k.Name
 
-abbrev pub mode_shown : ModePart → Forest
-mode_shown m = leaf m.token.0 (mode_kind m.mode) (node g.Identifiers (ids m.names.items) done)
+abbrev pub mode_derivation : ModePart → Forest
+mode_derivation m = leaf m.token.0 (mode_kind m.mode) (node g.Identifiers (ids m.names.items) done)
 
-abbrev pub specifier_shown : Specifier → Forest → Forest
-specifier_shown (specifier.Simple t) rest = node g.TypeName (type_shown t) rest
-specifier_shown (specifier.Array t i) rest = node g.TypeName (type_shown t) (node g.SpecifiedKind (leaf i.0 k.Array done) rest)
-specifier_shown (specifier.Procedure None i) rest = leaf i.0 k.Procedure rest
-specifier_shown (specifier.Procedure (Some t) i) rest = node g.TypeName (type_shown t) (node g.SpecifiedKind (leaf i.0 k.Procedure done) rest)
+abbrev pub specifier_derivation : Specifier → Forest → Forest
+specifier_derivation (specifier.Simple t) rest = node g.TypeName (type_derivation t) rest
+specifier_derivation (specifier.Array t i) rest = node g.TypeName (type_derivation t) (node g.SpecifiedKind (leaf i.0 k.Array done) rest)
+specifier_derivation (specifier.Procedure None i) rest = leaf i.0 k.Procedure rest
+specifier_derivation (specifier.Procedure (Some t) i) rest = node g.TypeName (type_derivation t) (node g.SpecifiedKind (leaf i.0 k.Procedure done) rest)
 
-abbrev pub specification_shown : Specification → Forest
-specification_shown s = specifier_shown s.specifier (node g.Identifiers (ids s.names.items) done)
+abbrev pub specification_derivation : Specification → Forest
+specification_derivation s = specifier_derivation s.specifier (node g.Identifiers (ids s.names.items) done)
 
-abbrev pub heading_shown : List Identifier → List ModePart → List Specification → Forest
-heading_shown [] [] [] = done
-heading_shown ps ms ss = node g.Identifiers (ids ps) (row g.Mode (map mode_shown ms) (row g.Specification (map specification_shown ss) done))
+abbrev pub heading_derivation : List Identifier → List ModePart → List Specification → Forest
+heading_derivation [] [] [] = done
+heading_derivation ps ms ss = node g.Identifiers (ids ps) (row g.Mode (map mode_derivation ms) (row g.Specification (map specification_derivation ss) done))
 
 -- Protection and virtual procedures.
 abbrev pub protecting : Option TokenNo → Option TokenNo → Forest → Forest
@@ -150,23 +150,23 @@ protecting (Some h) (Some p) rest =
     then leaf h.0 k.Hidden (node g.AndProtected (leaf p.0 k.Protected done) rest)
     else leaf p.0 k.Protected (node g.AndHidden (leaf h.0 k.Hidden done) rest)
 
-abbrev pub protection_shown : Protection → Forest
-protection_shown p = protecting p.hidden p.protected (node g.Identifiers (ids p.names.items) done)
+abbrev pub protection_derivation : Protection → Forest
+protection_derivation p = protecting p.hidden p.protected (node g.Identifiers (ids p.names.items) done)
 
-abbrev pub virtual_shown : VirtualSpecification → Forest
-virtual_shown v = typed v.result (leaf v.token.0 k.Procedure (node g.Identifiers (ids v.names.items) done))
+abbrev pub virtual_derivation : VirtualSpecification → Forest
+virtual_derivation v = typed v.result (leaf v.token.0 k.Procedure (node g.Identifiers (ids v.names.items) done))
 
-abbrev pub virtuals_shown : List VirtualSpecification → Forest → Forest
-virtuals_shown [] rest = rest
-virtuals_shown (v ∷ vs) rest = node g.Virtuals (row g.VirtualSpecification (map virtual_shown (v ∷ vs)) done) rest
+abbrev pub virtuals_derivation : List VirtualSpecification → Forest → Forest
+virtuals_derivation [] rest = rest
+virtuals_derivation (v ∷ vs) rest = node g.Virtuals (row g.VirtualSpecification (map virtual_derivation (v ∷ vs)) done) rest
 
 -- Parts of statements.
 abbrev pub assignment_kind : Assignment → TokenKind
 assignment_kind assignment.Value = k.Assign
 assignment_kind assignment.Reference = k.AssignReference
 
-abbrev pub assigned_shown : Assigned → Forest
-assigned_shown a = leaf a.token.0 (assignment_kind a.sign) (expr a.value done)
+abbrev pub assigned_derivation : Assigned → Forest
+assigned_derivation a = leaf a.token.0 (assignment_kind a.sign) (expr a.value done)
 
 -- A left side or a call, and what is assigned. Where an identifier begins it, that and its actuals are taken first.
 abbrev pub acted : Forest → Forest → Forest
@@ -176,51 +176,51 @@ acted f rest = node g.Postfix f rest
 
 abbrev pub assigning : Expr → List Assigned → Forest
 assigning left [] = done
-assigning left (a ∷ others) = acted (raise 1 (shown left)) (row g.Assigned (map assigned_shown (a ∷ others)) done)
+assigning left (a ∷ others) = acted (raise 1 (derivation_of left)) (row g.Assigned (map assigned_derivation (a ∷ others)) done)
 
-abbrev pub for_element_shown : ForElement → Forest
-for_element_shown (for_element.Value value) = expr value done
-for_element_shown (for_element.Step start i step limit) = expr start (node g.ForElementTail (leaf i.0 k.Step (expr step (expr limit done))) done)
-for_element_shown (for_element.While value i condition) = expr value (node g.ForElementTail (leaf i.0 k.While (expr condition done)) done)
+abbrev pub for_element_derivation : ForElement → Forest
+for_element_derivation (for_element.Value value) = expr value done
+for_element_derivation (for_element.Step start i step limit) = expr start (node g.ForElementTail (leaf i.0 k.Step (expr step (expr limit done))) done)
+for_element_derivation (for_element.While value i condition) = expr value (node g.ForElementTail (leaf i.0 k.While (expr condition done)) done)
 
 abbrev pub next_for_element : ForElement → Forest
-next_for_element e = node g.ForElement (for_element_shown e) done
+next_for_element e = node g.ForElement (for_element_derivation e) done
 
 abbrev pub for_elements : List ForElement → Forest
 for_elements [] = done
-for_elements (e ∷ es) = node g.ForElement (for_element_shown e) (row g.NextForElement (map next_for_element es) done)
+for_elements (e ∷ es) = node g.ForElement (for_element_derivation e) (row g.NextForElement (map next_for_element es) done)
 
-abbrev pub reference_element_shown : ReferenceElement → Forest
-reference_element_shown (reference_element.Value value) = expr value done
-reference_element_shown (reference_element.While value i condition) = expr value (node g.ReferenceElementTail (leaf i.0 k.While (expr condition done)) done)
+abbrev pub reference_element_derivation : ReferenceElement → Forest
+reference_element_derivation (reference_element.Value value) = expr value done
+reference_element_derivation (reference_element.While value i condition) = expr value (node g.ReferenceElementTail (leaf i.0 k.While (expr condition done)) done)
 
 abbrev pub next_reference_element : ReferenceElement → Forest
-next_reference_element e = node g.ReferenceElement (reference_element_shown e) done
+next_reference_element e = node g.ReferenceElement (reference_element_derivation e) done
 
 abbrev pub reference_elements : List ReferenceElement → Forest
 reference_elements [] = done
-reference_elements (e ∷ es) = node g.ReferenceElement (reference_element_shown e) (row g.NextReferenceElement (map next_reference_element es) done)
+reference_elements (e ∷ es) = node g.ReferenceElement (reference_element_derivation e) (row g.NextReferenceElement (map next_reference_element es) done)
 
 abbrev pub activation_kind : Activation → TokenKind
 activation_kind activation.Activate = k.Activate
 activation_kind activation.Reactivate = k.Reactivate
 
-abbrev pub prior_shown : Option TokenNo → Forest
-prior_shown None = done
-prior_shown (Some i) = node g.PriorMark (leaf i.0 k.Prior done) done
+abbrev pub prior_derivation : Option TokenNo → Forest
+prior_derivation None = done
+prior_derivation (Some i) = node g.PriorMark (leaf i.0 k.Prior done) done
 
 abbrev pub timing_inside : Timing → Forest
-timing_inside (timing.At i time prior) = leaf i.0 k.At (expr time (prior_shown prior))
-timing_inside (timing.Delay i time prior) = leaf i.0 k.Delay (expr time (prior_shown prior))
+timing_inside (timing.At i time prior) = leaf i.0 k.At (expr time (prior_derivation prior))
+timing_inside (timing.Delay i time prior) = leaf i.0 k.Delay (expr time (prior_derivation prior))
 timing_inside (timing.Before i process) = leaf i.0 k.Before (expr process done)
 timing_inside (timing.After i process) = leaf i.0 k.After (expr process done)
 
-abbrev pub timing_shown : Option Timing → Forest
-timing_shown None = done
-timing_shown (Some t) = node g.Timing (timing_inside t) done
+abbrev pub timing_derivation : Option Timing → Forest
+timing_derivation None = done
+timing_derivation (Some t) = node g.Timing (timing_inside t) done
 
-abbrev pub prefix_shown : BlockPrefix → Forest → Forest
-prefix_shown p rest = identifier p.class (arguments (map shown p.arguments.items) rest)
+abbrev pub prefix_derivation : BlockPrefix → Forest → Forest
+prefix_derivation p rest = identifier p.class (arguments (map derivation_of p.arguments.items) rest)
 
 -- Statements. What is inside one is given; a block's is what is inside `begin .. end`.
 -- what is inside a declaration, behind the prefix of a class, if one is written
@@ -251,30 +251,30 @@ block_layer b = leaf b.token.0 k.Begin (node g.Block (contents b.declarations.it
 
 abbrev pub procedure_layer : Procedure-F Declared Forest Forest Forest Forest Forest → Forest
 procedure_layer p =
-    identifier p.name (node g.Heading (heading_shown p.parameters.items p.modes.items p.specifications.items) (node g.Statement p.body.value (place p.end.0 done)))
+    identifier p.name (node g.Heading (heading_derivation p.parameters.items p.modes.items p.specifications.items) (node g.Statement p.body.value (place p.end.0 done)))
 
 abbrev pub class_layer : Class-F Declared Forest Forest Forest Forest Forest → Forest
 class_layer c =
-    identifier c.name (node g.Heading (heading_shown c.parameters.items c.modes.items c.specifications.items)
-    (row g.Protection (map protection_shown c.protections.items) (virtuals_shown c.virtuals.items (node g.Statement c.body.value (place c.end.0 done)))))
+    identifier c.name (node g.Heading (heading_derivation c.parameters.items c.modes.items c.specifications.items)
+    (row g.Protection (map protection_derivation c.protections.items) (virtuals_derivation c.virtuals.items (node g.Statement c.body.value (place c.end.0 done)))))
 
 abbrev pub when_layer : When-F Declared Forest Forest Forest Forest Forest → Forest
 when_layer w = leaf w.token.0 k.When (identifier w.class (leaf w.opening.0 k.Do (node g.Statement w.body (place w.end.0 done))))
 
 abbrev pub decl_layer : Decl-F Declared Forest Forest Forest Forest Forest → Declared
-decl_layer (Decl-F.Variables t vs) = Plain (node g.TypeName (type_shown t) (node g.TypedDeclaration (variables_shown vs.items) done))
-decl_layer (Decl-F.Arrays t i ss) = Plain (node g.TypeName (type_shown t) (node g.TypedDeclaration (leaf i.0 k.Array (segments_shown ss.items)) done))
+decl_layer (Decl-F.Variables t vs) = Plain (node g.TypeName (type_derivation t) (node g.TypedDeclaration (variables_derivation vs.items) done))
+decl_layer (Decl-F.Arrays t i ss) = Plain (node g.TypeName (type_derivation t) (node g.TypedDeclaration (leaf i.0 k.Array (segments_derivation ss.items)) done))
 decl_layer (Decl-F.Procedure None i p) = Plain (leaf i.0 k.Procedure (node g.Procedure p done))
-decl_layer (Decl-F.Procedure (Some t) i p) = Plain (node g.TypeName (type_shown t) (node g.TypedDeclaration (leaf i.0 k.Procedure (node g.Procedure p done)) done))
+decl_layer (Decl-F.Procedure (Some t) i p) = Plain (node g.TypeName (type_derivation t) (node g.TypedDeclaration (leaf i.0 k.Procedure (node g.Procedure p done)) done))
 decl_layer (Decl-F.Class None i c) = Plain (leaf i.0 k.Class (node g.Class c done))
 decl_layer (Decl-F.Class (Some x) i c) = Prefixed x i.0 c
 
 abbrev pub stmt_layer : Stmt-F Declared Forest Forest Forest Forest Forest → Forest
 stmt_layer (Stmt-F.Empty i) = place i.0 done
 stmt_layer (Stmt-F.Block b) = node g.Compound b done
-stmt_layer (Stmt-F.PrefixedBlock p b) = prefix_shown p (node g.AfterFirstOperand (node g.Compound b done) done)
+stmt_layer (Stmt-F.PrefixedBlock p b) = prefix_derivation p (node g.AfterFirstOperand (node g.Compound b done) done)
 stmt_layer (Stmt-F.Inner i) = leaf i.0 k.Inner done
-stmt_layer (Stmt-F.Call e) = acted (raise 1 (shown e)) done
+stmt_layer (Stmt-F.Call e) = acted (raise 1 (derivation_of e)) done
 stmt_layer (Stmt-F.Assignment left rest) = assigning left rest.items
 stmt_layer (Stmt-F.If i condition first None) = leaf i.0 k.If (expr condition (node g.Statement first.value done))
 stmt_layer (Stmt-F.If i condition first (Some second)) =
@@ -291,30 +291,30 @@ stmt_layer (Stmt-F.Inspect i object opening body end (Some otherwise)) =
 stmt_layer (Stmt-F.InspectWhen i object arms None) = leaf i.0 k.Inspect (expr object (node g.Arms (row g.WhenArm arms.items done) done))
 stmt_layer (Stmt-F.InspectWhen i object arms (Some otherwise)) =
     leaf i.0 k.Inspect (expr object (node g.Arms (row g.WhenArm arms.items done) (node g.OtherwiseBranch (node g.Statement otherwise.value done) done)))
-stmt_layer (Stmt-F.Activation i word process time) = leaf i.0 (activation_kind word) (expr process (timing_shown time))
+stmt_layer (Stmt-F.Activation i word process time) = leaf i.0 (activation_kind word) (expr process (timing_derivation time))
 
-abbrev pub stmt_shown : Stmt → Forest
-stmt_shown = fold-Stmt Declared Forest Forest Forest Forest Forest decl_layer stmt_layer block_layer class_layer procedure_layer when_layer
+abbrev pub statement_derivation : Stmt → Forest
+statement_derivation = fold-Stmt Declared Forest Forest Forest Forest Forest decl_layer stmt_layer block_layer class_layer procedure_layer when_layer
 
-abbrev pub decl_shown : Decl → Declared
-decl_shown = fold-Decl Declared Forest Forest Forest Forest Forest decl_layer stmt_layer block_layer class_layer procedure_layer when_layer
+abbrev pub declaration_derivation : Decl → Declared
+declaration_derivation = fold-Decl Declared Forest Forest Forest Forest Forest decl_layer stmt_layer block_layer class_layer procedure_layer when_layer
 
-abbrev pub block_shown : Block → Forest
-block_shown = fold-Block Declared Forest Forest Forest Forest Forest decl_layer stmt_layer block_layer class_layer procedure_layer when_layer
+abbrev pub block_derivation : Block → Forest
+block_derivation = fold-Block Declared Forest Forest Forest Forest Forest decl_layer stmt_layer block_layer class_layer procedure_layer when_layer
 
-abbrev pub class_shown : Class → Forest
-class_shown = fold-Class Declared Forest Forest Forest Forest Forest decl_layer stmt_layer block_layer class_layer procedure_layer when_layer
+abbrev pub class_derivation : Class → Forest
+class_derivation = fold-Class Declared Forest Forest Forest Forest Forest decl_layer stmt_layer block_layer class_layer procedure_layer when_layer
 
-abbrev pub procedure_shown : Procedure → Forest
-procedure_shown = fold-Procedure Declared Forest Forest Forest Forest Forest decl_layer stmt_layer block_layer class_layer procedure_layer when_layer
+abbrev pub procedure_derivation : Procedure → Forest
+procedure_derivation = fold-Procedure Declared Forest Forest Forest Forest Forest decl_layer stmt_layer block_layer class_layer procedure_layer when_layer
 
-abbrev pub when_shown : When → Forest
-when_shown = fold-When Declared Forest Forest Forest Forest Forest decl_layer stmt_layer block_layer class_layer procedure_layer when_layer
+abbrev pub when_derivation : When → Forest
+when_derivation = fold-When Declared Forest Forest Forest Forest Forest decl_layer stmt_layer block_layer class_layer procedure_layer when_layer
 
 abbrev pub prefixed : Option BlockPrefix → Forest → Forest
 prefixed None rest = rest
-prefixed (Some x) rest = prefix_shown x rest
+prefixed (Some x) rest = prefix_derivation x rest
 
 -- what is inside a program
-abbrev pub program_shown : Program → Forest
-program_shown p = prefixed p.prefix (node g.Compound (block_shown p.block) done)
+abbrev pub program_derivation : Program → Forest
+program_derivation p = prefixed p.prefix (node g.Compound (block_derivation p.block) done)
