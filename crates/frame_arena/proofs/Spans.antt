@@ -19,7 +19,7 @@ module _ (fs : List Frame) (cells : List Slot) (m : Frames) (s : Span) (c : ℕ)
       HoldsAfter true fs (set cells (s.base + c) x) (cell_set m s.number c (value_of x))
   span_writes x h1 h2 leads held =
       subst (λ b. HoldsAfter true fs (set cells (b + c) x) (cell_set m s.number c (value_of x))) i.base
-      (writes fs cells m i.place s.number c x h i.has (subst (λ n. c < n) (sym i.cells) h1) (subst (λ b. b + c < length cells) (sym i.base) h2) leads held)
+      (writes fs cells m s.region s.number c x h i.has (subst (λ n. c < n) (sym i.cells) h1) (subst (λ b. b + c < length cells) (sym i.base) h2) leads held)
 
   pub span_past : (v : Value) → s.cells ≤ c → HoldsAfter false fs cells (cell_set m s.number c v)
-  span_past v h1 = no_write fs cells m i.place s.number c v h i.has (subst (λ n. n ≤ c) (sym i.cells) h1)
+  span_past v h1 = no_write fs cells m s.region s.number c v h i.has (subst (λ n. n ≤ c) (sym i.cells) h1)

@@ -41,13 +41,12 @@ abbrev pub number_there : List Frame → Option ℕ → Option ℕ
 number_there frames None = None
 number_there frames (Some place) = Some (frame_at frames place).number
 
--- the number, level and cells are those of some frame
+-- the number, level and cells are those of the frame in its region
 pub record IsSpan (frames : List Frame) (s : Span) : Type 0 where
-  pub place : ℕ
-  pub has : Has frames place s.number
-  pub level : (frame_at frames place).level ≡ s.level
-  pub base : (frame_at frames place).base ≡ s.base
-  pub cells : (frame_at frames place).cells ≡ s.cells
+  pub has : Has frames s.region s.number
+  pub level : (frame_at frames s.region).level ≡ s.level
+  pub base : (frame_at frames s.region).base ≡ s.base
+  pub cells : (frame_at frames s.region).cells ≡ s.cells
 
 abbrev pub span_number : Option Span → Option ℕ
 span_number None = None

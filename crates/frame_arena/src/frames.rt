@@ -92,11 +92,13 @@ pub fn cell(frames: &[Frame], cells: &[Slot], at: FrameRef, cell: usize) -> Opti
     slot_in(cells, frames[place].base, frames[place].cells, cell)
 }
 
-/// Where the cells of a frame lie, and its number and level.
+/// Where a frame and its cells lie, and its number and level.
 #[derive(Clone, Copy, Debug)]
 pub struct Span {
     /// The number of the frame in the order of entry.
     pub number: u64,
+    /// The region that it is in.
+    pub region: u32,
     /// Its level.
     pub level: u32,
     /// Where its cells begin.
@@ -107,15 +109,16 @@ pub struct Span {
 
 /// That of the frame in a region.
 #[inline(always)]
-pub fn span_at(frames: &[Frame], place: usize) -> Span
-    requires there { place < length frames.now }
-    requires live { (frame_at frames.now place).live ≡ true }
+pub fn span_at(frames: &[Frame], region: u32) -> Span
+    requires there { region < length frames.now }
+    requires live { (frame_at frames.now region).live ≡ true }
     ensures span { IsSpan frames.now result }
-    ensures number { result.number ≡ (frame_at frames.now place).number }
+    ensures number { result.number ≡ (frame_at frames.now region).number }
 {
-    let frame = &frames[place];
+    let frame = &frames[region as usize];
     Span {
         number: frame.number,
+        region,
         level: frame.level,
         base: frame.base,
         cells: frame.cells,
@@ -174,7 +177,7 @@ pub fn span_at_level(frames: &[Frame], own: Span, home: FrameRef, level: usize) 
     let Some(region) = region_at_level(frames, home, level) else {
         return None;
     };
-    Some(span_at(frames, region as usize))
+    Some(span_at(frames, region))
 }
 
 /// The value of a cell of a frame, where it has such a cell, and there is a value in it.

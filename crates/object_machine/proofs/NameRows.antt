@@ -1,5 +1,5 @@
 -- Rows of standard names.
-use Rattle.std.proofs.Common.{◌≡◌, ℕ, zero, suc, ◌+◌, ◌-◌, ◌<◌, ◌≤◌, List, [], ◌∷◌, ◌++◌, length, sym, subst, refl, ap, ◌∙◌, arith}
+use Rattle.std.proofs.Common.{◌≡◌, inl, inr, ℕ, zero, suc, ◌+◌, ◌-◌, ◌<◌, ◌≤◌, List, [], ◌∷◌, ◌++◌, length, sym, subst, refl, ap, ◌∙◌, arith}
 use Rattle.std.specs.Prelude.{Bool, true, false, if◌then◌else◌, Option, Some, None}
 use Rattle.std.specs.Io.KnownBytes.{Appends}
 use Rattle.sim_base.specs.declared.limits.Limits.{Limits}
@@ -30,7 +30,7 @@ use Rattle.object_machine.specs.declared.machine.Flow.TheVariants as flow
 use Rattle.object_machine.specs.declared.placing.Placing.{Placing}
 use Rattle.object_machine.specs.declared.placing.Placing.TheVariants as placing
 use Rattle.object_machine.specs.Named.{FlowEnds, InputEnds, Still}
-use Rattle.object_machine.specs.Operands.{AllRead, OneUnread, first_slot}
+use Rattle.object_machine.specs.Operands.{AllRead, IsReady, OneUnread, first_slot}
 use Rattle.object_machine.specs.Placing.{LeadsFrom, PutsBack}
 use Rattle.object_machine.specs.Settled.{Follows, MovesBack, Settles}
 use Rattle.object_machine.specs.Standing.{InWorld, Leaves, Outside, Stands, activation_at, below_of, outside, ports_in, ports_of}
@@ -83,6 +83,11 @@ module _ (l : Limits) (line : ℕ) (name : Standard) (o : World) (m : Frames) (r
 
   pub unread_operand : count ≤ r.depth → r.depth ≤ length stack → OneUnread o m (r.depth - count) r.depth stack → table_row ≡ no_rule o
   unread_operand h h1 u = when_never (room_for name act) o _ (performing_is ∙ unread o m stack new count r.depth None h h1 u.place u.begins u.ends u.nothing behind)
+
+  -- where not all operands are something
+  pub unready_row : r.depth ≤ length stack → IsReady None name o m r.depth stack new → table_row ≡ no_rule o
+  unready_row h1 (inl few) = few_operands few h1
+  unready_row h1 (inr u) = unread_operand u.0 h1 u.1
 
   -- the run goes on behind what the name came to, with its text put back
   abbrev pub goes : World → Option TextVal → List Value → Run Machine
@@ -221,6 +226,13 @@ module _ (l : Limits) (line : ℕ) (p p2 : Storage) (below : List working.Activa
         (along l line p2 below before now2 flow.WriteFault r2 stack2 _ _ (is ∙ c.4 go ∙ not_moved c.0 m _ _)
         (o.store.written ++ did.0, c.2, added_twice before now.sink now2.sink o.store.written did.0 s.stores.world.written did.1, c.3 ∙ sym (assoc o.store.written did.0 c.2)))
     name_row performed.InputFault f did settled led = subst (λ f. Leaves f l line p2 r2 stack2 below before now2 q) (sym settled) tt
+
+  -- the row of a name whose operands were read
+  pub performed_row : (first : Slot) → r.depth ≤ length stack → length new ≡ length stack → IsReady (Some first) name o m r.depth stack new → (result : Performed) (f : Flow) → PerformedAs result budget name (held r.depth new) stack2 old new2 → Settles result f first later p2 r r2 →
+      Leaves f l line p2 r2 stack2 below before now2 (table_row l line name o m r stack new below)
+  performed_row first fits same ready result f did settled =
+      name_row (table_row l line name o m r stack new below) (read_row l line name o m r stack new below ready.0 fits same ready.2) result f did
+      (subst (λ a. Settles result f a later p2 r r2) ready.1 settled) (first_led p o m n r.depth stack s.top.slots s.top.arrays_lead)
 
 -- ---- how the ends stand
 

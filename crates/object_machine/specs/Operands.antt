@@ -1,6 +1,8 @@
 -- Operands of standard names, which may be addresses of texts.
-use Rattle.std.specs.Prelude.{◌≡◌, ℕ, zero, suc, ◌+◌, ◌-◌, ◌<◌, ◌≤◌, Bool, true, false, List, Option, Some, None}
+use Rattle.std.specs.Prelude.{◌≡◌, ℕ, zero, suc, ◌+◌, ◌-◌, ◌<◌, ◌≤◌, ◌⊎◌, Bool, true, false, List, length, Option, Some, None}
+use Rattle.sim_values.specs.declared.standard.Standard.{Standard}
 use Rattle.sim_values.specs.Plain.{Plain}
+use Rattle.sim_values.specs.Standard.{operands_of, row_of}
 use Rattle.sim_code.specs.Events.{only_text}
 use Rattle.sim_code.specs.Machine.{Frames, Value, operand, plain, plain_in}
 use Rattle.sim_code.specs.Outcome.{World}
@@ -33,6 +35,13 @@ pub record OneUnread (o : World) (m : Frames) (first end : ℕ) (old : List Slot
   pub begins : first ≤ place
   pub ends : place < end
   pub nothing : operand o m (value_of (slot_at old place)) ≡ None
+
+-- The operands of a name are what stands in their place, and this is the first; or there are too few, or one is nothing.
+abbrev pub IsReady : Option Slot → Standard → World → Frames → (depth : ℕ) → (old new : List Slot) → Type 0
+IsReady (Some first) name o m depth old new =
+    (length (operands_of (row_of name).function) ≤ depth) × (first ≡ first_slot (length (operands_of (row_of name).function)) depth old) × AllRead o m (depth - length (operands_of (row_of name).function)) depth old new
+IsReady None name o m depth old new =
+    (depth < length (operands_of (row_of name).function)) ⊎ ((length (operands_of (row_of name).function) ≤ depth) × OneUnread o m (depth - length (operands_of (row_of name).function)) depth old)
 
 abbrev pub OperandsRead : Bool → World → Frames → (first end : ℕ) → (old new : List Slot) → Type 0
 OperandsRead true o m first end old new = AllRead o m first end old new

@@ -170,15 +170,18 @@ pub fn end_level(frames: &[Frame], regs: &Registers, operand: i64) -> Flow
 }
 
 /// Pushes the address of a cell. It stops as for want of memory where the cell's number is 2^32 or more: no frame has such a cell.
+/// `own` is the span of some frame.
 #[inline(always)]
 pub fn address(
     frames: &[Frame],
+    own: Span,
     stack: &mut [Slot],
     regs: &mut Registers,
     level: i64,
     cell: i64,
     class: i64,
 ) -> Flow
+    requires own { IsSpan frames.now own }
     requires fits { regs.old.depth ≤ length stack.old }
     requires short { regs.old.pc + 1 < 2 ^ 64 }
     ensures fits { regs.new.depth ≤ length stack.new }
@@ -188,7 +191,7 @@ pub fn address(
     if !unqualified(class) {
         return Flow::NoRule;
     }
-    let Some(frame) = level_frame(frames, regs.home, level) else {
+    let Some(span) = level_span(frames, own, regs.home, level) else {
         return Flow::NoRule;
     };
     let Some(number) = index(cell) else {
@@ -197,9 +200,13 @@ pub fn address(
     let Ok(short) = u32::try_from(number) else {
         return Flow::Memory;
     };
-    if frame.stamp >= 1 << 63 {
+    if span.number >= 1 << 63 {
         return Flow::Memory;
     }
+    let frame = FrameRef {
+        frame: span.region,
+        stamp: span.number,
+    };
     push(stack, regs, Slot::cell(frame, short, 0))
 }
 

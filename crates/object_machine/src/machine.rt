@@ -10,10 +10,10 @@ use text_objects::Texts;
 /// Where a frame at work goes on.
 #[derive(Clone, Copy, Debug)]
 pub struct Registers {
-    /// The frame.
-    pub home: FrameRef,
     /// The index of its next instruction.
     pub pc: usize,
+    /// The frame.
+    pub home: FrameRef,
     /// How many values are in its operand stack.
     pub depth: usize,
 }

@@ -1,14 +1,18 @@
 //! Standard names.
-ghost use Rattle.std.specs.Prelude.{◌≡◌, ℕ, ◌+◌, ◌<◌, ◌≤◌, ◌^◌, List, Option, Some, length, true};
+ghost use Rattle.std.specs.Prelude.{◌≡◌, ℕ, ◌+◌, ◌<◌, ◌≤◌, ◌^◌, List, Option, Some, IfSome, length, true};
 ghost use Rattle.sim_code.specs.Events.{having, performing, when};
 ghost use Rattle.sim_code.specs.Machine.{Frames, on, operand as operand_of};
+ghost use Rattle.sim_code.specs.Outcome.{ArrayOf, World};
 ghost use Rattle.sim_code.specs.Rows.{put_back as put_back_of, room_for, standard_of, with_value};
-ghost use Rattle.sim_code.specs.Running.{standard_runs};
+ghost use Rattle.sim_code.specs.Running.{name_runs, standard_runs};
+ghost use Rattle.frame_arena.specs.Arrays.{AllLeadArrays, HoldsArrays};
+ghost use Rattle.frame_arena.specs.Frames.{AllLead, Holds};
 ghost use Rattle.standard_calls.specs.Performed.{IfDepth};
 ghost use Rattle.object_machine.specs.Named.{FlowEnds, InputEnds, Still};
+ghost use Rattle.object_machine.specs.Operands.{IsReady};
 ghost use Rattle.object_machine.specs.Running.{Onward};
 ghost use Rattle.object_machine.specs.Settled.{Follows, Settles};
-ghost use Rattle.object_machine.specs.Standing.{HasImages, Obeys, outside};
+ghost use Rattle.object_machine.specs.Standing.{HasImages, Obeys, Outside, Untouched, outside, ports_in, ports_of};
 ghost use Rattle.object_machine.specs.Taking.{StepTakes};
 
 use crate::constants::index;
@@ -19,7 +23,7 @@ use frame_arena::Slot;
 use sim_base::Limits;
 use sim_ports::{Sink, Source};
 use sim_values::Standard;
-use standard_calls::{Performed, operand_count, perform};
+use standard_calls::{Performed, is_quiet, operand_count, perform, perform_quiet};
 
 // The standard name of a number.
 #[inline(always)]
@@ -43,6 +47,7 @@ fn settle_performed(
     requires short { regs.old.pc + 1 < 2 ^ 64 }
     ensures fits { (room : ℕ) → regs.old.depth ≤ room → IfDepth performed (λ n. n ≤ room) → regs.new.depth ≤ room }
     ensures valid { HasImages storage.old.texts storage.old.image → HasImages storage.new.texts storage.new.image }
+    ensures frames { storage.new.frames ≡ storage.old.frames }
     ensures settled { Settles performed result address storage.old storage.new regs.old regs.new }
 {
     match performed {
@@ -85,7 +90,80 @@ fn follow(regs: &mut Registers, placing: Placing, depth: usize) -> Flow
     }
 }
 
-/// Does what a standard name does with its operands, and puts its value in their place, if it has one.
+// The first operand of a name, where each of its operands is something; what they are stands in their place then.
+#[inline(always)]
+fn ready(storage: &Storage, stack: &mut [Slot], depth: usize, name: Standard) -> Option<Slot>
+    requires fits { depth ≤ length stack.old }
+    requires runs { name_runs name ≡ true }
+    ensures long { length stack.new ≡ length stack.old }
+    ensures leads { (m : Frames) → AllLead storage.now.frames.items m stack.old → AllLead storage.now.frames.items m stack.new }
+    ensures leads_arrays { (list : List ArrayOf) → AllLeadArrays storage.now.arrays.regions list stack.old → AllLeadArrays storage.now.arrays.regions list stack.new }
+    ensures read { (o : World) (m : Frames) (source : List ℕ) → Holds storage.now.frames.items storage.now.cells.items m → HoldsArrays storage.now.arrays o.arrays → ports_in o.store ≡ ports_of storage.now.image source → AllLead storage.now.frames.items m stack.old → AllLeadArrays storage.now.arrays.regions o.arrays stack.old →
+        IsReady result name o m depth stack.old stack.new }
+{
+    let count = operand_count(name);
+    if depth < count {
+        return None;
+    }
+    let address = first_operand(stack, depth, count);
+    if read_operands(
+        &storage.frames,
+        &storage.cells,
+        &storage.arrays,
+        &storage.image,
+        stack,
+        depth - count,
+        depth,
+    ) {
+        return Some(address);
+    }
+    None
+}
+
+/// Does what a quiet standard name does, and puts its value in the place of its operands, if it has one. At any other name it does
+/// nothing.
+#[inline(always)]
+pub fn quiet_standard(
+    limits: &Limits,
+    storage: &mut Storage,
+    stack: &mut [Slot],
+    regs: &mut Registers,
+    operand: i64,
+) -> Option<Flow>
+    requires fits { regs.old.depth ≤ length stack.old }
+    requires short { regs.old.pc + 1 < 2 ^ 64 }
+    requires images { HasImages storage.old.texts storage.old.image }
+    ensures fits { regs.new.depth ≤ length stack.new }
+    ensures valid { HasImages storage.new.texts storage.new.image }
+    ensures frames { storage.new.frames ≡ storage.old.frames }
+    ensures other { Untouched result storage.old storage.new regs.old regs.new stack.old stack.new }
+    ensures row { IfSome result (λ f. (line : ℕ) (below : List Activation) (now : Outside) →
+        Obeys f limits.now line (λ o m a b. having (standard_of operand) o (λ name. when (room_for name a) o (performing operand_of put_back_of limits.now line name a.stack o m (λ p m value st. on p m a (with_value value st) b)))) storage.old storage.new regs.old regs.new stack.old stack.new below below now now) }
+{
+    let Some(name) = name_of(operand) else {
+        return None;
+    };
+    if !is_quiet(name) {
+        return None;
+    }
+    let depth = regs.depth;
+    let Some(address) = ready(storage, stack, depth, name) else {
+        return Some(Flow::NoRule);
+    };
+    let budget = u64::from(limits.storage);
+    let performed = perform_quiet(
+        name,
+        stack,
+        depth,
+        budget,
+        &mut storage.words,
+        &mut storage.texts,
+    );
+    Some(settle_performed(storage, regs, performed, address))
+}
+
+/// Does what a standard name does that is not quiet, and puts its value in the place of its operands, if it has one. At a quiet one the
+/// machine stops as for want of memory: `quiet_standard` does those.
 #[tactic(auto, using(crate::proofs::Taking::takes_none))]
 pub fn standard<I: Source, O: Sink>(
     limits: &Limits,
@@ -114,23 +192,13 @@ pub fn standard<I: Source, O: Sink>(
     let Some(name) = name_of(operand) else {
         return Flow::NoRule;
     };
-    let count = operand_count(name);
+    if is_quiet(name) {
+        return Flow::Memory;
+    }
     let depth = regs.depth;
-    if depth < count {
+    let Some(address) = ready(storage, stack, depth, name) else {
         return Flow::NoRule;
-    }
-    let address = first_operand(stack, depth, count);
-    if !read_operands(
-        &storage.frames,
-        &storage.cells,
-        &storage.arrays,
-        &storage.image,
-        stack,
-        depth - count,
-        depth,
-    ) {
-        return Flow::NoRule;
-    }
+    };
     let budget = u64::from(limits.storage);
     let performed = perform(
         name,

@@ -137,6 +137,7 @@ pub fn place(storage: &mut Storage, address: Slot, value: Slot) -> Placing
 /// Puts a text with another position back where its address leads, if it came from one.
 #[inline(always)]
 pub fn put_back(storage: &mut Storage, address: Slot, text: TextVal) -> Placing
+    ensures frames { storage.new.frames ≡ storage.old.frames }
     ensures valid { HasImages storage.old.texts storage.old.image → HasImages storage.new.texts storage.new.image }
     ensures row { (l : Limits) (r : Registers) (stack : List SlotOf) (below : List Activation) (before : Option (List ℕ)) (now : Outside) (o : World) (m : Frames) →
         Stands l storage.old r stack below before now o m → LeadsFrom storage.old o m address → PutsBack result l storage.new r stack below before now o m address text }

@@ -125,6 +125,7 @@ fn read_operand(
 
 /// Puts what they are in the place of operands, from the first one to the end; one that is plain stays. It answers whether they all are
 /// something.
+#[inline(always)]
 pub fn read_operands(
     frames: &[Frame],
     cells: &[Slot],

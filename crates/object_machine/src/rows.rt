@@ -13,6 +13,7 @@ use crate::arrays::{array, copy_array, elem, fetch, keep, put};
 use crate::cells::{address, end_level, link, load, store};
 use crate::control::{jump, jump_if_false, tick};
 use crate::machine::{Activation, Flow, Registers, Storage};
+use crate::names::quiet_standard;
 use crate::operands::{
     drop_top, dup, one, push_character, push_integer, push_none, push_truth, relation, step_test,
     swap, two,
@@ -52,8 +53,8 @@ fn not_built() -> Flow
     Flow::Memory
 }
 
-/// Does an instruction that works on the frame at work, on its textual enclosers and on elements of arrays, and leaves all frames where
-/// they are. At any other one it does nothing. `own` is the span of some frame.
+/// Does an instruction that works on the frame at work, on its textual enclosers, on elements of arrays and on texts, and leaves all
+/// frames where they are. At any other one it does nothing. `own` is the span of some frame.
 #[inline(always)]
 pub fn obey(
     instrs: &[Lined],
@@ -102,6 +103,7 @@ pub fn obey(
         Instr::Link(level) => Some(link(&storage.frames, stack, regs, level)),
         Instr::Addr { level, cell, class } => Some(address(
             &storage.frames,
+            own,
             stack,
             regs,
             level,
@@ -140,6 +142,7 @@ pub fn obey(
         Instr::JumpF(to) => Some(jump_if_false(instrs, stack, regs, to)),
         Instr::Tick => Some(tick(limits, storage, regs)),
         Instr::StepTest => Some(step_test(stack, regs)),
+        Instr::Std(operand) => quiet_standard(limits, storage, stack, regs, operand),
         _ => None,
     }
 }

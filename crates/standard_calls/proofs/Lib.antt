@@ -12,3 +12,4 @@ pub mod Counts
 pub mod Unread
 pub mod TakesNone
 pub mod Taking
+pub mod Quietness

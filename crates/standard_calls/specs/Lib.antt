@@ -2,3 +2,4 @@ pub mod Performed
 pub mod Calls
 pub mod Unread
 pub mod Taking
+pub mod Quiet

@@ -8,8 +8,10 @@ mod input;
 mod names;
 mod output;
 mod performing;
+mod quiet;
 mod reading;
 mod texts;
 
 pub use calls::operand_count;
 pub use names::{Performed, perform};
+pub use quiet::{is_quiet, perform_quiet};

@@ -1,5 +1,5 @@
 //! A standard name.
-ghost use Rattle.std.specs.Prelude.{◌≡◌, ◌≤◌, ℕ, List, [], IfOk, Some, length, true};
+ghost use Rattle.std.specs.Prelude.{◌≡◌, ◌≤◌, ℕ, List, [], IfOk, Some, length, true, false};
 ghost use Rattle.std.specs.Io.KnownBytes.{Appends};
 ghost use Rattle.sim_values.specs.Texts.{KeepsTexts, at_position};
 ghost use Rattle.sim_code.specs.Machine.{Frames};
@@ -11,6 +11,7 @@ ghost use Rattle.frame_arena.specs.declared.frames.Frame.{Frame};
 ghost use Rattle.frame_arena.specs.Frames.{AllLead};
 ghost use Rattle.frame_arena.specs.Stacks.{values_of};
 ghost use Rattle.standard_calls.specs.Calls.{HasText, ReadAs};
+ghost use Rattle.standard_calls.specs.Quiet.{is_quiet as quiet};
 ghost use Rattle.standard_calls.specs.Taking.{RowTakes};
 ghost use Rattle.standard_calls.specs.Unread.{Unread};
 ghost use Rattle.standard_calls.specs.Performed.{IfDepth, IfMoved, PerformedAs, PerformedFaults, PerformedStops, held, parts};
@@ -18,10 +19,7 @@ ghost use Rattle.standard_calls.specs.Performed.{IfDepth, IfMoved, PerformedAs, 
 use crate::calls::{Call, Shape, operand_places, shape_of};
 use crate::came::{Missing, settle};
 use crate::performing::come;
-use crate::reading::{
-    character, integer, integers, nothing, text, text_and_character, text_and_integer,
-    text_and_integers,
-};
+use crate::reading::{character, integer, integers, nothing, text};
 use basic_io::{InImage, OutImage};
 use frame_arena::Slot;
 use sim_base::RunError;
@@ -58,9 +56,8 @@ pub enum Performed {
     InputFault,
 }
 
-// Performs a name on the operands that were read, and puts its value there, if it has one.
+// Performs a name that is not quiet on the operands that were read, and puts its value there, if it has one.
 #[tactic(auto, using(crate::proofs::Unread::reads_none, crate::proofs::Taking::takes_none))]
-#[inline(always)]
 fn finish<I: Source, O: Sink>(
     name: Standard,
     call: Result<Call, Missing>,
@@ -76,7 +73,7 @@ fn finish<I: Source, O: Sink>(
 ) -> Performed
     requires read { ReadAs call name depth stack.old }
     requires text { IfOk call (λ c. HasText texts.old c) }
-    requires runs { name_runs name ≡ true }
+    requires loud { quiet name ≡ false }
     requires fits { depth ≤ length stack.old }
     requires image { IsImage texts.old image.old }
     requires sysin { IsImage texts.old sysin.old.image }
@@ -111,9 +108,9 @@ fn finish<I: Source, O: Sink>(
     }
 }
 
-/// Performs a standard name that runs: it takes its operands from the stack, does what it does, and puts its value there, if it has
-/// one. `budget` is the storage budget, and `words` counts those in use. A value that is no text of `texts` is answered by `Memory`, and
-/// so is a budget above 50,000,000 words where a text is made.
+/// Performs a standard name that is not quiet: it reads or writes, or has no operands. It takes its operands from the stack, does what it
+/// does, and puts its value there, if it has one. `budget` is the storage budget, and `words` counts those in use. A value that is no
+/// text of `texts` is answered by `Memory`, and so is a budget above 50,000,000 words where a text is made.
 #[tactic(auto, using(crate::proofs::Unread::reads_none, crate::proofs::Taking::takes_none))]
 pub fn perform<I: Source, O: Sink>(
     name: Standard,
@@ -128,6 +125,7 @@ pub fn perform<I: Source, O: Sink>(
     out: &mut O,
 ) -> Performed
     requires runs { name_runs name ≡ true }
+    requires loud { quiet name ≡ false }
     requires fits { depth ≤ length stack.old }
     requires image { IsImage texts.old image.old }
     requires sysin { IsImage texts.old sysin.old.image }
@@ -183,24 +181,9 @@ pub fn perform<I: Source, O: Sink>(
                 name, call, stack, depth, budget, words, texts, sysin, image, input, out,
             )
         }
-        Shape::TextAndInteger(function) => {
-            let call = text_and_integer(function, stack, depth, texts);
-            finish(
-                name, call, stack, depth, budget, words, texts, sysin, image, input, out,
-            )
-        }
-        Shape::TextAndIntegers => {
-            let call = text_and_integers(stack, depth, texts);
-            finish(
-                name, call, stack, depth, budget, words, texts, sysin, image, input, out,
-            )
-        }
-        Shape::TextAndCharacter => {
-            let call = text_and_character(stack, depth, texts);
-            finish(
-                name, call, stack, depth, budget, words, texts, sysin, image, input, out,
-            )
-        }
-        Shape::Elsewhere => Performed::NoRule,
+        Shape::TextAndInteger(_) => unreachable!(),
+        Shape::TextAndIntegers => unreachable!(),
+        Shape::TextAndCharacter => unreachable!(),
+        Shape::Elsewhere => unreachable!(),
     }
 }

@@ -11,4 +11,4 @@ returns-then-own-level-clause-level c cells m h leads =
     let home = c.args.home.stamp in
     ap Some c.if-own-home.true
     ∙ sym (level_start m c.args.level home
-    ∙ level_here frames cells m own.place home home 0 c.args.level (omega arith) h (subst (λ n. Has frames own.place n) c.if-own-home.true own.has) (own.level ∙ c.if-own-level.true))
+    ∙ level_here frames cells m c.args.own.region home home 0 c.args.level (omega arith) h (subst (λ n. Has frames c.args.own.region n) c.if-own-home.true own.has) (own.level ∙ c.if-own-level.true))

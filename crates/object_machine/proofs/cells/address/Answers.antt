@@ -1,4 +1,5 @@
 use Rattle.std.proofs.Common.{rules, to_z, of_z, w64, ◌≡◌, ℕ, ◌∙◌, ap, sym, subst, refl}
+use Rattle.sim_values.specs.declared.value.FrameRef.{FrameRef}
 use Rattle.sim_code.specs.Events.{having}
 use Rattle.sim_code.specs.Machine.{Machine, Address, cell_at, number, level}
 use Rattle.sim_code.specs.Outcome.{Run}
@@ -42,15 +43,15 @@ returns-in_default-index-clause-row c l line p below now e before o m s =
     let eclass : to_z w64 (of_z w64 c.args.class) ≡ c.args.class = search rules in
     let go : ℕ → ℕ → Run Machine = λ j k. pushed o m (activation_at c.args.regs.now c.args.stack.now) (below_of below) (Address (CellPlace j k 0)) in
     let X : Run Machine = cell_at m (activation_at c.args.regs.now c.args.stack.now) c.args.level c.args.cell o go in
-    no_rule_in l line p p below before now _ _ _ _ o m s (ap (λ z. having (no_class z) o (λ _. X)) (sym eclass) ∙ no_class_named (to_z w64 (of_z w64 c.args.class)) o X (sym c.unqualified.ensures ∙ c.if-not-unqualified.false) ∙ no_number m (activation_at c.args.regs.now c.args.stack.now) c.args.level c.args.cell o go c.in-Some.frame.stamp (ap (λ z. level m (activation_at c.args.regs.now c.args.stack.now) z o (Then m (activation_at c.args.regs.now c.args.stack.now) c.args.level c.args.cell o go)) (sym elevel) ∙ c.in-Some.ensures.row p.cells.items m (activation_at c.args.regs.now c.args.stack.now) o (Then m (activation_at c.args.regs.now c.args.stack.now) c.args.level c.args.cell o go) h led refl) (c.in_default-index.ensures ∙ ap number ecell))
+    no_rule_in l line p p below before now _ _ _ _ o m s (ap (λ z. having (no_class z) o (λ _. X)) (sym eclass) ∙ no_class_named (to_z w64 (of_z w64 c.args.class)) o X (sym c.unqualified.ensures ∙ c.if-not-unqualified.false) ∙ no_number m (activation_at c.args.regs.now c.args.stack.now) c.args.level c.args.cell o go c.in-Some.span.number (ap (λ z. level m (activation_at c.args.regs.now c.args.stack.now) z o (Then m (activation_at c.args.regs.now c.args.stack.now) c.args.level c.args.cell o go)) (sym elevel) ∙ c.in-Some.ensures.row p.cells.items m (activation_at c.args.regs.now c.args.stack.now) o (Then m (activation_at c.args.regs.now c.args.stack.now) c.args.level c.args.cell o go) h led refl) (c.in_default-index.ensures ∙ ap number ecell))
 
 pub returns-in_default-try_from-clause-row : goal.returns-in_default-try_from-clause-row
 unfolding Obeys Leaves
 returns-in_default-try_from-clause-row c l line p below now e before o m s = tt
 
-pub returns-then-frame-clause-row : goal.returns-then-frame-clause-row
+pub returns-then-span-clause-row : goal.returns-then-span-clause-row
 unfolding Obeys Leaves
-returns-then-frame-clause-row c l line p below now e before o m s = tt
+returns-then-span-clause-row c l line p below now e before o m s = tt
 
 pub returns-clause-row : goal.returns-clause-row
 unfolding Obeys
@@ -62,10 +63,11 @@ returns-clause-row c l line p below now e before o m s =
     let eclass : to_z w64 (of_z w64 c.args.class) ≡ c.args.class = search rules in
     let go : ℕ → ℕ → Run Machine = λ j k. pushed o m (activation_at c.args.regs.now c.args.stack.now) (below_of below) (Address (CellPlace j k 0)) in
     let X : Run Machine = cell_at m (activation_at c.args.regs.now c.args.stack.now) c.args.level c.args.cell o go in
-    let there : Leads c.args.frames.now m c.in-Some.frame = has_leads c.args.frames.now p.cells.items m c.in-Some.frame h c.in-Some.ensures.there in
+    let frame : FrameRef = record { frame = c.in-Some.span.region; stamp = c.in-Some.span.number } in
+    let there : Leads c.args.frames.now m frame = has_leads c.args.frames.now p.cells.items m frame h c.in-Some.ensures.span.has in
     let n : c.in-Some-index.number ≡ c.in-Ok.short = search rules in
     let v = c.cell.ensures.value in
     along l line p below before now _ _ _ _ _
-    (ap (λ z. having (no_class z) o (λ _. X)) (sym eclass) ∙ no_class_named (to_z w64 (of_z w64 c.args.class)) o X (sym c.unqualified.ensures ∙ c.if-not-unqualified.false) ∙ at_cell m (activation_at c.args.regs.now c.args.stack.now) c.args.level c.args.cell o go c.in-Some.frame.stamp c.in-Some-index.number (ap (λ z. level m (activation_at c.args.regs.now c.args.stack.now) z o (Then m (activation_at c.args.regs.now c.args.stack.now) c.args.level c.args.cell o go)) (sym elevel) ∙ c.in-Some.ensures.row p.cells.items m (activation_at c.args.regs.now c.args.stack.now) o (Then m (activation_at c.args.regs.now c.args.stack.now) c.args.level c.args.cell o go) h led refl) (c.in-Some-index.ensures ∙ ap number ecell)
-    ∙ ap (λ k. go c.in-Some.frame.stamp k) n ∙ ap (λ v. pushed o m (activation_at c.args.regs.now c.args.stack.now) (below_of below) v) (sym v))
+    (ap (λ z. having (no_class z) o (λ _. X)) (sym eclass) ∙ no_class_named (to_z w64 (of_z w64 c.args.class)) o X (sym c.unqualified.ensures ∙ c.if-not-unqualified.false) ∙ at_cell m (activation_at c.args.regs.now c.args.stack.now) c.args.level c.args.cell o go c.in-Some.span.number c.in-Some-index.number (ap (λ z. level m (activation_at c.args.regs.now c.args.stack.now) z o (Then m (activation_at c.args.regs.now c.args.stack.now) c.args.level c.args.cell o go)) (sym elevel) ∙ c.in-Some.ensures.row p.cells.items m (activation_at c.args.regs.now c.args.stack.now) o (Then m (activation_at c.args.regs.now c.args.stack.now) c.args.level c.args.cell o go) h led refl) (c.in-Some-index.ensures ∙ ap number ecell)
+    ∙ ap (λ k. go c.in-Some.span.number k) n ∙ ap (λ v. pushed o m (activation_at c.args.regs.now c.args.stack.now) (below_of below) v) (sym v))
     (c.push.ensures.row l line p below before now o m s (subst (λ v. SlotLeads v m c.cell.result) (sym e) (c.cell.ensures.leads c.args.frames.now m there)) (λ names. absurd (off (sym c.cell.ensures.no_array ∙ names))))

@@ -30,6 +30,7 @@ returns-in-Image-clause-row c l r stack below before now o m s la =
 
 pub returns-in_default : goal.returns-in_default
 returns-in_default c = record {
+  frames = refl;
   valid = λ h. h;
   row = λ l r stack below before now o m s la. record { world = o; memory = m; is = λ go. back_nowhere o m c.args.text go c.args.address.kind c.args.address c.in_default.not-Cell c.in_default.not-Element c.in_default.not-Image; stands = s };
 }

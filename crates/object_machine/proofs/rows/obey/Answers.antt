@@ -2,6 +2,7 @@ use Rattle.std.proofs.Common.{rules, to_z, of_z, w64, ◌≡◌, ◌∙◌, ap, 
 use Rattle.sim_code.specs.declared.instr.Instr.TheVariants as i
 use Rattle.std.specs.Vec.{with_items}
 use Rattle.std.proofs.lemmas.List.{with_items_is, places}
+use Rattle.std.proofs.lemmas.Option.{IfSome_then}
 use Rattle.object_machine.proofs.Going.{for_instr}
 use Rattle.object_machine.proofs.rows.obey.Goals as goal
 
@@ -150,3 +151,9 @@ returns-in-Addr-clause-row c code line below now e =
     for_instr _ code c.args.limits.now line _ _ _ _ _ _ below now c.args.instr _
     (c.in-Addr.is ∙ ap (λ z. i.Addr z c.in-Addr.cell c.in-Addr.class) (sym elevel) ∙ ap (λ z. i.Addr (to_z w64 (of_z w64 c.in-Addr.level)) z c.in-Addr.class) (sym ecell) ∙ ap (λ z. i.Addr (to_z w64 (of_z w64 c.in-Addr.level)) (to_z w64 (of_z w64 c.in-Addr.cell)) z) (sym eclass))
     (c.address.ensures.row c.args.limits.now line c.args.storage.now below now (sym c.deref-in-Addr.ensures.value))
+
+pub returns-in-Std-clause-row : goal.returns-in-Std-clause-row
+returns-in-Std-clause-row c =
+    let eoperand : to_z w64 (of_z w64 c.in-Std.operand) ≡ c.in-Std.operand = search rules in
+    IfSome_then c.quiet_standard.result c.quiet_standard.ensures.row
+    (λ f did code line below now e. for_instr f code c.args.limits.now line _ _ _ _ _ _ below now c.args.instr _ (c.in-Std.is ∙ ap i.Std (sym eoperand)) (did line below now))

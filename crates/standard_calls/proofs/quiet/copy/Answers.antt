@@ -8,7 +8,7 @@ use Rattle.text_objects.specs.Making.{Makes}
 use Rattle.standard_calls.specs.Performed.{parts, store_of}
 use Rattle.standard_calls.proofs.Making.{copy_refused, copy_wants}
 use Rattle.standard_calls.proofs.Effects.{does_copy}
-use Rattle.standard_calls.proofs.performing.copy.Goals as goal
+use Rattle.standard_calls.proofs.quiet.copy.Goals as goal
 
 pub returns-clause-came : goal.returns-clause-came
 returns-clause-came c = λ input source image sink.

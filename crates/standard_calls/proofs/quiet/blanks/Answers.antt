@@ -8,7 +8,7 @@ use Rattle.standard_calls.specs.Calls.{CameAs}
 use Rattle.standard_calls.specs.Performed.{parts, store_of}
 use Rattle.standard_calls.proofs.Making.{blanks_refused, blanks_wants}
 use Rattle.standard_calls.proofs.Effects.{does_blanks}
-use Rattle.standard_calls.proofs.performing.blanks.Goals as goal
+use Rattle.standard_calls.proofs.quiet.blanks.Goals as goal
 
 pub returns-clause-came : goal.returns-clause-came
 returns-clause-came c =
