@@ -81,6 +81,7 @@ module _ (l : Limits) (line : ℕ) (p p2 : Storage) (k : ℕ) (b : BlockOf) (par
     pub covered_by : (f : Flow) → Covers f next r stack below top below2 → Leaves f l line p2 top.registers top.stack.items below2 before now Entered
     unfolding Leaves
     covered_by flow.On c = covered c
+    covered_by flow.Jumped c = absurd c
     covered_by flow.Normal c = absurd c
     covered_by flow.NoRule c = absurd c
     covered_by flow.TickLimit c = absurd c

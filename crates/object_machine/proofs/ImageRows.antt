@@ -1,5 +1,5 @@
 -- Images and their addresses.
-use Rattle.std.proofs.Common.{◌≡◌, ℕ, zero, suc, ◌+◌, ◌≤◌, List, sym, subst, refl, ap, ◌∙◌, arith}
+use Rattle.std.proofs.Common.{◌≡◌, ℕ, zero, suc, ◌+◌, ◌≤◌, List, sym, subst, refl, ap, ◌∙◌}
 use Rattle.std.specs.Prelude.{Bool, true, false, if◌then◌else◌, Option, Some, None}
 use Rattle.std.specs.Io.KnownBytes.{Appends}
 use Rattle.sim_base.specs.declared.limits.Limits.{Limits}
@@ -24,7 +24,7 @@ use Rattle.object_machine.specs.Images.{image_in}
 use Rattle.object_machine.specs.declared.machine.Storage.{Storage}
 use Rattle.object_machine.specs.declared.machine.Registers.{Registers}
 use Rattle.object_machine.specs.declared.machine.Activation as working
-use Rattle.object_machine.specs.Standing.{HasImages, Outside, Stands, ports_in, ports_of}
+use Rattle.object_machine.specs.Standing.{Outside, Stands, ports_in, ports_of}
 use Rattle.object_machine.proofs.Scalars.{off}
 
 -- the image of a number in the store

@@ -16,6 +16,7 @@ pub mod Whole
 pub mod EndRows
 pub mod Having
 pub mod ReadOperands
+pub mod OperandRows
 pub mod ImageRows
 pub mod NameRows
 pub mod PairRows

@@ -1,26 +1,26 @@
 -- Rows of standard names.
-use Rattle.std.proofs.Common.{◌≡◌, inl, inr, ℕ, zero, suc, ◌+◌, ◌-◌, ◌<◌, ◌≤◌, List, [], ◌∷◌, ◌++◌, length, sym, subst, refl, ap, ◌∙◌, arith}
-use Rattle.std.specs.Prelude.{Bool, true, false, if◌then◌else◌, Option, Some, None}
+use Rattle.std.proofs.Common.{◌≡◌, inl, inr, ◌⊎◌, ℕ, zero, suc, ◌-◌, ◌<◌, ◌≤◌, List, [], ◌∷◌, ◌++◌, length, set, length-set, sym, subst, refl, ap, ◌∙◌, arith}
+use Rattle.std.specs.Prelude.{ℤ, Bool, true, false, Option, Some, None}
 use Rattle.std.specs.Io.KnownBytes.{Appends}
 use Rattle.sim_base.specs.declared.limits.Limits.{Limits}
-use Rattle.sim_ports.specs.Faults.{Rose, StopsAt}
 use Rattle.sim_values.specs.declared.standard.Standard.{Standard}
 use Rattle.sim_values.specs.declared.value.TextVal.{TextVal}
-use Rattle.sim_values.specs.Plain.{Plain}
-use Rattle.sim_values.specs.Standard.{operands_of, row_of, standard_effect}
+use Rattle.sim_values.specs.Plain.{Plain, Text}
+use Rattle.sim_values.specs.Standard.{Function, applied, of_nothing, of_integer, of_integers, of_character, of_text, of_text_and_integer, of_text_and_integers, of_text_and_character, elsewhere, operands_of, row_of, standard_effect}
 use Rattle.sim_values.specs.Texts.{Frame as TextFrame}
 use Rattle.basic_io.specs.Input.{HeldInput}
 use Rattle.sim_code.specs.Events.{computing, having, no_rule, performing, pop_operands, putting_back, stopping, taking, when}
-use Rattle.sim_code.specs.Machine.{Activation, Frames, Machine, Value, on, operand, plain}
+use Rattle.sim_code.specs.Machine.{Activation, Frames, Machine, Of, Value, on, operand, plain}
 use Rattle.sim_code.specs.Outcome.{Going, Run, StorageExhausted, World}
-use Rattle.sim_code.specs.Rows.{has_room, put_back, room_for, with_value}
+use Rattle.sim_code.specs.Rows.{has_room, put_back, room_for, standard_of, with_value}
 use Rattle.frame_arena.specs.declared.slot.Slot.{Slot}
 use Rattle.frame_arena.specs.Arrays.{AllLeadArrays}
 use Rattle.frame_arena.specs.Frames.{AllLead}
 use Rattle.frame_arena.specs.Slots.{value_of}
-use Rattle.frame_arena.specs.Stacks.{values_of}
+use Rattle.frame_arena.specs.Stacks.{slot_at, values_of}
 use Rattle.standard_calls.specs.declared.names.Performed.{Performed}
 use Rattle.standard_calls.specs.declared.names.Performed.TheVariants as performed
+use Rattle.standard_calls.specs.Quiet.{OnNumbers, OnText}
 use Rattle.standard_calls.specs.Performed.{Agrees, Held, IfMoved, Parts, PerformedAs, PerformedFaults, PerformedStops, does, held, parts, standard_row, wrote}
 use Rattle.object_machine.specs.declared.machine.Storage.{Storage}
 use Rattle.object_machine.specs.declared.machine.Registers.{Registers}
@@ -30,11 +30,13 @@ use Rattle.object_machine.specs.declared.machine.Flow.TheVariants as flow
 use Rattle.object_machine.specs.declared.placing.Placing.{Placing}
 use Rattle.object_machine.specs.declared.placing.Placing.TheVariants as placing
 use Rattle.object_machine.specs.Named.{FlowEnds, InputEnds, Still}
-use Rattle.object_machine.specs.Operands.{AllRead, IsReady, OneUnread, first_slot}
+use Rattle.object_machine.specs.Operands.{AllRead, IsNoTextIn, IsReady, OneUnread, first_slot}
 use Rattle.object_machine.specs.Placing.{LeadsFrom, PutsBack}
-use Rattle.object_machine.specs.Settled.{Follows, MovesBack, Settles}
-use Rattle.object_machine.specs.Standing.{InWorld, Leaves, Outside, Stands, activation_at, below_of, outside, ports_in, ports_of}
+use Rattle.object_machine.specs.Settled.{Follows, Settles, named}
+use Rattle.object_machine.specs.Standing.{InWorld, Leaves, Obeys, Outside, Stands, activation_at, below_of, ports_of}
 use Rattle.object_machine.proofs.Going.{along, depth_goes_on}
+use Rattle.object_machine.proofs.Having.{having_some}
+use Rattle.object_machine.proofs.OperandRows.{above, character_behind, integer_behind, no_character_there, no_integer_there, no_text_popped, no_text_popped_below, no_text_taken, numbers_alone, pop_as_they_stand, text_popped, text_popped_below}
 use Rattle.object_machine.proofs.Scalars.{off}
 use Rattle.object_machine.proofs.ReadOperands.{moved_first, not_moved, origin, reads, same_values, too_few, unread, values_count}
 
@@ -79,10 +81,10 @@ module _ (l : Limits) (line : ℕ) (name : Standard) (o : World) (m : Frames) (r
   performing_is = refl
 
   pub few_operands : r.depth < count → r.depth ≤ length stack → table_row ≡ no_rule o
-  few_operands h h1 = when_never (room_for name act) o _ (performing_is ∙ too_few o m stack new count r.depth None h h1 behind)
+  few_operands h h1 = when_never (room_for name act) o _ (performing_is ∙ too_few o (operand o m) plain stack new count r.depth None h h1 behind)
 
   pub unread_operand : count ≤ r.depth → r.depth ≤ length stack → OneUnread o m (r.depth - count) r.depth stack → table_row ≡ no_rule o
-  unread_operand h h1 u = when_never (room_for name act) o _ (performing_is ∙ unread o m stack new count r.depth None h h1 u.place u.begins u.ends u.nothing behind)
+  unread_operand h h1 u = when_never (room_for name act) o _ (performing_is ∙ unread o (operand o m) plain stack new count r.depth None h h1 u.place u.begins u.ends u.nothing behind)
 
   -- where not all operands are something
   pub unready_row : r.depth ≤ length stack → IsReady None name o m r.depth stack new → table_row ≡ no_rule o
@@ -97,14 +99,160 @@ module _ (l : Limits) (line : ℕ) (name : Standard) (o : World) (m : Frames) (r
   unfolding does
   does_is = refl
 
+  -- where the operands are popped as plain ones of another stack
+  pub popped_row : r.depth ≤ length stack → length new ≡ length stack →
+      pop_operands (operand o m) count None (values_of r.depth stack) o behind ≡ pop_operands plain count None (values_of r.depth new) o (λ ps f rest. behind ps (origin count r.depth None stack) rest) →
+      table_row ≡ standard_row l line name (held r.depth new) o goes
+  popped_row h1 long popped =
+      let h2 : r.depth ≤ length new = subst (λ n. r.depth ≤ n) (sym long) h1 in
+      let e = values_count r.depth stack h1 ∙ sym (values_count r.depth new h2) in
+      ap (λ q. when (room_for name act) o q) (performing_is ∙ popped ∙ does_is)
+      ∙ ap (λ n. when (has_room n (length (values_of r.depth stack)) count (row_of name).result) o (does l line name (values_of r.depth new) o (λ p moved value rest. goes p moved (with_value value rest)))) (sym long)
+      ∙ ap (λ n. when (has_room (length new) n count (row_of name).result) o (does l line name (values_of r.depth new) o (λ p moved value rest. goes p moved (with_value value rest)))) e
+
   pub read_row : count ≤ r.depth → r.depth ≤ length stack → length new ≡ length stack → AllRead o m (r.depth - count) r.depth stack new → table_row ≡ standard_row l line name (held r.depth new) o goes
   read_row h h1 long all =
       let h2 : r.depth ≤ length new = subst (λ n. r.depth ≤ n) (sym long) h1 in
       let same = same_values (r.depth - count) stack new (omega (arith, h1)) (omega (arith, h2)) all.below in
-      let e = values_count r.depth stack h1 ∙ sym (values_count r.depth new h2) in
-      ap (λ q. when (room_for name act) o q) (performing_is ∙ reads o m stack new count r.depth None None h h1 h2 all.read same behind ∙ does_is)
-      ∙ ap (λ n. when (has_room n (length (values_of r.depth stack)) count (row_of name).result) o (does l line name (values_of r.depth new) o (λ p moved value rest. goes p moved (with_value value rest)))) (sym long)
-      ∙ ap (λ n. when (has_room (length new) n count (row_of name).result) o (does l line name (values_of r.depth new) o (λ p moved value rest. goes p moved (with_value value rest)))) e
+      popped_row h1 long (reads o (operand o m) plain stack new count r.depth None None h h1 h2 all.read same behind)
+
+  -- operands on which the name has no effect
+  no_effect : (ps : List Plain) (f : Option Value) (rest : List Value) → standard_effect name ps o.store ≡ None → behind ps f rest ≡ no_rule o
+  unfolding having
+  no_effect ps f rest e =
+      ap (λ q. having q o (λ effect. taking l line effect.wanted o (λ p. computing line effect.answer (record p { store = effect.store }) (λ value.
+      putting_back put_back f effect.moved (record p { store = effect.store }) m (λ p m. last p m value rest))))) e
+
+-- ---- operands that are not read before
+
+le_or_lt : (a b : ℕ) → (a ≤ b) ⊎ (b < a)
+le_or_lt zero b = inl (omega arith)
+le_or_lt (suc a) zero = inr (omega arith)
+le_or_lt (suc a) (suc b) = elim (le_or_lt a b) [ inl h ↦ inl (omega (arith, h)) | inr h ↦ inr (omega (arith, h)) ]
+
+first_is : (n depth : ℕ) (stack : List Slot) → 1 ≤ n → slot_at stack (depth - n) ≡ first_slot n depth stack
+first_is zero depth stack h = absurd (omega (arith, h))
+first_is (suc n) depth stack h = refl
+
+is_above : (k depth : ℕ) → k ≤ depth → depth ≡ above k (depth - k)
+is_above zero depth h = omega arith
+is_above (suc k) zero h = absurd (omega (arith, h))
+is_above (suc k) (suc depth) h =
+    let e : suc depth - suc k ≡ depth - k = omega arith in
+    ap suc (is_above k depth (omega (arith, h)) ∙ ap (above k) (sym e))
+
+pub one_at_least : (f : Function) → OnText f → 1 ≤ length (operands_of f)
+one_at_least (of_nothing f) on = absurd on
+one_at_least (of_integer f) on = absurd on
+one_at_least (of_integers f) on = absurd on
+one_at_least (of_character f) on = absurd on
+one_at_least (of_text f) on = omega arith
+one_at_least (of_text_and_integer f) on = omega arith
+one_at_least (of_text_and_integers f) on = absurd on
+one_at_least (of_text_and_character f) on = omega arith
+one_at_least elsewhere on = absurd on
+
+origin_is : (n depth : ℕ) (stack : List Slot) → 1 ≤ n → origin n depth None stack ≡ Some (value_of (slot_at stack (depth - n)))
+origin_is zero depth stack h = absurd (omega (arith, h))
+origin_is (suc n) depth stack h = refl
+
+module _ (l : Limits) (line : ℕ) (name : Standard) (o : World) (m : Frames) (r : Registers) (stack : List Slot) (below : List working.Activation) (fits : r.depth ≤ length stack) where
+  abbrev wanted : ℕ
+  wanted = length (operands_of (row_of name).function)
+
+  abbrev K : List Plain → Option Value → List Value → Run Machine
+  K = behind l line name o m r stack stack below
+
+  effect_of : (f : Function) → (row_of name).function ≡ f → (ps : List Plain) → standard_effect name ps o.store ≡ applied f ps o.store
+  unfolding standard_effect
+  effect_of f e ps = ap (λ f. applied f ps o.store) e
+
+  dull : (ps : List Plain) (f : Option Value) (rest : List Value) (g : Function) → (row_of name).function ≡ g → applied g ps o.store ≡ None → K ps f rest ≡ no_rule o
+  dull ps f rest g e h = no_effect l line name o m r stack stack below ps f rest (effect_of g e ps ∙ h)
+
+  -- too few operands
+  pub few_row : r.depth < wanted → table_row l line name o m r stack stack below ≡ no_rule o
+  few_row h = few_operands l line name o m r stack stack below h fits
+
+  -- the row of a name of numbers or characters, as its operands stand
+  pub standing_row : OnNumbers (row_of name).function → table_row l line name o m r stack stack below ≡ standard_row l line name (held r.depth stack) o (goes l line name o m r stack stack below)
+  standing_row on =
+      popped_row l line name o m r stack stack below fits refl
+      (pop_as_they_stand o m wanted None (values_of r.depth stack) K (λ ps f rest h. dull ps f rest (row_of name).function refl (numbers_alone (row_of name).function ps o.store on h))
+      ∙ elim (le_or_lt wanted r.depth) [
+        | inl enough ↦ reads o plain plain stack stack wanted r.depth None None enough fits fits (λ at a b. refl) refl K
+        | inr few ↦ too_few o plain plain stack stack wanted r.depth None few fits K ∙ sym (too_few o plain plain stack stack wanted r.depth None few fits (λ ps f rest. K ps (origin wanted r.depth None stack) rest))
+      ])
+
+  module _ (s : Slot) (t : TextVal) (is : value_of s ≡ Of (Text t)) where
+    abbrev Seen : (wanted depth at : ℕ) → Type 0
+    Seen wanted depth at =
+        operand o m (value_of (slot_at stack at)) ≡ Some (Text t) →
+        pop_operands (operand o m) wanted None (values_of depth stack) o K ≡ pop_operands plain wanted None (values_of depth (set stack at s)) o (λ ps f rest. K ps (Some (value_of (slot_at stack at))) rest)
+
+    seen : (k depth : ℕ) → k ≤ depth → depth ≤ length stack → ((d : ℕ) → above k d ≤ length stack → Seen k (above k d) d) → Seen k depth (depth - k)
+    seen k depth h h2 all =
+        let e : depth ≡ above k (depth - k) = is_above k depth h in
+        subst (λ x. Seen k x (depth - k)) (sym e) (all (depth - k) (subst (λ x. x ≤ length stack) e h2))
+
+    seen_by : (f : Function) → (row_of name).function ≡ f → OnText f → wanted ≤ r.depth → Seen wanted r.depth (r.depth - wanted)
+    seen_by (of_nothing f) e on h = absurd on
+    seen_by (of_integer f) e on h = absurd on
+    seen_by (of_integers f) e on h = absurd on
+    seen_by (of_character f) e on h = absurd on
+    seen_by (of_text f) e on h =
+        let one : wanted ≡ 1 = ap (λ f. length (operands_of f)) e in
+        subst (λ k. Seen k r.depth (r.depth - k)) (sym one) (seen 1 r.depth (subst (λ k. k ≤ r.depth) one h) fits (λ d i x. text_popped o m stack s t is d i None None K x))
+    seen_by (of_text_and_integer f) e on h =
+        let two : wanted ≡ 2 = ap (λ f. length (operands_of f)) e in
+        subst (λ k. Seen k r.depth (r.depth - k)) (sym two) (seen 2 r.depth (subst (λ k. k ≤ r.depth) two h) fits (λ d i x. text_popped_below o m stack s t is d i None None K x
+        (λ t2 p f rest. dull (Text t2 ∷ p ∷ []) f rest _ e (no_integer_there t2 (p ∷ []) _))))
+    seen_by (of_text_and_integers f) e on h = absurd on
+    seen_by (of_text_and_character f) e on h =
+        let two : wanted ≡ 2 = ap (λ f. length (operands_of f)) e in
+        subst (λ k. Seen k r.depth (r.depth - k)) (sym two) (seen 2 r.depth (subst (λ k. k ≤ r.depth) two h) fits (λ d i x. text_popped_below o m stack s t is d i None None K x
+        (λ t2 p f rest. dull (Text t2 ∷ p ∷ []) f rest _ e (no_character_there t2 (p ∷ []) _))))
+    seen_by elsewhere e on h = absurd on
+
+    -- the row of a name of one text, with the text in its place
+    pub seen_row : OnText (row_of name).function → wanted ≤ r.depth → operand o m (value_of (slot_at stack (r.depth - wanted))) ≡ Some (Text t) →
+        table_row l line name o m r stack (set stack (r.depth - wanted) s) below ≡ standard_row l line name (held r.depth (set stack (r.depth - wanted) s)) o (goes l line name o m r stack (set stack (r.depth - wanted) s) below)
+    seen_row on h x =
+        popped_row l line name o m r stack (set stack (r.depth - wanted) s) below fits (length-set stack (r.depth - wanted) s)
+        (seen_by (row_of name).function refl on h x
+        ∙ ap (λ q. pop_operands plain wanted None (values_of r.depth (set stack (r.depth - wanted) s)) o (λ ps f rest. K ps q rest)) (sym (origin_is wanted r.depth stack (one_at_least (row_of name).function on))))
+
+  -- ---- where it is no text
+
+  abbrev Unseen : (wanted depth at : ℕ) → Type 0
+  Unseen wanted depth at = IsNoTextIn (operand o m (value_of (slot_at stack at))) → pop_operands (operand o m) wanted None (values_of depth stack) o K ≡ no_rule o
+
+  unseen : (k depth : ℕ) → k ≤ depth → depth ≤ length stack → ((d : ℕ) → above k d ≤ length stack → Unseen k (above k d) d) → Unseen k depth (depth - k)
+  unseen k depth h h2 all =
+      let e : depth ≡ above k (depth - k) = is_above k depth h in
+      subst (λ x. Unseen k x (depth - k)) (sym e) (all (depth - k) (subst (λ x. x ≤ length stack) e h2))
+
+  unseen_by : (f : Function) → (row_of name).function ≡ f → OnText f → wanted ≤ r.depth → Unseen wanted r.depth (r.depth - wanted)
+  unseen_by (of_nothing f) e on h = absurd on
+  unseen_by (of_integer f) e on h = absurd on
+  unseen_by (of_integers f) e on h = absurd on
+  unseen_by (of_character f) e on h = absurd on
+  unseen_by (of_text f) e on h =
+      let one : wanted ≡ 1 = ap (λ f. length (operands_of f)) e in
+      subst (λ k. Unseen k r.depth (r.depth - k)) (sym one) (unseen 1 r.depth (subst (λ k. k ≤ r.depth) one h) fits (λ d i x. no_text_popped o m stack d x None K i (λ p f rest no. dull (p ∷ []) f rest _ e (no_text_taken p [] _ no))))
+  unseen_by (of_text_and_integer f) e on h =
+      let two : wanted ≡ 2 = ap (λ f. length (operands_of f)) e in
+      subst (λ k. Unseen k r.depth (r.depth - k)) (sym two) (unseen 2 r.depth (subst (λ k. k ≤ r.depth) two h) fits (λ d i x. no_text_popped_below o m stack d x None K i
+      (λ q p f rest no. dull (q ∷ p ∷ []) f rest _ e (integer_behind q (p ∷ []) _ (λ i. no_text_taken p [] _ no)))))
+  unseen_by (of_text_and_integers f) e on h = absurd on
+  unseen_by (of_text_and_character f) e on h =
+      let two : wanted ≡ 2 = ap (λ f. length (operands_of f)) e in
+      subst (λ k. Unseen k r.depth (r.depth - k)) (sym two) (unseen 2 r.depth (subst (λ k. k ≤ r.depth) two h) fits (λ d i x. no_text_popped_below o m stack d x None K i
+      (λ q p f rest no. dull (q ∷ p ∷ []) f rest _ e (character_behind q (p ∷ []) _ (λ c. no_text_taken p [] _ no)))))
+  unseen_by elsewhere e on h = absurd on
+
+  pub unseen_row : OnText (row_of name).function → wanted ≤ r.depth → IsNoTextIn (operand o m (value_of (slot_at stack (r.depth - wanted)))) → table_row l line name o m r stack stack below ≡ no_rule o
+  unseen_row on h x = when_never (room_for name (act l line name o m r stack stack below)) o _ (performing_is l line name o m r stack stack below ∙ unseen_by (row_of name).function refl on h x)
 
 pub first_led : (p : Storage) (o : World) (m : Frames) (n depth : ℕ) (stack : List Slot) → AllLead p.frames.items m stack → AllLeadArrays p.arrays.regions o.arrays stack → LeadsFrom p o m (first_slot n depth stack)
 first_led p o m zero depth stack h h2 = (λ names. absurd (off names), λ names. absurd (off names))
@@ -233,6 +381,46 @@ module _ (l : Limits) (line : ℕ) (p p2 : Storage) (below : List working.Activa
   performed_row first fits same ready result f did settled =
       name_row (table_row l line name o m r stack new below) (read_row l line name o m r stack new below ready.0 fits same ready.2) result f did
       (subst (λ a. Settles result f a later p2 r r2) ready.1 settled) (first_led p o m n r.depth stack s.top.slots s.top.arrays_lead)
+
+-- where no text was moved, the address is not asked for
+settles_unmoved : (result : Performed) (f : Flow) (a b : Slot) (p p2 : Storage) (r r2 : Registers) → IfMoved result ⊥ → Settles result f a p p2 r r2 → Settles result f b p p2 r r2
+settles_unmoved (performed.Depth d) f a b p p2 r r2 still s = s
+settles_unmoved (performed.Moved d t) f a b p p2 r r2 still s = absurd still
+settles_unmoved performed.NoRule f a b p p2 r r2 still s = s
+settles_unmoved (performed.Fault e) f a b p p2 r r2 still s = s
+settles_unmoved (performed.Full w) f a b p p2 r r2 still s = s
+settles_unmoved performed.Memory f a b p p2 r r2 still s = s
+settles_unmoved performed.WriteFault f a b p p2 r r2 still s = s
+settles_unmoved performed.InputFault f a b p p2 r r2 still s = s
+
+module _ (l : Limits) (line : ℕ) (p p2 : Storage) (below : List working.Activation) (before : Option (List ℕ)) (now : Outside) (r r2 : Registers) (stack stack2 : List Slot) (o : World) (m : Frames) (name : Standard)
+    (s : Stands l p r stack below before now o m) (fits : r.depth ≤ length stack) (long : length stack2 ≡ length stack) (slots : AllLead p.frames.items m stack2) (arrays : AllLeadArrays p.arrays.regions o.arrays stack2) where
+  -- the row of a name of numbers or characters
+  pub plain_name_row : OnNumbers (row_of name).function → (result : Performed) (f : Flow) (a : Slot) → IfMoved result ⊥ →
+      PerformedAs result l.storage name (held r.depth stack) stack2 (parts p.texts p.image.input now.source p.image.output now.sink p.words) (parts p.texts p.image.input now.source p.image.output now.sink p.words) →
+      Settles result f a p p2 r r2 → Leaves f l line p2 r2 stack2 below before now (table_row l line name o m r stack stack below)
+  plain_name_row on result f a still did settled =
+      name_row l line p p2 below before now now r r2 stack stack stack2 o m name l.storage p.texts p.image.input p.image.output p.words s refl long slots arrays
+      (table_row l line name o m r stack stack below) (standing_row l line name o m r stack below fits on) result f did
+      (settles_unmoved result f a _ p p2 r r2 still settled) (first_led p o m (length (operands_of (row_of name).function)) r.depth stack s.top.slots s.top.arrays_lead)
+
+  -- the row of a name of one text
+  pub scan_name_row : (texts2 : List TextFrame) (first : Slot) (t : TextVal) → OnText (row_of name).function → length (operands_of (row_of name).function) ≤ r.depth → value_of first ≡ Of (Text t) →
+      operand o m (value_of (slot_at stack (r.depth - length (operands_of (row_of name).function)))) ≡ Some (Text t) → (result : Performed) (f : Flow) →
+      PerformedAs result l.storage name (held r.depth (set stack (r.depth - length (operands_of (row_of name).function)) first)) stack2 (parts p.texts p.image.input now.source p.image.output now.sink p.words) (parts texts2 p.image.input now.source p.image.output now.sink p.words) →
+      Settles result f (slot_at stack (r.depth - length (operands_of (row_of name).function))) (record p { texts = texts2 }) p2 r r2 → Leaves f l line p2 r2 stack2 below before now (table_row l line name o m r stack stack below)
+  scan_name_row texts2 first t on deep is x result f did settled =
+      let at = r.depth - length (operands_of (row_of name).function) in
+      name_row l line p p2 below before now now r r2 stack (set stack at first) stack2 o m name l.storage texts2 p.image.input p.image.output p.words s refl long slots arrays
+      (table_row l line name o m r stack (set stack at first) below) (seen_row l line name o m r stack below fits first t is on deep x) result f did
+      (subst (λ a. Settles result f a (record p { texts = texts2 }) p2 r r2) (first_is (length (operands_of (row_of name).function)) r.depth stack (one_at_least (row_of name).function on)) settled)
+      (first_led p o m (length (operands_of (row_of name).function)) r.depth stack s.top.slots s.top.arrays_lead)
+
+-- the row of the name of a number
+pub for_name : (f : Flow) (l : Limits) (line : ℕ) (z : ℤ) (name : Standard) → Some name ≡ standard_of z → (p p2 : Storage) (r r2 : Registers) (stack stack2 : List Slot) (below : List working.Activation) (now : Outside) →
+    Obeys f l line (λ o m a b. named l line name o m a b) p p2 r r2 stack stack2 below below now now → Obeys f l line (λ o m a b. having (standard_of z) o (λ name. named l line name o m a b)) p p2 r r2 stack stack2 below below now now
+unfolding Obeys
+for_name f l line z name e p p2 r r2 stack stack2 below now h before o m s = along l line p2 below before now f r2 stack2 _ _ (having_some (standard_of z) name o _ e) (h before o m s)
 
 -- ---- how the ends stand
 

@@ -1,6 +1,6 @@
 -- Rows of two texts.
-use Rattle.std.proofs.Common.{◌≡◌, ℕ, zero, suc, ◌+◌, ◌-◌, ◌<◌, ◌≤◌, ◌⊎◌, inl, inr, List, [], ◌∷◌, length, sym, subst, refl, ap, ◌∙◌, arith}
-use Rattle.std.specs.Prelude.{Bool, true, false, Option, Some, None, Result, Ok, Err}
+use Rattle.std.proofs.Common.{◌≡◌, ℕ, zero, suc, ◌-◌, ◌<◌, ◌≤◌, inl, inr, List, [], ◌∷◌, length, sym, subst, refl, ap, ◌∙◌, arith}
+use Rattle.std.specs.Prelude.{Bool, true, Option, Some, None, Result, Ok, Err}
 use Rattle.sim_base.specs.declared.run_error.RunError.{RunError}
 use Rattle.sim_values.specs.declared.operators.Comparison.{Comparison}
 use Rattle.sim_values.specs.declared.operators.Dyadic.{Dyadic}

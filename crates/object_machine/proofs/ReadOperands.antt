@@ -129,26 +129,26 @@ module _ (o : World) (m : Frames) (first : ℕ) where
 -- ---- all operands
 
 module _ (o : World) where
-  having_alike : (w : Option Plain) (f g : Plain → Run Machine) → ((p : Plain) → f p ≡ g p) → having w o f ≡ having w o g
+  pub having_alike : (w : Option Plain) (f g : Plain → Run Machine) → ((p : Plain) → f p ≡ g p) → having w o f ≡ having w o g
   unfolding having
   having_alike None f g h = refl
   having_alike (Some p) f g h = h p
 
-  having_never : (w : Option Plain) (f : Plain → Run Machine) → ((p : Plain) → f p ≡ no_rule o) → having w o f ≡ no_rule o
+  pub having_never : (w : Option Plain) (f : Plain → Run Machine) → ((p : Plain) → f p ≡ no_rule o) → having w o f ≡ no_rule o
   unfolding having
   having_never None f h = refl
   having_never (Some p) f h = h p
 
-  pop_more : (read : Value → Option Plain) (n : ℕ) (first : Option Value) (v : Value) (rest : List Value) (g : List Plain → Option Value → List Value → Run Machine) →
+  pub pop_more : (read : Value → Option Plain) (n : ℕ) (first : Option Value) (v : Value) (rest : List Value) (g : List Plain → Option Value → List Value → Run Machine) →
       pop_operands read (suc n) first (v ∷ rest) o g ≡ having (read v) o (λ p. pop_operands read n (Some v) rest o (λ ps f rest. g (p ∷ ps) f rest))
   unfolding pop_operands popping
   pop_more read n first v rest g = refl
 
-  pop_last : (read : Value → Option Plain) (first : Option Value) (values : List Value) (g : List Plain → Option Value → List Value → Run Machine) → pop_operands read zero first values o g ≡ g [] first values
+  pub pop_last : (read : Value → Option Plain) (first : Option Value) (values : List Value) (g : List Plain → Option Value → List Value → Run Machine) → pop_operands read zero first values o g ≡ g [] first values
   unfolding pop_operands
   pop_last read first values g = refl
 
-  pop_nothing : (read : Value → Option Plain) (n : ℕ) (first : Option Value) (g : List Plain → Option Value → List Value → Run Machine) → pop_operands read (suc n) first [] o g ≡ no_rule o
+  pub pop_nothing : (read : Value → Option Plain) (n : ℕ) (first : Option Value) (g : List Plain → Option Value → List Value → Run Machine) → pop_operands read (suc n) first [] o g ≡ no_rule o
   unfolding pop_operands popping
   pop_nothing read n first g = refl
 
@@ -165,14 +165,14 @@ origin_next (suc n) d first stack =
     let e : d - suc n ≡ suc d - suc (suc n) = omega arith in
     ap (λ q. Some (value_of (slot_at stack q))) e
 
-module _ (o : World) (m : Frames) (stack new : List Slot) where
+module _ (o : World) (look look2 : Value → Option Plain) (stack new : List Slot) where
   pub reads : (n depth : ℕ) (first first2 : Option Value) → n ≤ depth → depth ≤ length stack → depth ≤ length new →
-      ((at : ℕ) → depth - n ≤ at → at < depth → operand o m (value_of (slot_at stack at)) ≡ plain (value_of (slot_at new at))) → values_of (depth - n) new ≡ values_of (depth - n) stack →
+      ((at : ℕ) → depth - n ≤ at → at < depth → look (value_of (slot_at stack at)) ≡ look2 (value_of (slot_at new at))) → values_of (depth - n) new ≡ values_of (depth - n) stack →
       (g : List Plain → Option Value → List Value → Run Machine) →
-      pop_operands (operand o m) n first (values_of depth stack) o g ≡ pop_operands plain n first2 (values_of depth new) o (λ ps f rest. g ps (origin n depth first stack) rest)
+      pop_operands look n first (values_of depth stack) o g ≡ pop_operands look2 n first2 (values_of depth new) o (λ ps f rest. g ps (origin n depth first stack) rest)
   reads zero depth first first2 h h1 h2 read same g =
       let e : depth - 0 ≡ depth = omega arith in
-      pop_last o (operand o m) first (values_of depth stack) g ∙ ap (λ l. g [] first l) (sym (subst (λ q. values_of q new ≡ values_of q stack) e same)) ∙ sym (pop_last o plain first2 (values_of depth new) (λ ps f rest. g ps first rest))
+      pop_last o look first (values_of depth stack) g ∙ ap (λ l. g [] first l) (sym (subst (λ q. values_of q new ≡ values_of q stack) e same)) ∙ sym (pop_last o look2 first2 (values_of depth new) (λ ps f rest. g ps first rest))
   reads (suc n) zero first first2 h h1 h2 read same g = absurd (omega (arith, h))
   reads (suc n) (suc d) first first2 h h1 h2 read same g =
       let e : d + 1 ≡ suc d = omega arith in
@@ -180,41 +180,41 @@ module _ (o : World) (m : Frames) (stack new : List Slot) where
       let w = value_of (slot_at new d) in
       let down : suc d - suc n ≡ d - n = omega arith in
       let g2 : List Plain → Option Value → List Value → Run Machine = λ ps f rest. g ps (origin (suc n) (suc d) first stack) rest in
-      ap (λ l. pop_operands (operand o m) (suc n) first l o g) (sym (top_at (suc d) d stack e h1))
-      ∙ pop_more o (operand o m) n first v (values_of d stack) g
-      ∙ ap (λ r. having r o (λ p. pop_operands (operand o m) n (Some v) (values_of d stack) o (λ ps f rest. g (p ∷ ps) f rest))) (read d (omega (arith, h)) (omega arith))
-      ∙ having_alike o (plain w) _ _ (λ p.
+      ap (λ l. pop_operands look (suc n) first l o g) (sym (top_at (suc d) d stack e h1))
+      ∙ pop_more o look n first v (values_of d stack) g
+      ∙ ap (λ r. having r o (λ p. pop_operands look n (Some v) (values_of d stack) o (λ ps f rest. g (p ∷ ps) f rest))) (read d (omega (arith, h)) (omega arith))
+      ∙ having_alike o (look2 w) _ _ (λ p.
       reads n d (Some v) (Some w) (omega (arith, h)) (omega (arith, h1)) (omega (arith, h2)) (λ at a b. read at (omega (arith, a)) (omega (arith, b))) (subst (λ q. values_of q new ≡ values_of q stack) down same) (λ ps f rest. g (p ∷ ps) f rest)
-      ∙ ap (λ x. pop_operands plain n (Some w) (values_of d new) o (λ ps f rest. g (p ∷ ps) x rest)) (origin_next n d first stack))
-      ∙ sym (pop_more o plain n first2 w (values_of d new) g2)
-      ∙ ap (λ l. pop_operands plain (suc n) first2 l o g2) (top_at (suc d) d new e h2)
+      ∙ ap (λ x. pop_operands look2 n (Some w) (values_of d new) o (λ ps f rest. g (p ∷ ps) x rest)) (origin_next n d first stack))
+      ∙ sym (pop_more o look2 n first2 w (values_of d new) g2)
+      ∙ ap (λ l. pop_operands look2 (suc n) first2 l o g2) (top_at (suc d) d new e h2)
 
-  pub unread : (n depth : ℕ) (first : Option Value) → n ≤ depth → depth ≤ length stack → (place : ℕ) → depth - n ≤ place → place < depth → operand o m (value_of (slot_at stack place)) ≡ None →
-      (g : List Plain → Option Value → List Value → Run Machine) → pop_operands (operand o m) n first (values_of depth stack) o g ≡ no_rule o
+  pub unread : (n depth : ℕ) (first : Option Value) → n ≤ depth → depth ≤ length stack → (place : ℕ) → depth - n ≤ place → place < depth → look (value_of (slot_at stack place)) ≡ None →
+      (g : List Plain → Option Value → List Value → Run Machine) → pop_operands look n first (values_of depth stack) o g ≡ no_rule o
   unfolding having
   unread zero depth first h h1 place a b nothing g = absurd (omega (arith, a, b))
   unread (suc n) zero first h h1 place a b nothing g = absurd (omega (arith, h))
   unread (suc n) (suc d) first h h1 place a b nothing g =
       let e : d + 1 ≡ suc d = omega arith in
       let v = value_of (slot_at stack d) in
-      let F : Plain → Run Machine = λ p. pop_operands (operand o m) n (Some v) (values_of d stack) o (λ ps f rest. g (p ∷ ps) f rest) in
-      ap (λ l. pop_operands (operand o m) (suc n) first l o g) (sym (top_at (suc d) d stack e h1))
-      ∙ pop_more o (operand o m) n first v (values_of d stack) g
+      let F : Plain → Run Machine = λ p. pop_operands look n (Some v) (values_of d stack) o (λ ps f rest. g (p ∷ ps) f rest) in
+      ap (λ l. pop_operands look (suc n) first l o g) (sym (top_at (suc d) d stack e h1))
+      ∙ pop_more o look n first v (values_of d stack) g
       ∙ elim (at_or_below place d b) [
-        | inl is ↦ ap (λ r. having r o F) (subst (λ q. operand o m (value_of (slot_at stack q)) ≡ None) is nothing)
-        | inr below ↦ having_never o (operand o m v) F (λ p. unread n d (Some v) (omega (arith, h)) (omega (arith, h1)) place (omega (arith, a)) below nothing (λ ps f rest. g (p ∷ ps) f rest))
+        | inl is ↦ ap (λ r. having r o F) (subst (λ q. look (value_of (slot_at stack q)) ≡ None) is nothing)
+        | inr below ↦ having_never o (look v) F (λ p. unread n d (Some v) (omega (arith, h)) (omega (arith, h1)) place (omega (arith, a)) below nothing (λ ps f rest. g (p ∷ ps) f rest))
       ]
 
   pub too_few : (n depth : ℕ) (first : Option Value) → depth < n → depth ≤ length stack →
-      (g : List Plain → Option Value → List Value → Run Machine) → pop_operands (operand o m) n first (values_of depth stack) o g ≡ no_rule o
+      (g : List Plain → Option Value → List Value → Run Machine) → pop_operands look n first (values_of depth stack) o g ≡ no_rule o
   too_few zero depth first h h1 g = absurd (omega (arith, h))
-  too_few (suc n) zero first h h1 g = ap (λ l. pop_operands (operand o m) (suc n) first l o g) (none_at stack) ∙ pop_nothing o (operand o m) n first g
+  too_few (suc n) zero first h h1 g = ap (λ l. pop_operands look (suc n) first l o g) (none_at stack) ∙ pop_nothing o look n first g
   too_few (suc n) (suc d) first h h1 g =
       let e : d + 1 ≡ suc d = omega arith in
       let v = value_of (slot_at stack d) in
-      ap (λ l. pop_operands (operand o m) (suc n) first l o g) (sym (top_at (suc d) d stack e h1))
-      ∙ pop_more o (operand o m) n first v (values_of d stack) g
-      ∙ having_never o (operand o m v) _ (λ p. too_few n d (Some v) (omega (arith, h)) (omega (arith, h1)) (λ ps f rest. g (p ∷ ps) f rest))
+      ap (λ l. pop_operands look (suc n) first l o g) (sym (top_at (suc d) d stack e h1))
+      ∙ pop_more o look n first v (values_of d stack) g
+      ∙ having_never o (look v) _ (λ p. too_few n d (Some v) (omega (arith, h)) (omega (arith, h1)) (λ ps f rest. g (p ∷ ps) f rest))
 
 -- ---- what is put back
 

@@ -31,6 +31,7 @@ paid o wanted = record o { ticks = o.ticks + 1; words = o.words + wanted }
 -- what a tick and so many words leave
 unfoldable pub Pays : Flow → Limits → (line wanted : ℕ) → Storage → (before : Option (List ℕ)) (now : Outside) → World → Frames → Type 0
 Pays flow.On l line wanted p before now o m = ((go : World → Run Machine) → entering l line wanted o go ≡ go (paid o wanted)) × Stores l p before now (paid o wanted) m
+Pays flow.Jumped l line wanted p before now o m = ⊥
 Pays f l line wanted p before now o m =
     (r : Registers) (stack : List Slot) (below : List working.Activation) (go : World → Run Machine) → Leaves f l line p r stack below before now (entering l line wanted o go)
 

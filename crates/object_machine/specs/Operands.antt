@@ -1,7 +1,8 @@
 -- Operands of standard names, which may be addresses of texts.
-use Rattle.std.specs.Prelude.{◌≡◌, ℕ, zero, suc, ◌+◌, ◌-◌, ◌<◌, ◌≤◌, ◌⊎◌, Bool, true, false, List, length, Option, Some, None}
+use Rattle.std.specs.Prelude.{◌≡◌, ℕ, zero, suc, ◌-◌, ◌<◌, ◌≤◌, ◌⊎◌, Bool, true, false, List, length, Option, Some, None}
 use Rattle.sim_values.specs.declared.standard.Standard.{Standard}
-use Rattle.sim_values.specs.Plain.{Plain}
+use Rattle.sim_values.specs.Plain.{Plain, Text}
+use Rattle.sim_values.specs.declared.value.TextVal.{TextVal}
 use Rattle.sim_values.specs.Standard.{operands_of, row_of}
 use Rattle.sim_code.specs.Events.{only_text}
 use Rattle.sim_code.specs.Machine.{Frames, Value, operand, plain, plain_in}
@@ -18,6 +19,10 @@ text_there v = only_text (plain_in v)
 abbrev pub read_as : Option Slot → Option Plain
 read_as None = None
 read_as (Some s) = plain (value_of s)
+
+-- it is no text
+abbrev pub IsNoTextIn : Option Plain → Type 0
+IsNoTextIn q = (t : TextVal) → q ≡ Some (Text t) → ⊥
 
 -- the first of as many last values
 abbrev pub first_slot : (count depth : ℕ) → List Slot → Slot

@@ -2,8 +2,11 @@
 use Rattle.std.specs.Prelude.{◌≡◌, ℕ, ◌+◌, List, Option}
 use Rattle.sim_base.specs.declared.limits.Limits.{Limits}
 use Rattle.sim_values.specs.declared.value.TextVal.{TextVal}
-use Rattle.sim_code.specs.Machine.{Frames}
-use Rattle.sim_code.specs.Outcome.{World}
+use Rattle.sim_values.specs.declared.standard.Standard.{Standard}
+use Rattle.sim_code.specs.Events.{performing, when}
+use Rattle.sim_code.specs.Machine.{Activation, Frames, Machine, on, operand}
+use Rattle.sim_code.specs.Outcome.{Run, World}
+use Rattle.sim_code.specs.Rows.{put_back, room_for, with_value}
 use Rattle.frame_arena.specs.declared.slot.Slot.{Slot}
 use Rattle.standard_calls.specs.declared.names.Performed.{Performed}
 use Rattle.standard_calls.specs.declared.names.Performed.TheVariants as performed
@@ -16,6 +19,10 @@ use Rattle.object_machine.specs.declared.placing.Placing.{Placing}
 use Rattle.object_machine.specs.declared.placing.Placing.TheVariants as placing
 use Rattle.object_machine.specs.Placing.{LeadsFrom, PutsBack}
 use Rattle.object_machine.specs.Standing.{Outside, Stands}
+
+-- the row of a standard name
+abbrev pub named : Limits → (line : ℕ) → Standard → World → Frames → Activation → List Activation → Run Machine
+named l line name o m a below = when (room_for name a) o (performing operand put_back l line name a.stack o m (λ p m value stack. on p m a (with_value value stack) below))
 
 -- the run goes on behind the instruction with so many values, or it ends
 abbrev pub Follows : Placing → Flow → (depth : ℕ) → (old new : Registers) → Type 0

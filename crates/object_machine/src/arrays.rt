@@ -12,7 +12,7 @@ ghost use Rattle.frame_arena.specs.Slots.{count_of, value_of};
 ghost use Rattle.sim_code.specs.Outcome.{ArrayOf};
 ghost use Rattle.frame_arena.specs.Stacks.{integers_from, slot_at};
 ghost use Rattle.object_machine.specs.Arrayed.{value_there};
-ghost use Rattle.object_machine.specs.Standing.{HasImages, Obeys, Outside};
+ghost use Rattle.object_machine.specs.Standing.{Advances, HasImages, Obeys, Outside};
 ghost use Rattle.sim_base.specs.declared.limits.Limits.{Limits as LimitsOf};
 ghost use Rattle.object_machine.specs.declared.machine.Storage.{Storage as StorageOf};
 
@@ -51,6 +51,7 @@ pub fn elem(
     requires fits { regs.old.depth ≤ length stack.old }
     requires short { regs.old.pc + 1 < 2 ^ 64 }
     ensures fits { regs.new.depth ≤ length stack.new }
+    ensures next { Advances result regs.old regs.new }
     ensures row { (l : Limits) (line : ℕ) (p : Storage) (below : List Activation) (now : Outside) → p.arrays ≡ arrays.now →
         Obeys result l line (λ o m a b. having (no_class class) o (λ _. index_of count o (λ n. finding_element plain array_in n line a.stack o (λ array k st. on o m a (Address (ElementPlace array k 0) ∷ st) b)))) p p regs.old regs.new stack.old stack.new below below now now }
 {
@@ -77,6 +78,7 @@ pub fn fetch(
     requires fits { regs.old.depth ≤ length stack.old }
     requires short { regs.old.pc + 1 < 2 ^ 64 }
     ensures fits { regs.new.depth ≤ length stack.new }
+    ensures next { Advances result regs.old regs.new }
     ensures row { (l : Limits) (line : ℕ) (p : Storage) (below : List Activation) (now : Outside) → p.frames.items ≡ frames.now → p.cells.items ≡ cells.now → p.arrays ≡ arrays.now → p.image ≡ images.now →
         Obeys result l line (λ o m a b. popping a.stack o (λ v st. having (place_in v) o (λ place. having (value_at_place o m place) o (λ v. on o m a (v ∷ st) b)))) p p regs.old regs.new stack.old stack.new below below now now }
 {
@@ -232,6 +234,7 @@ pub fn put(storage: &mut Storage, stack: &[Slot], regs: &mut Registers) -> Flow
     ensures fits { regs.new.depth ≤ length stack.now }
     ensures valid { HasImages storage.old.texts storage.old.image → HasImages storage.new.texts storage.new.image }
     ensures frames { storage.new.frames ≡ storage.old.frames }
+    ensures next { Advances result regs.old regs.new }
     ensures row { (l : LimitsOf) (line : ℕ) (below : List Activation) (now : Outside) →
         Obeys result l line (λ o m a b. popping a.stack o (λ v st. popping st o (λ address st. having (place_in address) o (λ place. putting place v o m (λ o m. on o m a st b))))) storage.old storage.new regs.old regs.new stack.now stack.now below below now now }
 {

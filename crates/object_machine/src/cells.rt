@@ -14,7 +14,7 @@ ghost use Rattle.frame_arena.specs.Arrays.{AllLeadArrays, RegionOf, SlotLeadsArr
 ghost use Rattle.frame_arena.specs.Frames.{AllLead, SlotLeads};
 ghost use Rattle.sim_code.specs.Outcome.{ArrayOf};
 ghost use Rattle.object_machine.specs.Arrayed.{is_unqualified};
-ghost use Rattle.object_machine.specs.Standing.{Obeys, Outside, SameBut};
+ghost use Rattle.object_machine.specs.Standing.{Advances, Obeys, Outside, SameBut};
 
 use crate::constants::index;
 use crate::machine::{Activation, Flow, Registers, Storage};
@@ -43,6 +43,7 @@ pub fn link(frames: &[Frame], stack: &mut [Slot], regs: &mut Registers, level: i
     requires fits { regs.old.depth ≤ length stack.old }
     requires short { regs.old.pc + 1 < 2 ^ 64 }
     ensures fits { regs.new.depth ≤ length stack.new }
+    ensures next { Advances result regs.old regs.new }
     ensures row { (l : Limits) (line : ℕ) (p : Storage) (below : List Activation) (now : Outside) → p.frames.items ≡ frames.now →
         Obeys result l line (λ o m a b. at_level_of m a level o (λ j. pushed o m a b (LinkTo j))) p p regs.old regs.new stack.old stack.new below below now now }
 {
@@ -84,6 +85,7 @@ pub fn load(
     requires fits { regs.old.depth ≤ length stack.old }
     requires short { regs.old.pc + 1 < 2 ^ 64 }
     ensures fits { regs.new.depth ≤ length stack.new }
+    ensures next { Advances result regs.old regs.new }
     ensures row { (l : Limits) (line : ℕ) (p : Storage) (below : List Activation) (now : Outside) → p.frames.items ≡ frames.now → p.cells.items ≡ cells.now →
         Obeys result l line (λ o m a b. cell_at m a level cell o (λ j c. having (cell_value_of m j c) o (λ v. pushed o m a b v))) p p regs.old regs.new stack.old stack.new below below now now }
 {
@@ -128,6 +130,7 @@ pub fn store(
     requires fits { regs.old.depth ≤ length stack.now }
     requires short { regs.old.pc + 1 < 2 ^ 64 }
     ensures fits { regs.new.depth ≤ length stack.now }
+    ensures next { Advances result regs.old regs.new }
     ensures row { (l : Limits) (line : ℕ) (p p2 : Storage) (below : List Activation) (now : Outside) → SameBut p p2 → p.frames.items ≡ frames.now → p.cells.items ≡ cells.old → p2.cells.items ≡ cells.new →
         Obeys result l line (λ o m a b. popping a.stack o (λ v s. cell_at m a level cell o (λ j c. having (cell_set m j c v) o (λ m. on o m a s b)))) p p2 regs.old regs.new stack.now stack.now below below now now }
 {
@@ -185,6 +188,7 @@ pub fn address(
     requires fits { regs.old.depth ≤ length stack.old }
     requires short { regs.old.pc + 1 < 2 ^ 64 }
     ensures fits { regs.new.depth ≤ length stack.new }
+    ensures next { Advances result regs.old regs.new }
     ensures row { (l : Limits) (line : ℕ) (p : Storage) (below : List Activation) (now : Outside) → p.frames.items ≡ frames.now →
         Obeys result l line (λ o m a b. having (no_class class) o (λ _. cell_at m a level cell o (λ j c. pushed o m a b (Address (CellPlace j c 0))))) p p regs.old regs.new stack.old stack.new below below now now }
 {

@@ -4,7 +4,7 @@ ghost use Rattle.sim_code.specs.Code.{CodeOf};
 ghost use Rattle.sim_code.specs.Events.{choosing, having, pop_truth, ticking};
 ghost use Rattle.sim_code.specs.Machine.{Machine, at, is_tick as is_tick_in, jumping, on, plain};
 ghost use Rattle.sim_code.specs.Outcome.{Run, World};
-ghost use Rattle.object_machine.specs.Standing.{Obeys, Outside};
+ghost use Rattle.object_machine.specs.Standing.{Advances, Obeys, Outside};
 
 use crate::constants::index;
 use crate::machine::{Activation, Flow, Registers, Storage};
@@ -20,6 +20,7 @@ pub fn tick(limits: &Limits, storage: &mut Storage, regs: &mut Registers) -> Flo
     ensures texts { storage.new.texts ≡ storage.old.texts }
     ensures image { storage.new.image ≡ storage.old.image }
     ensures frames { storage.new.frames ≡ storage.old.frames }
+    ensures next { Advances result regs.old regs.new }
     ensures row { (line : ℕ) (stack : List Slot) (below : List Activation) (now : Outside) →
         Obeys result limits.now line (λ o m a b. ticking limits.now o (λ p. on p m a a.stack b)) storage.old storage.new regs.old regs.new stack stack below below now now }
 {
@@ -66,6 +67,7 @@ fn is_tick(there: Lined) -> bool
 #[inline(always)]
 pub fn jump(instrs: &[Lined], regs: &mut Registers, operand: i64) -> Flow
     ensures depth { regs.new.depth ≡ regs.old.depth }
+    ensures next { Advances result regs.old regs.new }
     ensures row { (code : CodeOf) (l : Limits) (line : ℕ) (p : Storage) (stack : List Slot) (below : List Activation) (now : Outside) → code.instrs ≡ instrs.now →
         Obeys result l line (λ o m a b. jumping code a.pc operand o (λ q. at o m a q a.stack b)) p p regs.old regs.new stack stack below below now now }
 {
@@ -73,7 +75,7 @@ pub fn jump(instrs: &[Lined], regs: &mut Registers, operand: i64) -> Flow
         return Flow::NoRule;
     };
     regs.pc = to;
-    Flow::On
+    Flow::Jumped
 }
 
 /// Pops a truth value, and goes on at an index where it is false.
@@ -82,6 +84,7 @@ pub fn jump_if_false(instrs: &[Lined], stack: &[Slot], regs: &mut Registers, ope
     requires fits { regs.old.depth ≤ length stack.now }
     requires short { regs.old.pc + 1 < 2 ^ 64 }
     ensures fits { regs.new.depth ≤ length stack.now }
+    ensures next { Advances result regs.old regs.new }
     ensures row { (code : CodeOf) (l : Limits) (line : ℕ) (p : Storage) (below : List Activation) (now : Outside) → code.instrs ≡ instrs.now →
         Obeys result l line (λ o m a b. pop_truth plain a.stack o (λ c stack. choosing c (on o m a stack b) (jumping code a.pc operand o (λ q. at o m a q stack b)))) p p regs.old regs.new stack.now stack.now below below now now }
 {
@@ -98,5 +101,5 @@ pub fn jump_if_false(instrs: &[Lined], stack: &[Slot], regs: &mut Registers, ope
     };
     regs.depth -= 1;
     regs.pc = to;
-    Flow::On
+    Flow::Jumped
 }

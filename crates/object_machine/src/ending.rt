@@ -95,5 +95,6 @@ pub fn answer<O: Sink>(limits: &Limits, storage: &mut Storage, out: &mut O, stop
         Flow::InputFault => Ending::InputFault,
         Flow::WriteFault => Ending::Memory,
         Flow::On => Ending::Memory,
+        Flow::Jumped => Ending::Memory,
     }
 }

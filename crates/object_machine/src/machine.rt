@@ -66,8 +66,10 @@ pub struct Storage {
 /// How a step ends.
 #[derive(Clone, Copy, Debug, PartialEq, Eq)]
 pub enum Flow {
-    /// The run goes on.
+    /// The run goes on behind the instruction.
     On,
+    /// The run goes on where a jump leads.
+    Jumped,
     /// The program came to its end.
     Normal,
     /// There is no rule.

@@ -7,23 +7,29 @@ ghost use Rattle.sim_code.specs.Rows.{put_back as put_back_of, room_for, standar
 ghost use Rattle.sim_code.specs.Running.{name_runs, standard_runs};
 ghost use Rattle.frame_arena.specs.Arrays.{AllLeadArrays, HoldsArrays};
 ghost use Rattle.frame_arena.specs.Frames.{AllLead, Holds};
+ghost use Rattle.sim_base.specs.declared.limits.Limits.{Limits as LimitsOf};
+ghost use Rattle.sim_values.specs.Standard.{row_of};
 ghost use Rattle.standard_calls.specs.Performed.{IfDepth};
+ghost use Rattle.standard_calls.specs.Quiet.{OnNumbers, OnText, manner_of as manner};
 ghost use Rattle.object_machine.specs.Named.{FlowEnds, InputEnds, Still};
 ghost use Rattle.object_machine.specs.Operands.{IsReady};
 ghost use Rattle.object_machine.specs.Running.{Onward};
-ghost use Rattle.object_machine.specs.Settled.{Follows, Settles};
-ghost use Rattle.object_machine.specs.Standing.{HasImages, Obeys, Outside, Untouched, outside, ports_in, ports_of};
+ghost use Rattle.object_machine.specs.Settled.{Follows, Settles, named};
+ghost use Rattle.object_machine.specs.Standing.{Advances, HasImages, Obeys, Outside, Untouched, outside, ports_in, ports_of};
 ghost use Rattle.object_machine.specs.Taking.{StepTakes};
 
 use crate::constants::index;
 use crate::machine::{Activation, Flow, Registers, Storage};
-use crate::placing::{Placing, put_back};
-use crate::reading::{first_operand, read_operands};
-use frame_arena::Slot;
+use crate::placing::{Placing, put_back, put_text};
+use crate::reading::{first_operand, read_operands, text_operand};
+use frame_arena::{EMPTY, Slot};
 use sim_base::Limits;
 use sim_ports::{Sink, Source};
 use sim_values::Standard;
-use standard_calls::{Performed, is_quiet, operand_count, perform, perform_quiet};
+use standard_calls::{
+    Manner, Missing, Performed, manner_of, operand_count, perform, perform_plain, perform_scan,
+    perform_whole,
+};
 
 // The standard name of a number.
 #[inline(always)]
@@ -48,6 +54,8 @@ fn settle_performed(
     ensures fits { (room : ℕ) → regs.old.depth ≤ room → IfDepth performed (λ n. n ≤ room) → regs.new.depth ≤ room }
     ensures valid { HasImages storage.old.texts storage.old.image → HasImages storage.new.texts storage.new.image }
     ensures frames { storage.new.frames ≡ storage.old.frames }
+    ensures next { Advances result regs.old regs.new }
+    ensures home { regs.new.home ≡ regs.old.home }
     ensures settled { Settles performed result address storage.old storage.new regs.old regs.new }
 {
     match performed {
@@ -72,11 +80,38 @@ fn settle_performed(
     }
 }
 
+// The same, where most addresses are those of cells.
+#[inline(always)]
+fn settle_scan(
+    storage: &mut Storage,
+    regs: &mut Registers,
+    performed: Performed,
+    address: Slot,
+) -> Flow
+    requires short { regs.old.pc + 1 < 2 ^ 64 }
+    ensures fits { (room : ℕ) → regs.old.depth ≤ room → IfDepth performed (λ n. n ≤ room) → regs.new.depth ≤ room }
+    ensures valid { HasImages storage.old.texts storage.old.image → HasImages storage.new.texts storage.new.image }
+    ensures frames { storage.new.frames ≡ storage.old.frames }
+    ensures next { Advances result regs.old regs.new }
+    ensures home { regs.new.home ≡ regs.old.home }
+    ensures settled { Settles performed result address storage.old storage.new regs.old regs.new }
+{
+    match performed {
+        Performed::Moved { depth, text } => {
+            let placing = put_text(storage, &address, text);
+            follow(regs, placing, depth)
+        }
+        _ => settle_performed(storage, regs, performed, address),
+    }
+}
+
 // Goes on with so many values, where a text was put back.
 #[inline(always)]
 fn follow(regs: &mut Registers, placing: Placing, depth: usize) -> Flow
     requires short { regs.old.pc + 1 < 2 ^ 64 }
     ensures fits { (room : ℕ) → regs.old.depth ≤ room → depth ≤ room → regs.new.depth ≤ room }
+    ensures next { Advances result regs.old regs.new }
+    ensures home { regs.new.home ≡ regs.old.home }
     ensures follows { Follows placing result depth regs.old regs.new }
 {
     match placing {
@@ -120,6 +155,76 @@ fn ready(storage: &Storage, stack: &mut [Slot], depth: usize, name: Standard) ->
     None
 }
 
+// A name of whole texts. It is a function of its own, which leaves the registers of the others in hand.
+#[inline(never)]
+fn whole_standard(
+    limits: &Limits,
+    storage: &mut Storage,
+    stack: &mut [Slot],
+    regs: &mut Registers,
+    name: Standard,
+) -> Flow
+    requires whole { manner name ≡ Manner.Whole }
+    requires runs { name_runs name ≡ true }
+    requires fits { regs.old.depth ≤ length stack.old }
+    requires short { regs.old.pc + 1 < 2 ^ 64 }
+    requires images { HasImages storage.old.texts storage.old.image }
+    ensures fits { regs.new.depth ≤ length stack.new }
+    ensures valid { HasImages storage.new.texts storage.new.image }
+    ensures frames { storage.new.frames ≡ storage.old.frames }
+    ensures next { Advances result regs.old regs.new }
+    ensures home { regs.new.home ≡ regs.old.home }
+    ensures row { (line : ℕ) (below : List Activation) (now : Outside) →
+        Obeys result limits.now line (λ o m a b. named limits.now line name o m a b) storage.old storage.new regs.old regs.new stack.old stack.new below below now now }
+{
+    let depth = regs.depth;
+    let Some(address) = ready(storage, stack, depth, name) else {
+        return Flow::NoRule;
+    };
+    let budget = u64::from(limits.storage);
+    let performed = perform_whole(
+        name,
+        stack,
+        depth,
+        budget,
+        &mut storage.words,
+        &mut storage.texts,
+    );
+    settle_performed(storage, regs, performed, address)
+}
+
+// The same, with a copy of the registers handed over.
+#[inline(always)]
+fn whole_apart(
+    limits: &Limits,
+    storage: &mut Storage,
+    stack: &mut [Slot],
+    regs: &mut Registers,
+    name: Standard,
+) -> Flow
+    requires whole { manner name ≡ Manner.Whole }
+    requires runs { name_runs name ≡ true }
+    requires fits { regs.old.depth ≤ length stack.old }
+    requires short { regs.old.pc + 1 < 2 ^ 64 }
+    requires images { HasImages storage.old.texts storage.old.image }
+    ensures fits { regs.new.depth ≤ length stack.new }
+    ensures valid { HasImages storage.new.texts storage.new.image }
+    ensures frames { storage.new.frames ≡ storage.old.frames }
+    ensures next { Advances result regs.old regs.new }
+    ensures row { (line : ℕ) (below : List Activation) (now : Outside) →
+        Obeys result limits.now line (λ o m a b. named limits.now line name o m a b) storage.old storage.new regs.old regs.new stack.old stack.new below below now now }
+{
+    let mut apart = Registers {
+        home: regs.home,
+        pc: regs.pc,
+        depth: regs.depth,
+    };
+    let flow = whole_standard(limits, storage, stack, &mut apart, name);
+    regs.pc = apart.pc;
+    regs.depth = apart.depth;
+    flow
+}
+
 /// Does what a quiet standard name does, and puts its value in the place of its operands, if it has one. At any other name it does
 /// nothing.
 #[inline(always)]
@@ -137,29 +242,38 @@ pub fn quiet_standard(
     ensures valid { HasImages storage.new.texts storage.new.image }
     ensures frames { storage.new.frames ≡ storage.old.frames }
     ensures other { Untouched result storage.old storage.new regs.old regs.new stack.old stack.new }
+    ensures next { IfSome result (λ f. Advances f regs.old regs.new) }
     ensures row { IfSome result (λ f. (line : ℕ) (below : List Activation) (now : Outside) →
         Obeys f limits.now line (λ o m a b. having (standard_of operand) o (λ name. when (room_for name a) o (performing operand_of put_back_of limits.now line name a.stack o m (λ p m value st. on p m a (with_value value st) b)))) storage.old storage.new regs.old regs.new stack.old stack.new below below now now) }
 {
     let Some(name) = name_of(operand) else {
         return None;
     };
-    if !is_quiet(name) {
-        return None;
+    match manner_of(name) {
+        // An address among numbers and characters is refused as it stands, and what it leads to is not read.
+        Manner::Plain => {
+            let performed = perform_plain(name, stack, regs.depth);
+            Some(settle_performed(storage, regs, performed, EMPTY))
+        }
+        Manner::Scan => {
+            let depth = regs.depth;
+            let count = operand_count(name);
+            if depth < count {
+                return Some(Flow::NoRule);
+            }
+            let first = depth - count;
+            let text = match text_operand(storage, &stack[first]) {
+                Ok(text) => text,
+                Err(Missing::NoRule) => return Some(Flow::NoRule),
+                Err(Missing::Memory) => return Some(Flow::Memory),
+            };
+            let address = stack[first];
+            let performed = perform_scan(name, text, stack, depth, &mut storage.texts);
+            Some(settle_scan(storage, regs, performed, address))
+        }
+        Manner::Whole => Some(whole_apart(limits, storage, stack, regs, name)),
+        Manner::Ports => None,
     }
-    let depth = regs.depth;
-    let Some(address) = ready(storage, stack, depth, name) else {
-        return Some(Flow::NoRule);
-    };
-    let budget = u64::from(limits.storage);
-    let performed = perform_quiet(
-        name,
-        stack,
-        depth,
-        budget,
-        &mut storage.words,
-        &mut storage.texts,
-    );
-    Some(settle_performed(storage, regs, performed, address))
 }
 
 /// Does what a standard name does that is not quiet, and puts its value in the place of its operands, if it has one. At a quiet one the
@@ -192,8 +306,9 @@ pub fn standard<I: Source, O: Sink>(
     let Some(name) = name_of(operand) else {
         return Flow::NoRule;
     };
-    if is_quiet(name) {
-        return Flow::Memory;
+    match manner_of(name) {
+        Manner::Ports => {}
+        _ => return Flow::Memory,
     }
     let depth = regs.depth;
     let Some(address) = ready(storage, stack, depth, name) else {

@@ -150,3 +150,32 @@ pub fn put_back(storage: &mut Storage, address: Slot, text: TextVal) -> Placing
         _ => Placing::Done,
     }
 }
+
+// The same as a function of its own.
+#[inline(never)]
+fn put_back_apart(storage: &mut Storage, address: &Slot, text: TextVal) -> Placing
+    ensures frames { storage.new.frames ≡ storage.old.frames }
+    ensures valid { HasImages storage.old.texts storage.old.image → HasImages storage.new.texts storage.new.image }
+    ensures row { (l : Limits) (r : Registers) (stack : List SlotOf) (below : List Activation) (before : Option (List ℕ)) (now : Outside) (o : World) (m : Frames) →
+        Stands l storage.old r stack below before now o m → LeadsFrom storage.old o m address.now → PutsBack result l storage.new r stack below before now o m address.now text }
+{
+    put_back(storage, *address, text)
+}
+
+/// The same, where most addresses are those of cells. Only the code for these stands where it is called, and what it works on stays in
+/// registers there: what is no cell gets a copy of the text.
+#[inline(always)]
+pub fn put_text(storage: &mut Storage, address: &Slot, text: TextVal) -> Placing
+    ensures frames { storage.new.frames ≡ storage.old.frames }
+    ensures valid { HasImages storage.old.texts storage.old.image → HasImages storage.new.texts storage.new.image }
+    ensures row { (l : Limits) (r : Registers) (stack : List SlotOf) (below : List Activation) (before : Option (List ℕ)) (now : Outside) (o : World) (m : Frames) →
+        Stands l storage.old r stack below before now o m → LeadsFrom storage.old o m address.now → PutsBack result l storage.new r stack below before now o m address.now text }
+{
+    match address.kind {
+        SlotKind::Cell => put_back(storage, *address, text),
+        _ => {
+            let apart = text;
+            put_back_apart(storage, address, apart)
+        }
+    }
+}

@@ -1,20 +1,24 @@
 //! What is at addresses, and operands of standard names, which may be addresses of texts.
-ghost use Rattle.std.specs.Prelude.{◌≡◌, ◌-◌, ◌≤◌, ℕ, List, Option, IfSome, length, false};
+ghost use Rattle.std.specs.Prelude.{◌≡◌, ◌-◌, ◌≤◌, ℕ, List, Option, Some, Err, IfOk, IfSome, length, false};
+ghost use Rattle.sim_values.specs.Plain.{Text};
+ghost use Rattle.sim_values.specs.Texts.{IsText};
 ghost use Rattle.sim_code.specs.Events.{only_text};
-ghost use Rattle.sim_code.specs.Machine.{Frames, operand, place_in, plain};
+ghost use Rattle.sim_code.specs.Machine.{Frames, Of, operand, place_in, plain};
 ghost use Rattle.sim_code.specs.Outcome.{ArrayOf, World};
 ghost use Rattle.frame_arena.specs.Arrays.{AllLeadArrays, ElementsLead, HoldsArrays, SlotLeadsArray, names_array};
 ghost use Rattle.frame_arena.specs.Frames.{AllLead, Holds, SlotLeads, found_value, names_frame};
 ghost use Rattle.frame_arena.specs.Slots.{count_of, value_of};
 ghost use Rattle.object_machine.specs.Arrayed.{value_there};
-ghost use Rattle.object_machine.specs.Operands.{OperandsRead, first_slot, read_as, text_there};
+ghost use Rattle.frame_arena.specs.declared.slot.Slot.{Slot as SlotOf};
+ghost use Rattle.object_machine.specs.Operands.{IsNoTextIn, OperandsRead, first_slot, read_as, text_there};
 ghost use Rattle.object_machine.specs.Standing.{ports_in, ports_of};
 
 use crate::images::image_slot;
-use crate::machine::Images;
+use crate::machine::{Images, Storage};
 use frame_arena::frames::{self, Frame};
 use frame_arena::{Arrays, EMPTY, Slot, SlotKind};
-use sim_values::{ArrayRef, FrameRef};
+use sim_values::{ArrayRef, FrameRef, TextVal};
+use standard_calls::{Missing, text_in};
 
 // The number in a reference.
 #[inline(always)]
@@ -120,6 +124,79 @@ fn read_operand(
         SlotKind::Element => text_at(frames, cells, arrays, images, slot),
         SlotKind::Image => text_at(frames, cells, arrays, images, slot),
         _ => plain_alone(slot),
+    }
+}
+
+// The text that an operand is.
+#[inline(always)]
+fn text_read(storage: &Storage, slot: Slot) -> Result<TextVal, Missing>
+    ensures text { IfOk result (λ t. IsText storage.now.texts t × ((s : SlotOf) × (value_of s ≡ Of (Text t)))) }
+    ensures is { IfOk result (λ t. (o : World) (m : Frames) (source : List ℕ) → Holds storage.now.frames.items storage.now.cells.items m → HoldsArrays storage.now.arrays o.arrays → ports_in o.store ≡ ports_of storage.now.image source → SlotLeads storage.now.frames.items m slot → SlotLeadsArray storage.now.arrays.regions o.arrays slot → operand o m (value_of slot) ≡ Some (Text t)) }
+    ensures other { result ≡ Err Missing.NoRule → (o : World) (m : Frames) (source : List ℕ) → Holds storage.now.frames.items storage.now.cells.items m → HoldsArrays storage.now.arrays o.arrays → ports_in o.store ≡ ports_of storage.now.image source → SlotLeads storage.now.frames.items m slot → SlotLeadsArray storage.now.arrays.regions o.arrays slot → IsNoTextIn (operand o m (value_of slot)) }
+{
+    let Some(found) = read_operand(
+        &storage.frames,
+        &storage.cells,
+        &storage.arrays,
+        &storage.image,
+        slot,
+    ) else {
+        return Err(Missing::NoRule);
+    };
+    text_in(found, &storage.texts)
+}
+
+// The text in a cell.
+#[inline(always)]
+fn text_in_cell(storage: &Storage, slot: Slot) -> Result<TextVal, Missing>
+    requires cell { slot.kind ≡ SlotKind.Cell }
+    ensures text { IfOk result (λ t. IsText storage.now.texts t × ((s : SlotOf) × (value_of s ≡ Of (Text t)))) }
+    ensures is { IfOk result (λ t. (o : World) (m : Frames) (source : List ℕ) → Holds storage.now.frames.items storage.now.cells.items m → HoldsArrays storage.now.arrays o.arrays → ports_in o.store ≡ ports_of storage.now.image source → SlotLeads storage.now.frames.items m slot → SlotLeadsArray storage.now.arrays.regions o.arrays slot → operand o m (value_of slot) ≡ Some (Text t)) }
+    ensures other { result ≡ Err Missing.NoRule → (o : World) (m : Frames) (source : List ℕ) → Holds storage.now.frames.items storage.now.cells.items m → HoldsArrays storage.now.arrays o.arrays → ports_in o.store ≡ ports_of storage.now.image source → SlotLeads storage.now.frames.items m slot → SlotLeadsArray storage.now.arrays.regions o.arrays slot → IsNoTextIn (operand o m (value_of slot)) }
+{
+    let frame = FrameRef {
+        frame: slot.name,
+        stamp: stamp_of(slot),
+    };
+    let Some(found) = frames::cell(&storage.frames, &storage.cells, frame, slot.more as usize)
+    else {
+        return Err(Missing::NoRule);
+    };
+    text_in(found, &storage.texts)
+}
+
+// The same text.
+#[inline(always)]
+fn text_itself(storage: &Storage, slot: Slot) -> Result<TextVal, Missing>
+    requires text { slot.kind ≡ SlotKind.Text }
+    ensures text { IfOk result (λ t. IsText storage.now.texts t × ((s : SlotOf) × (value_of s ≡ Of (Text t)))) }
+    ensures is { IfOk result (λ t. (o : World) (m : Frames) (source : List ℕ) → Holds storage.now.frames.items storage.now.cells.items m → HoldsArrays storage.now.arrays o.arrays → ports_in o.store ≡ ports_of storage.now.image source → SlotLeads storage.now.frames.items m slot → SlotLeadsArray storage.now.arrays.regions o.arrays slot → operand o m (value_of slot) ≡ Some (Text t)) }
+    ensures other { result ≡ Err Missing.NoRule → (o : World) (m : Frames) (source : List ℕ) → Holds storage.now.frames.items storage.now.cells.items m → HoldsArrays storage.now.arrays o.arrays → ports_in o.store ≡ ports_of storage.now.image source → SlotLeads storage.now.frames.items m slot → SlotLeadsArray storage.now.arrays.regions o.arrays slot → IsNoTextIn (operand o m (value_of slot)) }
+{
+    text_in(slot, &storage.texts)
+}
+
+// The same as a function of its own, for what is neither a text nor in a cell.
+#[inline(never)]
+fn text_apart(storage: &Storage, slot: &Slot) -> Result<TextVal, Missing>
+    ensures text { IfOk result (λ t. IsText storage.now.texts t × ((s : SlotOf) × (value_of s ≡ Of (Text t)))) }
+    ensures is { IfOk result (λ t. (o : World) (m : Frames) (source : List ℕ) → Holds storage.now.frames.items storage.now.cells.items m → HoldsArrays storage.now.arrays o.arrays → ports_in o.store ≡ ports_of storage.now.image source → SlotLeads storage.now.frames.items m slot.now → SlotLeadsArray storage.now.arrays.regions o.arrays slot.now → operand o m (value_of slot.now) ≡ Some (Text t)) }
+    ensures other { result ≡ Err Missing.NoRule → (o : World) (m : Frames) (source : List ℕ) → Holds storage.now.frames.items storage.now.cells.items m → HoldsArrays storage.now.arrays o.arrays → ports_in o.store ≡ ports_of storage.now.image source → SlotLeads storage.now.frames.items m slot.now → SlotLeadsArray storage.now.arrays.regions o.arrays slot.now → IsNoTextIn (operand o m (value_of slot.now)) }
+{
+    text_read(storage, *slot)
+}
+
+/// The text that an operand is: its own, or the one at an address.
+#[inline(always)]
+pub fn text_operand(storage: &Storage, slot: &Slot) -> Result<TextVal, Missing>
+    ensures text { IfOk result (λ t. IsText storage.now.texts t × ((s : SlotOf) × (value_of s ≡ Of (Text t)))) }
+    ensures is { IfOk result (λ t. (o : World) (m : Frames) (source : List ℕ) → Holds storage.now.frames.items storage.now.cells.items m → HoldsArrays storage.now.arrays o.arrays → ports_in o.store ≡ ports_of storage.now.image source → SlotLeads storage.now.frames.items m slot.now → SlotLeadsArray storage.now.arrays.regions o.arrays slot.now → operand o m (value_of slot.now) ≡ Some (Text t)) }
+    ensures other { result ≡ Err Missing.NoRule → (o : World) (m : Frames) (source : List ℕ) → Holds storage.now.frames.items storage.now.cells.items m → HoldsArrays storage.now.arrays o.arrays → ports_in o.store ≡ ports_of storage.now.image source → SlotLeads storage.now.frames.items m slot.now → SlotLeadsArray storage.now.arrays.regions o.arrays slot.now → IsNoTextIn (operand o m (value_of slot.now)) }
+{
+    match slot.kind {
+        SlotKind::Text => text_itself(storage, *slot),
+        SlotKind::Cell => text_in_cell(storage, *slot),
+        _ => text_apart(storage, slot),
     }
 }
 

@@ -7,7 +7,7 @@ ghost use Rattle.sim_code.specs.Outcome.{Normal};
 ghost use Rattle.sim_code.specs.Rows.{row};
 ghost use Rattle.frame_arena.specs.declared.slot.Slot.{Slot as SlotOf};
 ghost use Rattle.frame_arena.specs.Frames.{IsSpan};
-ghost use Rattle.object_machine.specs.Standing.{HasImages, Obeys, Outside, Row, Untouched};
+ghost use Rattle.object_machine.specs.Standing.{Advances, HasImages, Obeys, Outside, Row, Untouched};
 
 use crate::arrays::{array, copy_array, elem, fetch, keep, put};
 use crate::cells::{address, end_level, link, load, store};
@@ -29,7 +29,8 @@ use sim_values::{Calculation, Connective, Dyadic, Monadic};
 // The end of the program.
 #[inline(always)]
 fn halt() -> Flow
-    ensures { (l : LimitsOf) (line : ℕ) (p : Storage) (r : Registers) (stack : List SlotOf) (below : List Activation) (now : Outside) →
+    ensures next { (r : Registers) → Advances result r r }
+    ensures row { (l : LimitsOf) (line : ℕ) (p : Storage) (r : Registers) (stack : List SlotOf) (below : List Activation) (now : Outside) →
         Obeys result l line (λ o m a b. stopping Normal o) p p r r stack stack below below now now }
 {
     Flow::Normal
@@ -73,6 +74,7 @@ pub fn obey(
     ensures valid { HasImages storage.new.texts storage.new.image }
     ensures frames { storage.new.frames ≡ storage.old.frames }
     ensures other { Untouched result storage.old storage.new regs.old regs.new stack.old stack.new }
+    ensures next { IfSome result (λ f. Advances f regs.old regs.new) }
     ensures row { IfSome result (λ f. (code : CodeOf) (line : ℕ) (below : List Activation) (now : Outside) → code.instrs ≡ instrs.now →
         Obeys f limits.now line (λ o m a b. row code limits.now o m a b line instr) storage.old storage.new regs.old regs.new stack.old stack.new below below now now) }
 {

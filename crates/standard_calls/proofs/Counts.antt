@@ -1,5 +1,6 @@
 -- How many operands a name takes, by its shape.
 use Rattle.std.proofs.Common.{◌≡◌, length, refl}
+use Rattle.sim_values.specs.declared.standard.Standard.TheVariants as name
 use Rattle.sim_values.specs.Standard.{operands_of, row_of}
 use Rattle.standard_calls.specs.declared.calls.OfNothing.{OfNothing}
 use Rattle.standard_calls.specs.declared.calls.OfNothing.TheVariants as nothing
@@ -13,7 +14,9 @@ use Rattle.standard_calls.specs.declared.calls.OfText.{OfText}
 use Rattle.standard_calls.specs.declared.calls.OfText.TheVariants as text
 use Rattle.standard_calls.specs.declared.calls.OfTextAndInteger.{OfTextAndInteger}
 use Rattle.standard_calls.specs.declared.calls.OfTextAndInteger.TheVariants as text_and_integer
-use Rattle.standard_calls.specs.Calls.{character_name, integer_name, integers_name, nothing_name, text_and_integer_name, text_name}
+use Rattle.standard_calls.specs.declared.calls.Call.{Call}
+use Rattle.standard_calls.specs.declared.calls.Call.TheVariants as call
+use Rattle.standard_calls.specs.Calls.{character_name, integer_name, integers_name, name_of, nothing_name, operands, text_and_integer_name, text_name}
 
 pub nothing_count : (f : OfNothing) → 0 ≡ length (operands_of (row_of (nothing_name f)).function)
 unfolding row_of
@@ -71,3 +74,22 @@ pub text_and_integer_count : (f : OfTextAndInteger) → 2 ≡ length (operands_o
 unfolding row_of
 text_and_integer_count text_and_integer.Setpos = refl
 text_and_integer_count text_and_integer.Putint = refl
+
+pub call_count : (c : Call) → length (operands c) ≡ length (operands_of (row_of (name_of c)).function)
+unfolding row_of
+call_count (call.Nothing f) = nothing_count f
+call_count (call.Integer f i) = integer_count f
+call_count (call.Integers f i j) = integers_count f
+call_count (call.Character f c) = character_count f
+call_count (call.Text f t) = text_count f
+call_count (call.TextAndInteger f t i) = text_and_integer_count f
+call_count (call.TextAndIntegers t i n) = refl
+call_count (call.TextAndCharacter t c) = refl
+
+pub setpos_count : length (operands_of (row_of name.TextSetpos).function) ≡ 2
+unfolding row_of
+setpos_count = refl
+
+pub putchar_count : length (operands_of (row_of name.TextPutchar).function) ≡ 2
+unfolding row_of
+putchar_count = refl

@@ -12,4 +12,5 @@ pub mod Counts
 pub mod Unread
 pub mod TakesNone
 pub mod Taking
-pub mod Quietness
+pub mod Manners
+pub mod ReadApart

@@ -52,6 +52,23 @@ three_at depth stack h h2 =
 pub counted : (depth : ℕ) (stack : List Slot) → depth ≤ length stack → length (values_of depth stack) ≡ depth
 counted depth stack h = length-map (reverse (take depth stack)) value_of ∙ length-reverse (take depth stack) ∙ length-take-le depth stack h
 
+-- ---- a slot that stands apart
+
+pub same_below : (at : ℕ) (stack : List Slot) (s : Slot) → values_of at (set stack at s) ≡ values_of at stack
+same_below at stack s = ap (λ l. map value_of (reverse l)) (take_set at stack s)
+  where
+    take_set : (at : ℕ) (stack : List Slot) (s : Slot) → take at (set stack at s) ≡ take at stack
+    take_set zero [] s = refl
+    take_set zero (x ∷ xs) s = refl
+    take_set (suc at) [] s = refl
+    take_set (suc at) (x ∷ xs) s = ap (λ l. x ∷ l) (take_set at xs s)
+
+pub here : (at : ℕ) (stack : List Slot) (s : Slot) → at < length stack → slot_at (set stack at s) at ≡ s
+here at stack s h = get_or-set_same stack at s empty_slot h
+
+pub elsewhere : (at q : ℕ) (stack : List Slot) (s : Slot) → (q ≡ at → ⊥) → slot_at (set stack at s) q ≡ slot_at stack q
+elsewhere at q stack s h = get_or-set_other stack at q s empty_slot h
+
 -- ---- references
 
 abbrev truth_type : Bool → Type 0

@@ -3,3 +3,4 @@ pub mod Calls
 pub mod Unread
 pub mod Taking
 pub mod Quiet
+pub mod Apart

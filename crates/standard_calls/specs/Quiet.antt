@@ -1,41 +1,58 @@
--- The quiet standard names: they work on their operands and on texts alone, and touch neither input nor output.
-use Rattle.std.specs.Prelude.{Bool, true, false}
+-- How standard names are done. A quiet one works on its operands and on texts alone, and touches neither input nor output.
 use Rattle.sim_values.specs.declared.standard.Standard.{Standard}
 use Rattle.sim_values.specs.declared.standard.Standard.TheVariants as name
+use Rattle.sim_values.specs.Standard.{Function, of_character, of_integer, of_integers, of_text, of_text_and_character, of_text_and_integer}
+use Rattle.standard_calls.specs.declared.manner.Manner.{Manner}
+use Rattle.standard_calls.specs.declared.manner.Manner.TheVariants as manner
 use Rattle.standard_calls.specs.declared.names.Performed.{Performed}
 use Rattle.standard_calls.specs.declared.names.Performed.TheVariants as performed
 
-abbrev pub is_quiet : Standard → Bool
-is_quiet name.Abs = true
-is_quiet name.Sign = true
-is_quiet name.Min = true
-is_quiet name.Max = true
-is_quiet name.Mod = true
-is_quiet name.Rem = true
-is_quiet name.Char = true
-is_quiet name.Rank = true
-is_quiet name.Isochar = true
-is_quiet name.Isorank = true
-is_quiet name.Digit = true
-is_quiet name.Letter = true
-is_quiet name.Blanks = true
-is_quiet name.Copy = true
-is_quiet name.Upcase = true
-is_quiet name.Lowcase = true
-is_quiet name.TextConstant = true
-is_quiet name.TextStart = true
-is_quiet name.TextLength = true
-is_quiet name.TextPos = true
-is_quiet name.TextMore = true
-is_quiet name.TextMain = true
-is_quiet name.TextSetpos = true
-is_quiet name.TextGetchar = true
-is_quiet name.TextPutchar = true
-is_quiet name.TextSub = true
-is_quiet name.TextStrip = true
-is_quiet name.TextGetint = true
-is_quiet name.TextPutint = true
-is_quiet _ = false
+-- A name is quiet where its manner is not `Ports`.
+abbrev pub manner_of : Standard → Manner
+manner_of name.Abs = manner.Plain
+manner_of name.Sign = manner.Plain
+manner_of name.Min = manner.Plain
+manner_of name.Max = manner.Plain
+manner_of name.Mod = manner.Plain
+manner_of name.Rem = manner.Plain
+manner_of name.Char = manner.Plain
+manner_of name.Rank = manner.Plain
+manner_of name.Isochar = manner.Plain
+manner_of name.Isorank = manner.Plain
+manner_of name.Digit = manner.Plain
+manner_of name.Letter = manner.Plain
+manner_of name.TextLength = manner.Scan
+manner_of name.TextPos = manner.Scan
+manner_of name.TextMore = manner.Scan
+manner_of name.TextGetchar = manner.Scan
+manner_of name.TextPutchar = manner.Scan
+manner_of name.TextSetpos = manner.Scan
+manner_of name.Blanks = manner.Whole
+manner_of name.Copy = manner.Whole
+manner_of name.Upcase = manner.Whole
+manner_of name.Lowcase = manner.Whole
+manner_of name.TextConstant = manner.Whole
+manner_of name.TextStart = manner.Whole
+manner_of name.TextMain = manner.Whole
+manner_of name.TextSub = manner.Whole
+manner_of name.TextStrip = manner.Whole
+manner_of name.TextGetint = manner.Whole
+manner_of name.TextPutint = manner.Whole
+manner_of _ = manner.Ports
+
+-- a function of numbers or of a character alone
+abbrev pub OnNumbers : Function → Type 0
+OnNumbers (of_integer f) = Unit {0}
+OnNumbers (of_integers f) = Unit {0}
+OnNumbers (of_character f) = Unit {0}
+OnNumbers _ = ⊥
+
+-- a function of a text, and of one number or character at most
+abbrev pub OnText : Function → Type 0
+OnText (of_text f) = Unit {0}
+OnText (of_text_and_integer f) = Unit {0}
+OnText (of_text_and_character f) = Unit {0}
+OnText _ = ⊥
 
 -- no end has failed
 abbrev pub QuietPerformed : Performed → Type 0

@@ -9,6 +9,7 @@ ghost use Rattle.sim_code.specs.Machine.{Frames, plain};
 ghost use Rattle.sim_code.specs.Outcome.{ArrayOf};
 ghost use Rattle.frame_arena.specs.Arrays.{AllLeadArrays, RegionOf};
 ghost use Rattle.frame_arena.specs.declared.frames.Frame.{Frame};
+ghost use Rattle.frame_arena.specs.declared.slot.Slot.{Slot as SlotOf};
 ghost use Rattle.frame_arena.specs.Frames.{AllLead};
 ghost use Rattle.frame_arena.specs.Slots.{value_of};
 ghost use Rattle.frame_arena.specs.Stacks.{values_of};
@@ -118,7 +119,10 @@ pub fn settle(stack: &mut [Slot], at: usize, came: Came) -> Performed
     requires room { ValueFits came at stack.old }
     requires fits { at ≤ length stack.old }
     requires scalar { IsScalarCame came }
-    ensures row { (budget : ℕ) (name : Standard) (depth : ℕ) (vs : List Plain) (old new : Parts) → Takes name depth stack.old at vs → CameAs came budget name vs old new → PerformedAs result budget name (held depth stack.old) stack.new old new }
+
+    // What the row takes may stand on another stack that has the same values below.
+    ensures row { (budget : ℕ) (name : Standard) (depth : ℕ) (slots : List SlotOf) (vs : List Plain) (old new : Parts) → values_of at slots ≡ values_of at stack.old → Takes name depth slots at vs → CameAs came budget name vs old new →
+        PerformedAs result budget name (held depth slots) stack.new old new }
     ensures ends { (n : ℕ) × (result ≡ settled came n) }
     ensures within { IfDepth result (λ n. n ≤ length stack.new) }
     ensures long { length stack.new ≡ length stack.old }

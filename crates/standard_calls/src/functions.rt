@@ -6,7 +6,7 @@ ghost use Rattle.sim_values.specs.Plain.{Plain, Integer, Character, Text};
 ghost use Rattle.sim_values.specs.Store.{computes, gives as gives_value};
 ghost use Rattle.sim_code.specs.Machine.{plain};
 ghost use Rattle.frame_arena.specs.Slots.{value_of};
-ghost use Rattle.standard_calls.specs.Calls.{CameAs, EffectIs, IsScalar, IsScalarCame, QuietCame};
+ghost use Rattle.standard_calls.specs.Calls.{CameAs, EffectIs, IfCameMoved, IsScalar, IsScalarCame, QuietCame};
 ghost use Rattle.standard_calls.specs.Performed.{Parts, store_of};
 
 use crate::came::{Came, value};
@@ -21,6 +21,7 @@ pub fn given(slot: Slot) -> Came
     ensures came { (budget : ℕ) (name : Standard) (vs : List Plain) (p : Parts) (q : Plain) → plain (value_of slot) ≡ Some q → EffectIs name vs p (λ written. gives_value q (store_of p written)) → CameAs result budget name vs p p }
     ensures scalar { IsScalarCame result }
     ensures quiet { QuietCame result }
+    ensures unmoved { IfCameMoved result ⊥ }
 {
     value(slot)
 }
@@ -31,6 +32,7 @@ pub fn integer_came(answer: Result<i64, RunError>) -> Came
     ensures came { (budget : ℕ) (name : Standard) (vs : List Plain) (p : Parts) → EffectIs name vs p (λ written. computes Integer answer (store_of p written)) → CameAs result budget name vs p p }
     ensures scalar { IsScalarCame result }
     ensures quiet { QuietCame result }
+    ensures unmoved { IfCameMoved result ⊥ }
 {
     match answer {
         Ok(z) => value(Slot::integer(z)),
@@ -44,6 +46,7 @@ pub fn character_came(answer: Result<u8, RunError>) -> Came
     ensures came { (budget : ℕ) (name : Standard) (vs : List Plain) (p : Parts) → EffectIs name vs p (λ written. computes Character answer (store_of p written)) → CameAs result budget name vs p p }
     ensures scalar { IsScalarCame result }
     ensures quiet { QuietCame result }
+    ensures unmoved { IfCameMoved result ⊥ }
 {
     match answer {
         Ok(c) => value(Slot::character(c)),

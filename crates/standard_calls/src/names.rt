@@ -1,5 +1,5 @@
 //! A standard name.
-ghost use Rattle.std.specs.Prelude.{◌≡◌, ◌≤◌, ℕ, List, [], IfOk, Some, length, true, false};
+ghost use Rattle.std.specs.Prelude.{◌≡◌, ◌≤◌, ℕ, List, [], IfOk, Some, length, true};
 ghost use Rattle.std.specs.Io.KnownBytes.{Appends};
 ghost use Rattle.sim_values.specs.Texts.{KeepsTexts, at_position};
 ghost use Rattle.sim_code.specs.Machine.{Frames};
@@ -11,7 +11,8 @@ ghost use Rattle.frame_arena.specs.declared.frames.Frame.{Frame};
 ghost use Rattle.frame_arena.specs.Frames.{AllLead};
 ghost use Rattle.frame_arena.specs.Stacks.{values_of};
 ghost use Rattle.standard_calls.specs.Calls.{HasText, ReadAs};
-ghost use Rattle.standard_calls.specs.Quiet.{is_quiet as quiet};
+ghost use Rattle.standard_calls.specs.declared.manner.Manner.TheVariants as manner;
+ghost use Rattle.standard_calls.specs.Quiet.{manner_of};
 ghost use Rattle.standard_calls.specs.Taking.{RowTakes};
 ghost use Rattle.standard_calls.specs.Unread.{Unread};
 ghost use Rattle.standard_calls.specs.Performed.{IfDepth, IfMoved, PerformedAs, PerformedFaults, PerformedStops, held, parts};
@@ -73,7 +74,7 @@ fn finish<I: Source, O: Sink>(
 ) -> Performed
     requires read { ReadAs call name depth stack.old }
     requires text { IfOk call (λ c. HasText texts.old c) }
-    requires loud { quiet name ≡ false }
+    requires loud { manner_of name ≡ manner.Ports }
     requires fits { depth ≤ length stack.old }
     requires image { IsImage texts.old image.old }
     requires sysin { IsImage texts.old sysin.old.image }
@@ -125,7 +126,7 @@ pub fn perform<I: Source, O: Sink>(
     out: &mut O,
 ) -> Performed
     requires runs { name_runs name ≡ true }
-    requires loud { quiet name ≡ false }
+    requires loud { manner_of name ≡ manner.Ports }
     requires fits { depth ≤ length stack.old }
     requires image { IsImage texts.old image.old }
     requires sysin { IsImage texts.old sysin.old.image }

@@ -1,11 +1,12 @@
 //! Standard names that are not quiet: they read or write, or have no operands.
-ghost use Rattle.std.specs.Prelude.{◌≡◌, [], ℕ, List, Some, map, false};
+ghost use Rattle.std.specs.Prelude.{◌≡◌, [], ℕ, List, Some, map};
 ghost use Rattle.sim_values.specs.Texts.{KeepsTexts, at_position};
 ghost use Rattle.basic_io.specs.Image.{IsImage};
 ghost use Rattle.standard_calls.specs.Calls.{CameAs, CameFaults, CameStops, GivesValue, HasText, IfCameMoved, IsScalarCame, name_of, nothing_name, operands};
 ghost use Rattle.sim_code.specs.Machine.{Of};
 ghost use Rattle.standard_calls.specs.Performed.{parts};
-ghost use Rattle.standard_calls.specs.Quiet.{is_quiet};
+ghost use Rattle.standard_calls.specs.declared.manner.Manner.TheVariants as manner;
+ghost use Rattle.standard_calls.specs.Quiet.{manner_of};
 ghost use Rattle.standard_calls.specs.Taking.{CallTakes};
 ghost use Rattle.standard_calls.specs.Unread.{Unread};
 
@@ -69,7 +70,7 @@ pub fn come<I: Source, O: Sink>(
     input: &mut I,
     out: &mut O,
 ) -> Came
-    requires loud { is_quiet (name_of call) ≡ false }
+    requires loud { manner_of (name_of call) ≡ manner.Ports }
     requires image { IsImage texts.old image.old }
     requires sysin { IsImage texts.old sysin.old.image }
     requires text { HasText texts.old call }

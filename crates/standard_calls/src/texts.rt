@@ -8,10 +8,9 @@ ghost use Rattle.sim_values.specs.Store.{changes, makes, moves, unvalued, valued
 ghost use Rattle.sim_values.specs.Texts.{Frame, IsText, KeepsTexts, Making, TextStep, outcome};
 ghost use Rattle.sim_values.specs.Words.{count_from, text_words};
 ghost use Rattle.basic_io.specs.Input.{HeldInput};
-ghost use Rattle.standard_calls.specs.Calls.{CameAs, EffectIs, IsScalarCame, KeepsImages, MakesWithin, QuietCame, text_and_integer_name, unmade_as};
+ghost use Rattle.standard_calls.specs.Calls.{CameAs, EffectIs, IsScalarCame, KeepsImages, MakesWithin, QuietCame, unmade_as};
 ghost use Rattle.standard_calls.specs.Performed.{Parts, parts, store_of};
 
-use crate::calls::OfTextAndInteger;
 use crate::came::{Came, value};
 use crate::functions::text_came;
 use frame_arena::Slot;
@@ -143,32 +142,45 @@ pub fn changed(answer: Result<TextVal, RunError>) -> Came
     }
 }
 
-/// `setpos` and `putint`.
+/// `getchar`.
 #[inline(always)]
-pub fn of_text_and_integer(
-    function: OfTextAndInteger,
-    text: TextVal,
-    i: i64,
-    texts: &mut Texts,
-) -> Came
+pub fn getchar(text: TextVal, texts: &Texts) -> Came
+    requires text { IsText texts.now text }
+    ensures came { (budget : ℕ) (p : Parts) → p.frames ≡ texts.now → CameAs result budget name.TextGetchar (Text text ∷ []) p (record p { frames = texts.now }) }
+    ensures scalar { IsScalarCame result }
+    ensures quiet { QuietCame result }
+{
+    let mut t = text;
+    let answer = texts.getchar(&mut t);
+    moved_character(answer, t)
+}
+
+/// `setpos`.
+#[inline(always)]
+pub fn setpos(text: TextVal, i: i64, texts: &Texts) -> Came
+    requires text { IsText texts.now text }
+    ensures came { (budget : ℕ) (p : Parts) → p.frames ≡ texts.now → CameAs result budget name.TextSetpos (Integer i ∷ Text text ∷ []) p (record p { frames = texts.now }) }
+    ensures scalar { IsScalarCame result }
+    ensures quiet { QuietCame result }
+{
+    let mut t = text;
+    texts.setpos(&mut t, i);
+    moved(Ok(()), t)
+}
+
+/// `putint`.
+#[inline(always)]
+pub fn putint(text: TextVal, i: i64, texts: &mut Texts) -> Came
     requires text { IsText texts.old text }
-    ensures came { (budget : ℕ) (p : Parts) → p.frames ≡ texts.old → CameAs result budget (text_and_integer_name function) (Integer i ∷ Text text ∷ []) p (record p { frames = texts.new }) }
+    ensures came { (budget : ℕ) (p : Parts) → p.frames ≡ texts.old → CameAs result budget name.TextPutint (Integer i ∷ Text text ∷ []) p (record p { frames = texts.new }) }
     ensures scalar { IsScalarCame result }
     ensures quiet { QuietCame result }
     ensures keeps { KeepsTexts texts.old texts.new }
     ensures images { KeepsImages texts.old texts.new }
 {
     let mut t = text;
-    match function {
-        OfTextAndInteger::Setpos => {
-            texts.setpos(&mut t, i);
-            moved(Ok(()), t)
-        }
-        OfTextAndInteger::Putint => {
-            let answer = texts.putint(&mut t, i);
-            moved(answer, t)
-        }
-    }
+    let answer = texts.putint(&mut t, i);
+    moved(answer, t)
 }
 
 /// `putchar`.

@@ -4,7 +4,7 @@ use Rattle.sim_code.specs.Machine.{Machine, at, jumping}
 use Rattle.sim_code.specs.Outcome.{Run}
 use Rattle.frame_arena.specs.Stacks.{values_of}
 use Rattle.object_machine.specs.Standing.{Obeys, activation_at, below_of}
-use Rattle.object_machine.proofs.Going.{along, none, depth_goes_on, goes_on, chosen, other_chosen}
+use Rattle.object_machine.proofs.Going.{along, none, depth_goes_on, goes_on, jumps_on, chosen, other_chosen}
 use Rattle.std.proofs.Common.{◌-◌}
 use Rattle.object_machine.proofs.control.jump_if_false.Goals as goal
 
@@ -33,4 +33,4 @@ returns-clause-row c code l line p below now e before o m s =
     let ex : to_z w64 (of_z w64 c.args.operand) ≡ c.args.operand = search rules in
     let go : ℕ → Run Machine = λ q. at o m (activation_at c.args.regs.now c.args.stack.now) q (values_of (c.args.regs.now.depth - 1) c.args.stack.now) (below_of below) in
     along l line p below before now _ _ c.args.stack.now _ _ (c.in-Some.ensures.row o _ ∙ other_chosen _ _ _ c.if-holds.false ∙ (ap (λ z. jumping code c.args.regs.now.pc z o go) (sym ex) ∙ c.in-Some-target.ensures.row code o go e))
-    (goes_on l line p below before now c.args.regs.now _ c.args.stack.now c.args.stack.now o m _ _ _ s refl s.top.slots s.top.arrays_lead refl refl refl)
+    (jumps_on l line p below before now _ c.args.stack.now _ (goes_on l line p below before now c.args.regs.now _ c.args.stack.now c.args.stack.now o m _ _ _ s refl s.top.slots s.top.arrays_lead refl refl refl))

@@ -2,7 +2,7 @@ use Rattle.std.proofs.Common.{subst}
 use Rattle.object_machine.specs.Running.{Stops}
 use Rattle.object_machine.specs.Standing.{outside}
 use Rattle.object_machine.specs.Named.{InputEnds}
-use Rattle.object_machine.proofs.Closings.{cut_before, broken_off, broken_on, broken_write, fault_closing, normal_closing, ticks_closing, words_closing}
+use Rattle.object_machine.proofs.Closings.{cut_before, broken_jump, broken_off, broken_on, broken_write, fault_closing, normal_closing, ticks_closing, words_closing}
 use Rattle.object_machine.proofs.Whole.{input_answers}
 use Rattle.object_machine.proofs.ending.answer.Goals as goal
 
@@ -32,6 +32,9 @@ returns-in-NoRule-clause-ran g c code from r stack below before source s =
 
 pub returns-in-On-clause-ran : goal.returns-in-On-clause-ran
 returns-in-On-clause-ran g c code from r stack below before source s = broken_on code c.args.limits.now from c.args.stop.line.0 c.args.stop.at c.args.storage.now r stack below before (outside (g.O.Sink.written c.args.out.now) source) (subst (λ f. Stops code c.args.limits.now from f c.args.stop.line.0 c.args.stop.at c.args.storage.now r stack below before (outside (g.O.Sink.written c.args.out.now) source)) c.in-On.is s)
+
+pub returns-in-Jumped-clause-ran : goal.returns-in-Jumped-clause-ran
+returns-in-Jumped-clause-ran g c code from r stack below before source s = broken_jump code c.args.limits.now from c.args.stop.line.0 c.args.stop.at c.args.storage.now r stack below before (outside (g.O.Sink.written c.args.out.now) source) (subst (λ f. Stops code c.args.limits.now from f c.args.stop.line.0 c.args.stop.at c.args.storage.now r stack below before (outside (g.O.Sink.written c.args.out.now) source)) c.in-Jumped.is s)
 
 pub returns-in-Memory-clause-ran : goal.returns-in-Memory-clause-ran
 returns-in-Memory-clause-ran g c code from r stack below before source s = broken_off code c.args.limits.now from c.args.stop.line.0 c.args.stop.at c.args.storage.now r stack below before (outside (g.O.Sink.written c.args.out.now) source) (subst (λ f. Stops code c.args.limits.now from f c.args.stop.line.0 c.args.stop.at c.args.storage.now r stack below before (outside (g.O.Sink.written c.args.out.now) source)) c.in-Memory.is s)
@@ -68,3 +71,6 @@ returns-in-WriteFault-clause-input g c before now h = subst (λ f. InputEnds bef
 
 pub returns-in-On-clause-input : goal.returns-in-On-clause-input
 returns-in-On-clause-input g c before now h = subst (λ f. InputEnds before now f) c.in-On.is h
+
+pub returns-in-Jumped-clause-input : goal.returns-in-Jumped-clause-input
+returns-in-Jumped-clause-input g c before now h = subst (λ f. InputEnds before now f) c.in-Jumped.is h

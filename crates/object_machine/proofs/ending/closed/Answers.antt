@@ -1,6 +1,5 @@
 use Rattle.object_machine.proofs.Closings.{closed_part}
 use Rattle.object_machine.proofs.Whole.{input_answers}
-use Rattle.object_machine.specs.Standing.{outside}
 use Rattle.object_machine.proofs.ending.closed.Goals as goal
 
 pub returns-clause-ran : goal.returns-clause-ran

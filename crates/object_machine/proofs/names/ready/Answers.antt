@@ -1,4 +1,4 @@
-use Rattle.std.proofs.Common.{◌≡◌, ◌∙◌, ◌<◌, ◌≤◌, ◌-◌, inl, inr, ap, sym, subst}
+use Rattle.std.proofs.Common.{◌∙◌, ◌<◌, ◌≤◌, ◌-◌, inl, inr, ap, sym, subst}
 use Rattle.frame_arena.specs.Frames.{AllLead, Holds}
 use Rattle.object_machine.specs.Operands.{AllRead, OneUnread, first_slot}
 use Rattle.object_machine.proofs.names.ready.Goals as goal

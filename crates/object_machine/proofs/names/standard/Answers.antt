@@ -24,9 +24,9 @@ returns-in_default-clause-row g c b eb =
       ),
     )
 
-pub returns-then-is_quiet-clause-row : goal.returns-then-is_quiet-clause-row
+pub returns-in_default-manner_of-clause-row : goal.returns-in_default-manner_of-clause-row
 unfolding Obeys Leaves
-returns-then-is_quiet-clause-row g c b eb = (b, eb, (still_same flow.Memory (g.O.Sink.written c.args.out.now), λ line below before o m s. tt))
+returns-in_default-manner_of-clause-row g c b eb = (b, eb, (still_same flow.Memory (g.O.Sink.written c.args.out.now), λ line below before o m s. tt))
 
 pub returns-in_default-ready-clause-row : goal.returns-in_default-ready-clause-row
 unfolding Obeys

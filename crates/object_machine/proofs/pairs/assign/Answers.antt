@@ -1,8 +1,7 @@
-use Rattle.std.proofs.Common.{◌≡◌, ◌∙◌, ◌-◌, ◌+◌, List, ap, sym, subst, refl}
-use Rattle.sim_code.specs.Events.{stopping, with_texts}
+use Rattle.std.proofs.Common.{◌∙◌, ◌-◌, ◌+◌, List, sym, subst, refl}
+use Rattle.sim_code.specs.Events.{with_texts}
 use Rattle.sim_code.specs.Machine.{Machine, Value, on}
-use Rattle.sim_code.specs.Outcome.{Run, RunFault, World}
-use Rattle.frame_arena.specs.Stacks.{values_of}
+use Rattle.sim_code.specs.Outcome.{Run, World}
 use Rattle.object_machine.specs.declared.machine.Flow.TheVariants as flow
 use Rattle.object_machine.specs.declared.machine.Storage.{Storage}
 use Rattle.object_machine.specs.Standing.{Leaves, Obeys, activation_at, below_of}

@@ -1,9 +1,9 @@
-use Rattle.std.proofs.Common.{◌≡◌, ◌∷◌, ◌∙◌, ◌-◌, ◌+◌, ◌<◌, ◌≤◌, List, length, length-set, set, ap, sym, refl, arith}
+use Rattle.std.proofs.Common.{◌∷◌, ◌∙◌, ◌-◌, ◌+◌, ◌<◌, ◌≤◌, List, length, length-set, set, ap, sym, refl, arith}
 use Rattle.sim_values.specs.Operators.{two_of}
 use Rattle.sim_values.specs.Plain.{Plain, Text, Truth}
 use Rattle.sim_code.specs.Machine.{Machine, Of, Value, on}
 use Rattle.sim_code.specs.Outcome.{Run}
-use Rattle.frame_arena.specs.Stacks.{slot_at, values_of}
+use Rattle.frame_arena.specs.Stacks.{values_of}
 use Rattle.object_machine.specs.Pairs.{relating_by}
 use Rattle.object_machine.specs.Standing.{Leaves, Obeys, activation_at, below_of}
 use Rattle.object_machine.proofs.ArrayRows.{lead_arrays_put, lead_put, put_at}

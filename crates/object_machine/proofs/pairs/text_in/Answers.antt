@@ -2,7 +2,7 @@ use Rattle.std.proofs.Common.{rules, ◌≡◌, ◌∙◌, ap, refl, sym}
 use Rattle.std.specs.Prelude.{pos}
 use Rattle.sim_values.specs.Plain.{Text}
 use Rattle.sim_code.specs.Machine.{Of}
-use Rattle.frame_arena.specs.Slots.{count_of, value_by, value_of}
+use Rattle.frame_arena.specs.Slots.{count_of, value_by}
 use Rattle.object_machine.proofs.PairRows.{no_text_kind}
 use Rattle.object_machine.proofs.pairs.text_in.Goals as goal
 

@@ -1,8 +1,8 @@
-use Rattle.std.proofs.Common.{◌≡◌, ◌∙◌, List, [], ap, sym, subst, refl}
+use Rattle.std.proofs.Common.{◌≡◌, ◌∙◌, [], ap, sym, subst, refl}
 use Rattle.std.specs.Prelude.{true, false}
 use Rattle.sim_values.specs.declared.value.FrameRef.{FrameRef}
 use Rattle.sim_code.specs.Events.{having}
-use Rattle.sim_code.specs.Machine.{Frames, Machine, Value, cell_set}
+use Rattle.sim_code.specs.Machine.{Frames, Machine, cell_set}
 use Rattle.sim_code.specs.Outcome.{Run, World}
 use Rattle.frame_arena.specs.Arrays.{AllLeadArrays}
 use Rattle.frame_arena.specs.Frames.{Holds, HoldsAfter, Leads, LeadsAfter, SlotLeads, names_frame}

@@ -1,8 +1,8 @@
-use Rattle.std.proofs.Common.{◌≡◌, ◌∙◌, List, [], ap, sym, subst, refl}
+use Rattle.std.proofs.Common.{◌≡◌, ◌∙◌, [], ap, sym, subst}
 use Rattle.std.specs.Prelude.{true, false}
 use Rattle.sim_code.specs.Arrays.{element_set}
 use Rattle.sim_code.specs.Events.{having}
-use Rattle.sim_code.specs.Machine.{Frames, Machine, plain}
+use Rattle.sim_code.specs.Machine.{Machine, plain}
 use Rattle.sim_code.specs.Outcome.{Run, World}
 use Rattle.frame_arena.specs.Arrays.{ArrayLeads, ArraysAfter, ElementsLead, HoldsArrays, KeepLeadingAfter, names_array}
 use Rattle.frame_arena.specs.Slots.{count_of, value_of}

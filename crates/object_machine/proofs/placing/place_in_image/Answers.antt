@@ -1,9 +1,9 @@
-use Rattle.std.proofs.Common.{rules, ℕ, ◌≡◌, ◌∙◌, List, [], ap, refl, sym, subst}
-use Rattle.std.specs.Prelude.{Option, Some, None, pos}
+use Rattle.std.proofs.Common.{rules, ◌≡◌, ◌∙◌, [], ap, refl, sym, subst}
+use Rattle.std.specs.Prelude.{Some, None, pos}
 use Rattle.sim_values.specs.declared.value.TextVal.{TextVal}
 use Rattle.sim_values.specs.Plain.{Text}
 use Rattle.sim_values.specs.Store.{image_at, with_image}
-use Rattle.sim_code.specs.Machine.{Frames, Machine, Of, plain}
+use Rattle.sim_code.specs.Machine.{Machine, Of, plain}
 use Rattle.sim_code.specs.Outcome.{Run, World}
 use Rattle.frame_arena.specs.Slots.{count_of, value_by, value_of}
 use Rattle.object_machine.specs.Images.{image_in}

@@ -1,4 +1,4 @@
-use Rattle.std.proofs.Common.{◌≡◌, ◌<◌, ◌∙◌, length, length-set, refl, subst, sym, arith}
+use Rattle.std.proofs.Common.{◌<◌, ◌∙◌, length, length-set, refl, sym, arith}
 use Rattle.object_machine.proofs.ArrayRows.{lead_arrays_put, lead_put}
 use Rattle.object_machine.proofs.ReadOperands.{all_read, one_unread, read_more, read_none, read_same}
 use Rattle.object_machine.proofs.reading.read_operands.Goals as goal

@@ -8,7 +8,7 @@ use Rattle.object_machine.proofs.rows.obey.Goals as goal
 
 pub returns-in-Halt-clause-row : goal.returns-in-Halt-clause-row
 returns-in-Halt-clause-row c code line below now e =
-    for_instr _ code c.args.limits.now line _ _ _ _ _ _ below now c.args.instr _ (c.in-Halt.is) (c.halt.ensures c.args.limits.now line c.args.storage.now c.args.regs.now c.args.stack.now below now)
+    for_instr _ code c.args.limits.now line _ _ _ _ _ _ below now c.args.instr _ (c.in-Halt.is) (c.halt.ensures.row c.args.limits.now line c.args.storage.now c.args.regs.now c.args.stack.now below now)
 
 pub returns-in-Int-clause-row : goal.returns-in-Int-clause-row
 returns-in-Int-clause-row c code line below now e =

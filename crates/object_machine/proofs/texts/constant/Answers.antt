@@ -1,8 +1,7 @@
 use Rattle.std.proofs.Common.{rules, ℕ, ◌≡◌, ◌∙◌, List, length, ap, refl, sym, of_z, to_z, w64}
-use Rattle.std.specs.Prelude.{Some, slice_get}
+use Rattle.std.specs.Prelude.{slice_get}
 use Rattle.sim_values.specs.Plain.{Text}
-use Rattle.sim_code.specs.Machine.{Machine, Of, Value, index, number}
-use Rattle.sim_code.specs.Outcome.{Run}
+use Rattle.sim_code.specs.Machine.{Of, index, number}
 use Rattle.sim_code.specs.Rows.{pushed, text_value}
 use Rattle.frame_arena.specs.Slots.{value_of}
 use Rattle.object_machine.specs.Standing.{Leaves, Obeys, activation_at, below_of}

@@ -1,6 +1,5 @@
-use Rattle.std.proofs.Common.{rules, ℕ, zero, suc, ◌≡◌, ◌∙◌, ap, refl, sym, of_z, to_z, w64}
-use Rattle.std.specs.Prelude.{None}
-use Rattle.sim_values.specs.Store.{Store, image_at}
+use Rattle.std.proofs.Common.{rules, ℕ, ◌≡◌, ◌∙◌, ap, sym, of_z, to_z, w64}
+use Rattle.sim_values.specs.Store.{image_at}
 use Rattle.sim_code.specs.Events.{having}
 use Rattle.sim_code.specs.Instances.{ImagePlace}
 use Rattle.sim_code.specs.Machine.{Address, Machine, index, number}

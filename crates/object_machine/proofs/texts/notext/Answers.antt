@@ -1,4 +1,4 @@
-use Rattle.std.proofs.Common.{◌≡◌, ap, refl, sym}
+use Rattle.std.proofs.Common.{ap, refl, sym}
 use Rattle.sim_values.specs.Plain.{Text}
 use Rattle.sim_values.specs.Texts.{notext}
 use Rattle.sim_code.specs.Rows.{pushed}

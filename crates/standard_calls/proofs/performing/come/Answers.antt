@@ -1,10 +1,11 @@
-use Rattle.std.proofs.Common.{rules, ◌≡◌, false, sym, subst, ap, ◌∙◌, to_z, of_z, w64}
+use Rattle.std.proofs.Common.{rules, ◌≡◌, sym, subst, ap, ◌∙◌, to_z, of_z, w64}
 use Rattle.standard_calls.specs.declared.calls.Call.TheVariants as call
 use Rattle.standard_calls.specs.declared.calls.OfInteger.TheVariants as integer
 use Rattle.standard_calls.specs.declared.calls.OfIntegers.TheVariants as integers
 use Rattle.standard_calls.specs.Calls.{CameAs, name_of, operands}
-use Rattle.standard_calls.specs.Quiet.{is_quiet}
-use Rattle.standard_calls.proofs.Quietness.{loud_integer, loud_integers}
+use Rattle.standard_calls.specs.declared.manner.Manner.TheVariants as manner
+use Rattle.standard_calls.specs.Quiet.{manner_of}
+use Rattle.standard_calls.proofs.Manners.{loud_integer, loud_integers}
 use Rattle.standard_calls.specs.Performed.{Parts, parts}
 use Rattle.standard_calls.proofs.performing.come.Goals as goal
 
@@ -21,7 +22,7 @@ pub returns-in-Integer-clause-came : goal.returns-in-Integer-clause-came
 returns-in-Integer-clause-came g c s e =
     let old : Parts = parts c.args.texts.now c.args.sysin.now s c.args.image.now (g.O.Sink.written c.args.out.now) c.args.words.now in
     let ei : to_z w64 (of_z w64 c.in-Integer.i) ≡ c.in-Integer.i = search rules in
-    let function : c.in-Integer._function ≡ integer.Intext = loud_integer c.in-Integer._function (subst (λ k. is_quiet (name_of k) ≡ false) c.in-Integer.is c.requires.loud) in
+    let function : c.in-Integer._function ≡ integer.Intext = loud_integer c.in-Integer._function (subst (λ k. manner_of (name_of k) ≡ manner.Ports) c.in-Integer.is c.requires.loud) in
     let is : c.args.call ≡ call.Integer integer.Intext (to_z w64 (of_z w64 c.in-Integer.i)) = c.in-Integer.is ∙ ap (λ f. call.Integer f c.in-Integer.i) function ∙ ap (λ z. call.Integer integer.Intext z) (sym ei) in
     let r = c.intext.ensures.came c.args.image.now (g.O.Sink.written c.args.out.now) s e in (
       r.0,
@@ -34,7 +35,7 @@ returns-in-Integers-clause-came g c s e =
     let old : Parts = parts c.args.texts.now c.args.sysin.now s c.args.image.now (g.O.Sink.written c.args.out.now) c.args.words.now in
     let ei : to_z w64 (of_z w64 c.in-Integers.i) ≡ c.in-Integers.i = search rules in
     let ej : to_z w64 (of_z w64 c.in-Integers.j) ≡ c.in-Integers.j = search rules in
-    let function : c.in-Integers._function ≡ integers.Outint = loud_integers c.in-Integers._function (subst (λ k. is_quiet (name_of k) ≡ false) c.in-Integers.is c.requires.loud) in
+    let function : c.in-Integers._function ≡ integers.Outint = loud_integers c.in-Integers._function (subst (λ k. manner_of (name_of k) ≡ manner.Ports) c.in-Integers.is c.requires.loud) in
     let is : c.args.call ≡ call.Integers integers.Outint (to_z w64 (of_z w64 c.in-Integers.i)) (to_z w64 (of_z w64 c.in-Integers.j)) =
     c.in-Integers.is ∙ ap (λ f. call.Integers f c.in-Integers.i c.in-Integers.j) function ∙ ap (λ z. call.Integers integers.Outint z c.in-Integers.j) (sym ei) ∙ ap (λ z. call.Integers integers.Outint (to_z w64 (of_z w64 c.in-Integers.i)) z) (sym ej) in (
       s,

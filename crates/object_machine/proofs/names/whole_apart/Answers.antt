@@ -1,0 +1,12 @@
+use Rattle.std.proofs.Common.{subst}
+use Rattle.object_machine.specs.Settled.{named}
+use Rattle.object_machine.specs.Standing.{Obeys}
+use Rattle.object_machine.proofs.names.whole_apart.Goals as goal
+
+pub returns-clause-row : goal.returns-clause-row
+returns-clause-row c line below now =
+    let done = c.whole_standard-flow in
+    let l = c.args.limits.now in
+    let r = c.args.regs.now in
+    subst (λ h. Obeys done.result l line (λ o m a b. named l line c.args.name o m a b) c.args.storage.now done.new.storage r (record { pc = done.new.regs.pc; home = h; depth = done.new.regs.depth }) c.args.stack.now done.new.stack below below now now)
+    done.ensures.home (done.ensures.row line below now)
