@@ -8,8 +8,12 @@ use Rattle.sim_code.specs.Events.{only_text}
 use Rattle.sim_code.specs.Machine.{Frames, Value, operand, plain, plain_in}
 use Rattle.sim_code.specs.Outcome.{World}
 use Rattle.frame_arena.specs.declared.slot.Slot.{Slot}
+use Rattle.frame_arena.specs.Arrays.{HoldsArrays, SlotLeadsArray}
+use Rattle.frame_arena.specs.Frames.{Holds, SlotLeads}
 use Rattle.frame_arena.specs.Slots.{empty_slot, value_of}
 use Rattle.frame_arena.specs.Stacks.{slot_at}
+use Rattle.object_machine.specs.declared.machine.Storage.{Storage}
+use Rattle.object_machine.specs.Standing.{ports_in, ports_of}
 
 -- the text of a value, if it is one
 abbrev pub text_there : Option Value → Option Plain
@@ -23,6 +27,12 @@ read_as (Some s) = plain (value_of s)
 -- it is no text
 abbrev pub IsNoTextIn : Option Plain → Type 0
 IsNoTextIn q = (t : TextVal) → q ≡ Some (Text t) → ⊥
+
+-- a fact about what an operand is, in whatever world and memory these parts stand
+abbrev pub Wherever : Storage → Slot → (Option Plain → Type 0) → Type 0
+Wherever p s P =
+    (o : World) (m : Frames) (source : List ℕ) → Holds p.frames.items p.cells.items m → HoldsArrays p.arrays o.arrays → ports_in o.store ≡ ports_of p.image source → SlotLeads p.frames.items m s → SlotLeadsArray p.arrays.regions o.arrays s →
+    P (operand o m (value_of s))
 
 -- the first of as many last values
 abbrev pub first_slot : (count depth : ℕ) → List Slot → Slot

@@ -10,7 +10,7 @@ ghost use Rattle.frame_arena.specs.Frames.{AllLead, Holds, SlotLeads, found_valu
 ghost use Rattle.frame_arena.specs.Slots.{count_of, value_of};
 ghost use Rattle.object_machine.specs.Arrayed.{value_there};
 ghost use Rattle.frame_arena.specs.declared.slot.Slot.{Slot as SlotOf};
-ghost use Rattle.object_machine.specs.Operands.{IsNoTextIn, OperandsRead, first_slot, read_as, text_there};
+ghost use Rattle.object_machine.specs.Operands.{IsNoTextIn, OperandsRead, Wherever, first_slot, read_as, text_there};
 ghost use Rattle.object_machine.specs.Standing.{ports_in, ports_of};
 
 use crate::images::image_slot;
@@ -127,32 +127,13 @@ fn read_operand(
     }
 }
 
-// The text that an operand is.
-#[inline(always)]
-fn text_read(storage: &Storage, slot: Slot) -> Result<TextVal, Missing>
-    ensures text { IfOk result (λ t. IsText storage.now.texts t × ((s : SlotOf) × (value_of s ≡ Of (Text t)))) }
-    ensures is { IfOk result (λ t. (o : World) (m : Frames) (source : List ℕ) → Holds storage.now.frames.items storage.now.cells.items m → HoldsArrays storage.now.arrays o.arrays → ports_in o.store ≡ ports_of storage.now.image source → SlotLeads storage.now.frames.items m slot → SlotLeadsArray storage.now.arrays.regions o.arrays slot → operand o m (value_of slot) ≡ Some (Text t)) }
-    ensures other { result ≡ Err Missing.NoRule → (o : World) (m : Frames) (source : List ℕ) → Holds storage.now.frames.items storage.now.cells.items m → HoldsArrays storage.now.arrays o.arrays → ports_in o.store ≡ ports_of storage.now.image source → SlotLeads storage.now.frames.items m slot → SlotLeadsArray storage.now.arrays.regions o.arrays slot → IsNoTextIn (operand o m (value_of slot)) }
-{
-    let Some(found) = read_operand(
-        &storage.frames,
-        &storage.cells,
-        &storage.arrays,
-        &storage.image,
-        slot,
-    ) else {
-        return Err(Missing::NoRule);
-    };
-    text_in(found, &storage.texts)
-}
-
 // The text in a cell.
 #[inline(always)]
 fn text_in_cell(storage: &Storage, slot: Slot) -> Result<TextVal, Missing>
     requires cell { slot.kind ≡ SlotKind.Cell }
     ensures text { IfOk result (λ t. IsText storage.now.texts t × ((s : SlotOf) × (value_of s ≡ Of (Text t)))) }
-    ensures is { IfOk result (λ t. (o : World) (m : Frames) (source : List ℕ) → Holds storage.now.frames.items storage.now.cells.items m → HoldsArrays storage.now.arrays o.arrays → ports_in o.store ≡ ports_of storage.now.image source → SlotLeads storage.now.frames.items m slot → SlotLeadsArray storage.now.arrays.regions o.arrays slot → operand o m (value_of slot) ≡ Some (Text t)) }
-    ensures other { result ≡ Err Missing.NoRule → (o : World) (m : Frames) (source : List ℕ) → Holds storage.now.frames.items storage.now.cells.items m → HoldsArrays storage.now.arrays o.arrays → ports_in o.store ≡ ports_of storage.now.image source → SlotLeads storage.now.frames.items m slot → SlotLeadsArray storage.now.arrays.regions o.arrays slot → IsNoTextIn (operand o m (value_of slot)) }
+    ensures is { IfOk result (λ t. Wherever storage.now slot (λ q. q ≡ Some (Text t))) }
+    ensures other { result ≡ Err Missing.NoRule → Wherever storage.now slot IsNoTextIn }
 {
     let frame = FrameRef {
         frame: slot.name,
@@ -165,33 +146,42 @@ fn text_in_cell(storage: &Storage, slot: Slot) -> Result<TextVal, Missing>
     text_in(found, &storage.texts)
 }
 
-// The same text.
+// A text as it stands.
 #[inline(always)]
 fn text_itself(storage: &Storage, slot: Slot) -> Result<TextVal, Missing>
     requires text { slot.kind ≡ SlotKind.Text }
     ensures text { IfOk result (λ t. IsText storage.now.texts t × ((s : SlotOf) × (value_of s ≡ Of (Text t)))) }
-    ensures is { IfOk result (λ t. (o : World) (m : Frames) (source : List ℕ) → Holds storage.now.frames.items storage.now.cells.items m → HoldsArrays storage.now.arrays o.arrays → ports_in o.store ≡ ports_of storage.now.image source → SlotLeads storage.now.frames.items m slot → SlotLeadsArray storage.now.arrays.regions o.arrays slot → operand o m (value_of slot) ≡ Some (Text t)) }
-    ensures other { result ≡ Err Missing.NoRule → (o : World) (m : Frames) (source : List ℕ) → Holds storage.now.frames.items storage.now.cells.items m → HoldsArrays storage.now.arrays o.arrays → ports_in o.store ≡ ports_of storage.now.image source → SlotLeads storage.now.frames.items m slot → SlotLeadsArray storage.now.arrays.regions o.arrays slot → IsNoTextIn (operand o m (value_of slot)) }
+    ensures is { IfOk result (λ t. Wherever storage.now slot (λ q. q ≡ Some (Text t))) }
+    ensures other { result ≡ Err Missing.NoRule → Wherever storage.now slot IsNoTextIn }
 {
     text_in(slot, &storage.texts)
 }
 
-// The same as a function of its own, for what is neither a text nor in a cell.
+// The text that an operand is, as a function of its own.
 #[inline(never)]
 fn text_apart(storage: &Storage, slot: &Slot) -> Result<TextVal, Missing>
     ensures text { IfOk result (λ t. IsText storage.now.texts t × ((s : SlotOf) × (value_of s ≡ Of (Text t)))) }
-    ensures is { IfOk result (λ t. (o : World) (m : Frames) (source : List ℕ) → Holds storage.now.frames.items storage.now.cells.items m → HoldsArrays storage.now.arrays o.arrays → ports_in o.store ≡ ports_of storage.now.image source → SlotLeads storage.now.frames.items m slot.now → SlotLeadsArray storage.now.arrays.regions o.arrays slot.now → operand o m (value_of slot.now) ≡ Some (Text t)) }
-    ensures other { result ≡ Err Missing.NoRule → (o : World) (m : Frames) (source : List ℕ) → Holds storage.now.frames.items storage.now.cells.items m → HoldsArrays storage.now.arrays o.arrays → ports_in o.store ≡ ports_of storage.now.image source → SlotLeads storage.now.frames.items m slot.now → SlotLeadsArray storage.now.arrays.regions o.arrays slot.now → IsNoTextIn (operand o m (value_of slot.now)) }
+    ensures is { IfOk result (λ t. Wherever storage.now slot.now (λ q. q ≡ Some (Text t))) }
+    ensures other { result ≡ Err Missing.NoRule → Wherever storage.now slot.now IsNoTextIn }
 {
-    text_read(storage, *slot)
+    let Some(found) = read_operand(
+        &storage.frames,
+        &storage.cells,
+        &storage.arrays,
+        &storage.image,
+        *slot,
+    ) else {
+        return Err(Missing::NoRule);
+    };
+    text_in(found, &storage.texts)
 }
 
 /// The text that an operand is: its own, or the one at an address.
 #[inline(always)]
 pub fn text_operand(storage: &Storage, slot: &Slot) -> Result<TextVal, Missing>
     ensures text { IfOk result (λ t. IsText storage.now.texts t × ((s : SlotOf) × (value_of s ≡ Of (Text t)))) }
-    ensures is { IfOk result (λ t. (o : World) (m : Frames) (source : List ℕ) → Holds storage.now.frames.items storage.now.cells.items m → HoldsArrays storage.now.arrays o.arrays → ports_in o.store ≡ ports_of storage.now.image source → SlotLeads storage.now.frames.items m slot.now → SlotLeadsArray storage.now.arrays.regions o.arrays slot.now → operand o m (value_of slot.now) ≡ Some (Text t)) }
-    ensures other { result ≡ Err Missing.NoRule → (o : World) (m : Frames) (source : List ℕ) → Holds storage.now.frames.items storage.now.cells.items m → HoldsArrays storage.now.arrays o.arrays → ports_in o.store ≡ ports_of storage.now.image source → SlotLeads storage.now.frames.items m slot.now → SlotLeadsArray storage.now.arrays.regions o.arrays slot.now → IsNoTextIn (operand o m (value_of slot.now)) }
+    ensures is { IfOk result (λ t. Wherever storage.now slot.now (λ q. q ≡ Some (Text t))) }
+    ensures other { result ≡ Err Missing.NoRule → Wherever storage.now slot.now IsNoTextIn }
 {
     match slot.kind {
         SlotKind::Text => text_itself(storage, *slot),
