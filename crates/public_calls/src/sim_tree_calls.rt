@@ -1,9 +1,9 @@
 //! Tests of what no clause says: that trees can be built, and taken apart again.
 
-use sim_base::{ByteString, TokenKind, TokenNo};
+use sim_base::{ByteString, TokenNo};
 use sim_tree::{
-    Block, Expr, Identifier, LeadingSign, Operand, Program, Sign, Stmt, Terminal, depth,
-    first_token, naming_token,
+    Block, Expr, Identifier, LeadingSign, Operand, Program, Sign, Stmt, depth, first_token,
+    naming_token,
 };
 use std::alloc::{AllocError, Global};
 use std::test::Fail;
@@ -74,17 +74,4 @@ fn measures_depth(rt: HostRuntime) -> Result<(), Fail> {
     // the statement, its actual parameter, and what is in the parentheses
     assert_eq!(rt; depth(&program), 3);
     Ok(())
-}
-
-#[test]
-fn names_terminals(rt: HostRuntime) {
-    assert_eq!(rt; Terminal::of(&TokenKind::Integer(7)), Terminal::Integer);
-    assert_eq!(rt;
-        Terminal::of(&TokenKind::IntegerWord),
-        Terminal::IntegerWord
-    );
-    assert_eq!(rt;
-        Terminal::of(&TokenKind::EndOfSource),
-        Terminal::EndOfSource
-    );
 }
