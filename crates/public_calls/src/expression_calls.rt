@@ -3,15 +3,14 @@
 ghost use Rattle.std.specs.Prelude.{◌≡◌, true};
 ghost use Rattle.sim_expr_parser.specs.Parsing.{IsSource};
 
-use sim_base::{ByteString, Line, Rule, Token, TokenKind};
-use sim_expr_parser::{LIMIT, SyntaxRefusal, parse_expr, terminal_at_token};
-use sim_tree::Terminal;
+use sim_base::{ByteString, Lexeme, Line, Rule, Token, TokenKind, TokenValue};
+use sim_expr_parser::{LIMIT, SyntaxRefusal, kind_at_token, parse_expr};
 use std::alloc::{AllocError, Global};
 use std::test::Fail;
 
-// The kind that a letter stands for.
-fn kind(alloc: Global, letter: u8) -> Result<TokenKind, AllocError> {
-    Ok(match letter {
+// The kind that a letter stands for: any other is an identifier.
+fn kind(letter: u8) -> TokenKind {
+    match letter {
         b'(' => TokenKind::Open,
         b')' => TokenKind::Close,
         b',' => TokenKind::Comma,
@@ -28,22 +27,32 @@ fn kind(alloc: Global, letter: u8) -> Result<TokenKind, AllocError> {
         b't' => TokenKind::Then,
         b'e' => TokenKind::Else,
         b'n' => TokenKind::New,
-        b'1' => TokenKind::Integer(1),
+        b'1' => TokenKind::Integer,
         b'$' => TokenKind::EndOfSource,
-        other => {
+        _ => TokenKind::Identifier,
+    }
+}
+
+// What stands beside the kind of a letter.
+fn value(alloc: Global, kind: TokenKind, letter: u8) -> Result<TokenValue, AllocError> {
+    Ok(match kind {
+        TokenKind::Integer => TokenValue::Integer(1),
+        TokenKind::Identifier => {
             let mut name = Vec::new(alloc);
-            name.push(other)?;
-            TokenKind::Identifier(ByteString::new(name))
+            name.push(letter)?;
+            TokenValue::Bytes(ByteString::new(name))
         }
+        _ => TokenValue::Absent,
     })
 }
 
 fn tokens(alloc: Global, letters: &[u8]) -> Result<Vec<Token>, AllocError> {
     let mut tokens = Vec::new(alloc);
     for letter in letters {
-        let kind = kind(alloc, *letter)?;
+        let kind = kind(*letter);
+        let value = value(alloc, kind, *letter)?;
         tokens.push(Token {
-            kind,
+            lexeme: Lexeme { kind, value },
             place: 0,
             line: Line(1),
         })?;
@@ -62,7 +71,7 @@ fn is_source(tokens: &[Token]) -> bool
     if count > 1000 {
         return false;
     }
-    terminal_at_token(tokens, count - 1) == Terminal::EndOfSource
+    kind_at_token(tokens, count - 1) == TokenKind::EndOfSource
 }
 
 #[test]

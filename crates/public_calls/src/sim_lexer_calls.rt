@@ -1,18 +1,18 @@
 // Sources with the tokens that they spell, and sources that break each lexical rule.
 
-use sim_base::TokenKind;
+use sim_base::{Lexeme, TokenKind};
 use sim_lexer::{LexRefusal, SOURCE_LIMIT, lex};
 use std::alloc::{AllocError, Global};
 use std::process::Abort;
 use std::test::Fail;
 
 // The token as a word: its bytes, value or kind.
-fn show_kind(kind: &TokenKind, out: &mut String) -> Result<(), AllocError> {
-    match kind {
-        TokenKind::Identifier(name) => show_bytes("id:", name.as_bytes(), out),
-        TokenKind::Text(text) => show_bytes("text:", text.as_bytes(), out),
-        TokenKind::Integer(value) => write!(out, "{value}"),
-        TokenKind::Character(byte) => write!(out, "char:{byte}"),
+fn show_lexeme(lexeme: &Lexeme, out: &mut String) -> Result<(), AllocError> {
+    match lexeme.kind {
+        TokenKind::Identifier => show_bytes("id:", lexeme.value.bytes(), out),
+        TokenKind::Text => show_bytes("text:", lexeme.value.bytes(), out),
+        TokenKind::Integer => write!(out, "{}", lexeme.value.integer()),
+        TokenKind::Character => write!(out, "char:{}", lexeme.value.character()),
         TokenKind::EndOfSource => out.push_str("<end>"),
         other => match write!(out, "{other:?}") {
             Ok(()) => Ok(()),
@@ -36,7 +36,7 @@ fn show(alloc: Global, source: &[u8]) -> Result<String, AllocError> {
         Ok(tokens) => {
             for token in &tokens {
                 out.push(' ')?;
-                show_kind(&token.kind, &mut out)?;
+                show_lexeme(&token.lexeme, &mut out)?;
             }
         }
         Err(LexRefusal::Broken { rule, place }) => write!(out, " {} at {place}", rule.code())?,

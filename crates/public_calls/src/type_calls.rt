@@ -6,12 +6,12 @@ ghost use Rattle.sim_expr_parser.specs.Parsing.{IsSource};
 
 use param_modes::{Heading, fits, heading_of};
 use prefix_bind::levels;
-use sim_base::{DeclNo, Rule, Token, TokenNo};
+use sim_base::{DeclNo, Rule, Token, TokenKind, TokenNo};
 use sim_driver::{Command, bind};
-use sim_expr_parser::{parse_expr, terminal_at_token};
+use sim_expr_parser::{kind_at_token, parse_expr};
 use sim_lexer::lex;
 use sim_scope::{Denotation, Scopes, SimType, StaticRefusal, binding};
-use sim_tree::{Expr, Terminal};
+use sim_tree::Expr;
 use sim_types::{common, subordinate, type_of};
 use std::alloc::Global;
 use std::process::Abort;
@@ -44,7 +44,7 @@ fn is_source(tokens: &[Token]) -> bool
     if count > 1000 {
         return false;
     }
-    terminal_at_token(tokens, count - 1) == Terminal::EndOfSource
+    kind_at_token(tokens, count - 1) == TokenKind::EndOfSource
 }
 
 // The expression of a source; none where it is no expression.

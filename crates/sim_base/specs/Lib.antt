@@ -1,3 +1,4 @@
+pub mod Lexeme
 pub mod Place
 pub mod Rule
 pub mod RunError

@@ -17,4 +17,4 @@ pub use numbering::{DeclNo, InstNo, Line, TokenNo};
 pub use place::line_of;
 pub use rule::Rule;
 pub use run_error::RunError;
-pub use token::{Token, TokenKind};
+pub use token::{Lexeme, Token, TokenKind, TokenValue};

@@ -1,9 +1,12 @@
 //! Tokens of a source: its lexemes without separators and comments.
 
+ghost use Rattle.std.specs.Prelude.{◌≡◌};
+ghost use Rattle.sim_base.specs.Lexeme.{bare, bytes_of, character_of, integer_of};
+
 use crate::{ByteString, Line};
 
-/// What a token is.
-#[derive(Debug, Drop)]
+/// The kinds of tokens: the words, the signs, and what has a value. The grammar sees nothing else of a token.
+#[derive(Clone, Copy, Debug, PartialEq, Eq)]
 pub enum TokenKind {
     /// `activate`.
     Activate,
@@ -151,23 +154,89 @@ pub enum TokenKind {
     GreaterEqual,
     /// `<>` or `ne`.
     NotEqual,
-    /// An identifier, in lower case.
-    Identifier(ByteString),
-    /// An integer constant, at most 2^63 - 1.
-    Integer(i64),
+    /// An identifier.
+    Identifier,
+    /// An integer constant.
+    Integer,
     /// A character constant.
-    Character(u8),
+    Character,
     /// A text constant, with the pieces joined that separators alone stand between.
-    Text(ByteString),
+    Text,
     /// The end of the source.
     EndOfSource,
+}
+
+/// What stands beside the kind of a token.
+#[derive(Debug, Drop)]
+pub enum TokenValue {
+    /// Words and signs have no value.
+    Absent,
+    /// The letters of an identifier, in lower case, or the bytes of a text constant.
+    Bytes(ByteString),
+    /// The number of an integer constant, at most 2^63 - 1.
+    Integer(i64),
+    /// The code of a character constant.
+    Character(u8),
+}
+
+impl TokenValue {
+    /// The bytes of an identifier or a text constant; of any other value none.
+    pub fn bytes(&self) -> &[u8]
+        ensures { result.now ≡ bytes_of self.now }
+    {
+        match self {
+            TokenValue::Bytes(bytes) => bytes.as_bytes(),
+            _ => &[],
+        }
+    }
+
+    /// The number of an integer constant; of any other value 0.
+    pub fn integer(&self) -> i64
+        ensures { result ≡ integer_of self.now }
+    {
+        match self {
+            TokenValue::Integer(number) => *number,
+            _ => 0,
+        }
+    }
+
+    /// The code of a character constant; of any other value 0.
+    pub fn character(&self) -> u8
+        ensures { result ≡ character_of self.now }
+    {
+        match self {
+            TokenValue::Character(code) => *code,
+            _ => 0,
+        }
+    }
+}
+
+/// What a token is: its kind, and the value beside it.
+#[derive(Debug, Drop)]
+pub struct Lexeme {
+    /// What the grammar sees of it.
+    pub kind: TokenKind,
+    /// What the grammar does not see.
+    pub value: TokenValue,
+}
+
+impl Lexeme {
+    /// A word or a sign.
+    pub fn bare(kind: TokenKind) -> Lexeme
+        ensures { result ≡ bare kind }
+    {
+        Lexeme {
+            kind,
+            value: TokenValue::Absent,
+        }
+    }
 }
 
 /// A token of the source.
 #[derive(Debug, Drop)]
 pub struct Token {
     /// What it is.
-    pub kind: TokenKind,
+    pub lexeme: Lexeme,
     /// The place of its first byte, from 0.
     pub place: u32,
     /// The line of that place.

@@ -8,11 +8,11 @@ use Rattle.sim_base.specs.declared.numbering.TokenNo.{TokenNo}
 use Rattle.sim_tree.specs.declared.expr.LeadingSign.{LeadingSign}
 use Rattle.sim_base.specs.declared.token.Token.{Token}
 use Rattle.sim_tree.specs.declared.expr.Expr.{Expr}
-use Rattle.sim_tree.specs.declared.terminal.Terminal.{Terminal}
-use Rattle.sim_tree.specs.declared.terminal.Terminal.TheVariants as t
+use Rattle.sim_base.specs.declared.token.TokenKind.{TokenKind}
+use Rattle.sim_base.specs.declared.token.TokenKind.TheVariants as k
 use Rattle.sim_tree.specs.Grammar as g
 use Rattle.sim_tree.specs.Grammar.{Part, Once, Maybe, Many, Kept, Of, Symbol, is, just, one_of, right_side, literals, signs}
-use Rattle.sim_tree.specs.Reading.{Forest, done, terminal_at, may_skip, Reads, reads-done, reads-skip, after-skip}
+use Rattle.sim_tree.specs.Reading.{Forest, done, kind_at, may_skip, Reads, reads-done, reads-skip, after-skip}
 use Rattle.sim_tree.specs.Claim.{one}
 use Rattle.sim_tree.specs.Derivation.{derivation_of, row, level_part, not_mark}
 use Rattle.sim_tree.specs.Tree.{limit, ReadsPart}
@@ -28,41 +28,41 @@ use Rattle.sim_tree.proofs.Completion.{is_self, left_true, right_true}
 use Rattle.sim_expr_parser.proofs.Steps.{Within, opened, to, once, skipped, stops, once-stops, level-made, level-up, kept, unexpected-primary}
 use Rattle.sim_expr_parser.proofs.Tables.{only, one_row, just_is, open-level, related, tests, primary_constant}
 
--- where the operators of a terminal are others, no part behind an operand begins
-pub no-tail : (o : Operators) (a : Terminal) → (operators_of a ≡ Some o → ⊥) → right_side (tail_part o) a ≡ None
+-- where the operators of a kind are others, no part behind an operand begins
+pub no-tail : (o : Operators) (a : TokenKind) → (operators_of a ≡ Some o → ⊥) → right_side (tail_part o) a ≡ None
 unfolding right_side is
-no-tail (operators.Single level.OrElse) t.OrElse h = absurd (h refl)
+no-tail (operators.Single level.OrElse) k.OrElse h = absurd (h refl)
 no-tail (operators.Single level.OrElse) _ h = refl
-no-tail (operators.Single level.AndThen) t.AndThen h = absurd (h refl)
+no-tail (operators.Single level.AndThen) k.AndThen h = absurd (h refl)
 no-tail (operators.Single level.AndThen) _ h = refl
-no-tail (operators.Single level.Eqv) t.Eqv h = absurd (h refl)
+no-tail (operators.Single level.Eqv) k.Eqv h = absurd (h refl)
 no-tail (operators.Single level.Eqv) _ h = refl
-no-tail (operators.Single level.Imp) t.Imp h = absurd (h refl)
+no-tail (operators.Single level.Imp) k.Imp h = absurd (h refl)
 no-tail (operators.Single level.Imp) _ h = refl
-no-tail (operators.Single level.Or) t.Or h = absurd (h refl)
+no-tail (operators.Single level.Or) k.Or h = absurd (h refl)
 no-tail (operators.Single level.Or) _ h = refl
-no-tail (operators.Single level.And) t.And h = absurd (h refl)
+no-tail (operators.Single level.And) k.And h = absurd (h refl)
 no-tail (operators.Single level.And) _ h = refl
-no-tail (operators.Single level.Concatenation) t.Ampersand h = absurd (h refl)
+no-tail (operators.Single level.Concatenation) k.Ampersand h = absurd (h refl)
 no-tail (operators.Single level.Concatenation) _ h = refl
-no-tail (operators.Single level.Power) t.Power h = absurd (h refl)
+no-tail (operators.Single level.Power) k.Power h = absurd (h refl)
 no-tail (operators.Single level.Power) _ h = refl
-no-tail operators.Relations t.Less h = absurd (h refl)
-no-tail operators.Relations t.LessEqual h = absurd (h refl)
-no-tail operators.Relations t.Equal h = absurd (h refl)
-no-tail operators.Relations t.GreaterEqual h = absurd (h refl)
-no-tail operators.Relations t.Greater h = absurd (h refl)
-no-tail operators.Relations t.NotEqual h = absurd (h refl)
-no-tail operators.Relations t.SameReference h = absurd (h refl)
-no-tail operators.Relations t.OtherReference h = absurd (h refl)
-no-tail operators.Relations t.Is h = absurd (h refl)
-no-tail operators.Relations t.In h = absurd (h refl)
+no-tail operators.Relations k.Less h = absurd (h refl)
+no-tail operators.Relations k.LessEqual h = absurd (h refl)
+no-tail operators.Relations k.Equal h = absurd (h refl)
+no-tail operators.Relations k.GreaterEqual h = absurd (h refl)
+no-tail operators.Relations k.Greater h = absurd (h refl)
+no-tail operators.Relations k.NotEqual h = absurd (h refl)
+no-tail operators.Relations k.SameReference h = absurd (h refl)
+no-tail operators.Relations k.OtherReference h = absurd (h refl)
+no-tail operators.Relations k.Is h = absurd (h refl)
+no-tail operators.Relations k.In h = absurd (h refl)
 no-tail operators.Relations _ h = refl
-no-tail operators.Signs t.Plus h = absurd (h refl)
-no-tail operators.Signs t.Minus h = absurd (h refl)
+no-tail operators.Signs k.Plus h = absurd (h refl)
+no-tail operators.Signs k.Minus h = absurd (h refl)
 no-tail operators.Signs _ h = refl
-no-tail operators.Multiplications t.Times h = absurd (h refl)
-no-tail operators.Multiplications t.Divide h = absurd (h refl)
+no-tail operators.Multiplications k.Times h = absurd (h refl)
+no-tail operators.Multiplications k.Divide h = absurd (h refl)
 no-tail operators.Multiplications _ h = refl
 
 may-tail : (o : Operators) → may_skip (tail_times o) ≡ true
@@ -90,7 +90,7 @@ step_of (suc (suc (suc (suc (suc (suc (suc (suc (suc (suc (suc (suc (suc n))))))
 
 module _ {ws : List Token} {d i : ℕ} where
   -- a repeated part that does not stand there
-  none-repeated : {n : Part} → right_side n (terminal_at ws i) ≡ None → i < length ws → ReadsTo ws d (Of Many n) i (λ f. f) i
+  none-repeated : {n : Part} → right_side n (kind_at ws i) ≡ None → i < length ws → ReadsTo ws d (Of Many n) i (λ f. f) i
   none-repeated h within = record {
     reads = λ s f m q. reads-skip h refl q;
     fails = λ s e q. after-skip h refl q;
@@ -99,10 +99,10 @@ module _ {ws : List Token} {d i : ℕ} where
   }
 
   -- operators that do not stand there
-  no-operators : (o : Operators) → (operators_of (terminal_at ws i) ≡ Some o → ⊥) → i < length ws → ReadsTo ws d (tail_of o) i (λ f. f) i
+  no-operators : (o : Operators) → (operators_of (kind_at ws i) ≡ Some o → ⊥) → i < length ws → ReadsTo ws d (tail_of o) i (λ f. f) i
   no-operators o none within = record {
-    reads = λ s f m q. reads-skip (no-tail o (terminal_at ws i) none) (may-tail o) q;
-    fails = λ s e q. after-skip (no-tail o (terminal_at ws i) none) (may-tail o) q;
+    reads = λ s f m q. reads-skip (no-tail o (kind_at ws i) none) (may-tail o) q;
+    fails = λ s e q. after-skip (no-tail o (kind_at ws i) none) (may-tail o) q;
     ahead = omega arith;
     within = within;
   }
@@ -118,21 +118,21 @@ module _ {ws : List Token} {d i : ℕ} where
   open-operators (operators.Single lv) top le plain h = open-level lv ws d i h
   open-operators operators.Relations top le plain h =
       let sy = Of Once g.Concatenation ∷ Of Maybe g.RelationTail ∷ [] in
-      opened ws d i g.Relation sy refl (only g.Relation sy (terminal_at ws i) refl) h
+      opened ws d i g.Relation sy refl (only g.Relation sy (kind_at ws i) refl) h
   open-operators operators.Signs top le plain h =
       let sy = Of Maybe g.LeadingSign ∷ Of Once g.Term ∷ Of Many g.NextTerm ∷ [] in
-      to (opened ws d i g.Sum sy refl (only g.Sum sy (terminal_at ws i) refl) h)
-      (skipped (one_row g.LeadingSign signs (Kept signs ∷ []) (terminal_at ws i) false refl (plain.unsigned (lit< tt) le)) h)
+      to (opened ws d i g.Sum sy refl (only g.Sum sy (kind_at ws i) refl) h)
+      (skipped (one_row g.LeadingSign signs (Kept signs ∷ []) (kind_at ws i) false refl (plain.unsigned (lit< tt) le)) h)
   open-operators operators.Multiplications top le plain h =
       let sy = Of Once g.Factor ∷ Of Many g.NextFactor ∷ [] in
-      opened ws d i g.Term sy refl (only g.Term sy (terminal_at ws i) refl) h
+      opened ws d i g.Term sy refl (only g.Term sy (kind_at ws i) refl) h
 
   -- the level that `not` makes, where none stands
   open-affirmed : (top : ℕ) → 7 ≤ top → IsPlain ws i 6 top → i < length ws → Within ws d g.Negation i (λ f. f) d (Of Once g.Relation ∷ []) i
   open-affirmed top le plain h =
       let sy = Of Many g.NotSign ∷ Of Once g.Relation ∷ [] in
-      to (opened ws d i g.Negation sy refl (only g.Negation sy (terminal_at ws i) refl) h)
-      (none-repeated (one_row g.NotSign (just t.Not) (Kept (just t.Not) ∷ []) (terminal_at ws i) false refl (just_is _ _ _ (plain.affirmed (lit< tt) le))) h)
+      to (opened ws d i g.Negation sy refl (only g.Negation sy (kind_at ws i) refl) h)
+      (none-repeated (one_row g.NotSign (just k.Not) (Kept (just k.Not) ∷ []) (kind_at ws i) false refl (just_is _ _ _ (plain.affirmed (lit< tt) le))) h)
 
   from : {n : Part} {f : Forest} {j : ℕ} → ReadsPart ws d n i f j → i < length ws
   from p = omega (arith, p.ahead, p.within)
@@ -207,41 +207,41 @@ some-same h = cc
 some≢none : {A : Type 0} {x : A} → Some x ≡ None → ⊥
 some≢none h = cc
 
--- operators that a terminal is one of begin the part behind an operand
-pub tail-stands : (a : Terminal) (o : Operators) → operators_of a ≡ Some o → right_side (tail_part o) a ≡ None → ⊥
+-- operators that a kind is one of begin the part behind an operand
+pub tail-stands : (a : TokenKind) (o : Operators) → operators_of a ≡ Some o → right_side (tail_part o) a ≡ None → ⊥
 unfolding right_side is
-tail-stands t.OrElse o h = subst (λ p. right_side (tail_part p) t.OrElse ≡ None → ⊥) (some-same h) some≢none
-tail-stands t.AndThen o h = subst (λ p. right_side (tail_part p) t.AndThen ≡ None → ⊥) (some-same h) some≢none
-tail-stands t.Eqv o h = subst (λ p. right_side (tail_part p) t.Eqv ≡ None → ⊥) (some-same h) some≢none
-tail-stands t.Imp o h = subst (λ p. right_side (tail_part p) t.Imp ≡ None → ⊥) (some-same h) some≢none
-tail-stands t.Or o h = subst (λ p. right_side (tail_part p) t.Or ≡ None → ⊥) (some-same h) some≢none
-tail-stands t.And o h = subst (λ p. right_side (tail_part p) t.And ≡ None → ⊥) (some-same h) some≢none
-tail-stands t.Ampersand o h = subst (λ p. right_side (tail_part p) t.Ampersand ≡ None → ⊥) (some-same h) some≢none
-tail-stands t.Power o h = subst (λ p. right_side (tail_part p) t.Power ≡ None → ⊥) (some-same h) some≢none
-tail-stands t.Less o h = subst (λ p. right_side (tail_part p) t.Less ≡ None → ⊥) (some-same h) some≢none
-tail-stands t.LessEqual o h = subst (λ p. right_side (tail_part p) t.LessEqual ≡ None → ⊥) (some-same h) some≢none
-tail-stands t.Equal o h = subst (λ p. right_side (tail_part p) t.Equal ≡ None → ⊥) (some-same h) some≢none
-tail-stands t.GreaterEqual o h = subst (λ p. right_side (tail_part p) t.GreaterEqual ≡ None → ⊥) (some-same h) some≢none
-tail-stands t.Greater o h = subst (λ p. right_side (tail_part p) t.Greater ≡ None → ⊥) (some-same h) some≢none
-tail-stands t.NotEqual o h = subst (λ p. right_side (tail_part p) t.NotEqual ≡ None → ⊥) (some-same h) some≢none
-tail-stands t.SameReference o h = subst (λ p. right_side (tail_part p) t.SameReference ≡ None → ⊥) (some-same h) some≢none
-tail-stands t.OtherReference o h = subst (λ p. right_side (tail_part p) t.OtherReference ≡ None → ⊥) (some-same h) some≢none
-tail-stands t.Is o h = subst (λ p. right_side (tail_part p) t.Is ≡ None → ⊥) (some-same h) some≢none
-tail-stands t.In o h = subst (λ p. right_side (tail_part p) t.In ≡ None → ⊥) (some-same h) some≢none
-tail-stands t.Plus o h = subst (λ p. right_side (tail_part p) t.Plus ≡ None → ⊥) (some-same h) some≢none
-tail-stands t.Minus o h = subst (λ p. right_side (tail_part p) t.Minus ≡ None → ⊥) (some-same h) some≢none
-tail-stands t.Times o h = subst (λ p. right_side (tail_part p) t.Times ≡ None → ⊥) (some-same h) some≢none
-tail-stands t.Divide o h = subst (λ p. right_side (tail_part p) t.Divide ≡ None → ⊥) (some-same h) some≢none
+tail-stands k.OrElse o h = subst (λ p. right_side (tail_part p) k.OrElse ≡ None → ⊥) (some-same h) some≢none
+tail-stands k.AndThen o h = subst (λ p. right_side (tail_part p) k.AndThen ≡ None → ⊥) (some-same h) some≢none
+tail-stands k.Eqv o h = subst (λ p. right_side (tail_part p) k.Eqv ≡ None → ⊥) (some-same h) some≢none
+tail-stands k.Imp o h = subst (λ p. right_side (tail_part p) k.Imp ≡ None → ⊥) (some-same h) some≢none
+tail-stands k.Or o h = subst (λ p. right_side (tail_part p) k.Or ≡ None → ⊥) (some-same h) some≢none
+tail-stands k.And o h = subst (λ p. right_side (tail_part p) k.And ≡ None → ⊥) (some-same h) some≢none
+tail-stands k.Ampersand o h = subst (λ p. right_side (tail_part p) k.Ampersand ≡ None → ⊥) (some-same h) some≢none
+tail-stands k.Power o h = subst (λ p. right_side (tail_part p) k.Power ≡ None → ⊥) (some-same h) some≢none
+tail-stands k.Less o h = subst (λ p. right_side (tail_part p) k.Less ≡ None → ⊥) (some-same h) some≢none
+tail-stands k.LessEqual o h = subst (λ p. right_side (tail_part p) k.LessEqual ≡ None → ⊥) (some-same h) some≢none
+tail-stands k.Equal o h = subst (λ p. right_side (tail_part p) k.Equal ≡ None → ⊥) (some-same h) some≢none
+tail-stands k.GreaterEqual o h = subst (λ p. right_side (tail_part p) k.GreaterEqual ≡ None → ⊥) (some-same h) some≢none
+tail-stands k.Greater o h = subst (λ p. right_side (tail_part p) k.Greater ≡ None → ⊥) (some-same h) some≢none
+tail-stands k.NotEqual o h = subst (λ p. right_side (tail_part p) k.NotEqual ≡ None → ⊥) (some-same h) some≢none
+tail-stands k.SameReference o h = subst (λ p. right_side (tail_part p) k.SameReference ≡ None → ⊥) (some-same h) some≢none
+tail-stands k.OtherReference o h = subst (λ p. right_side (tail_part p) k.OtherReference ≡ None → ⊥) (some-same h) some≢none
+tail-stands k.Is o h = subst (λ p. right_side (tail_part p) k.Is ≡ None → ⊥) (some-same h) some≢none
+tail-stands k.In o h = subst (λ p. right_side (tail_part p) k.In ≡ None → ⊥) (some-same h) some≢none
+tail-stands k.Plus o h = subst (λ p. right_side (tail_part p) k.Plus ≡ None → ⊥) (some-same h) some≢none
+tail-stands k.Minus o h = subst (λ p. right_side (tail_part p) k.Minus ≡ None → ⊥) (some-same h) some≢none
+tail-stands k.Times o h = subst (λ p. right_side (tail_part p) k.Times ≡ None → ⊥) (some-same h) some≢none
+tail-stands k.Divide o h = subst (λ p. right_side (tail_part p) k.Divide ≡ None → ⊥) (some-same h) some≢none
 tail-stands _ o h = absurd (some≢none (sym h))
 
-pub relation-stands : (a : Terminal) → operators_of a ≡ Some operators.Relations → one_of tests a ≡ false → one_of g.relations a ≡ false → ⊥
+pub relation-stands : (a : TokenKind) → operators_of a ≡ Some operators.Relations → one_of tests a ≡ false → one_of g.relations a ≡ false → ⊥
 relation-stands a h test relation = tail-stands a operators.Relations h (related a false false relation test)
 
 -- a repeated part that stands there is read at least once
-nothing-read : {ws : List Token} {d i j : ℕ} {n : Part} → Reads limit ws d (Of Many n ∷ []) i done j → right_side n (terminal_at ws i) ≡ None
+nothing-read : {ws : List Token} {d i j : ℕ} {n : Part} → Reads limit ws d (Of Many n ∷ []) i done j → right_side n (kind_at ws i) ≡ None
 nothing-read (reads-skip h may r) = h
 
-pub some-read : {ws : List Token} {d i j : ℕ} {n : Part} (fs : List Forest) → ReadsTo ws d (Of Many n) i (row n fs) j → (right_side n (terminal_at ws i) ≡ None → ⊥) → 0 < length fs
+pub some-read : {ws : List Token} {d i j : ℕ} {n : Part} (fs : List Forest) → ReadsTo ws d (Of Many n) i (row n fs) j → (right_side n (kind_at ws i) ≡ None → ⊥) → 0 < length fs
 some-read {j = j} [] r stands = absurd (stands (nothing-read (r.reads [] done j reads-done)))
 some-read (f ∷ fs) r stands = omega arith
 
@@ -250,9 +250,9 @@ mapped-some f [] h = h
 mapped-some f (x ∷ xs) h = omega arith
 
 -- one `not` is read at least
-pub not-read : {ws : List Token} {d i j : ℕ} (xs : List TokenNo) → ReadsTo ws d (Of Many g.NotSign) i (row g.NotSign (map not_mark xs)) j → is (terminal_at ws i) t.Not ≡ true → 0 < length xs
+pub not-read : {ws : List Token} {d i j : ℕ} (xs : List TokenNo) → ReadsTo ws d (Of Many g.NotSign) i (row g.NotSign (map not_mark xs)) j → is (kind_at ws i) k.Not ≡ true → 0 < length xs
 not-read {ws} {i = i} xs r h =
-    mapped-some not_mark xs (some-read (map not_mark xs) r (λ e. some≢none (sym (one_row g.NotSign (just t.Not) (Kept (just t.Not) ∷ []) (terminal_at ws i) true refl (just_is _ _ _ h)) ∙ e)))
+    mapped-some not_mark xs (some-read (map not_mark xs) r (λ e. some≢none (sym (one_row g.NotSign (just k.Not) (Kept (just k.Not) ∷ []) (kind_at ws i) true refl (just_is _ _ _ h)) ∙ e)))
 
 -- What an operand of a level begins with, by the parser's tests.
 pub and-split : (a b : Bool) → (a && b) ≡ true → (a ≡ true) × (b ≡ true)
@@ -271,13 +271,13 @@ and-not m n b h le = sym (ap (λ x. x && b) (le-leb m n le)) ∙ h
 pub negated-plain : (ws : List Token) (i top : ℕ) → IsPlain ws i 7 top
 negated-plain ws i top = record { unsigned = λ a b. absurd (omega (arith, a)); affirmed = λ a b. absurd (omega (arith, a)) }
 
-pub signed-plain : (ws : List Token) (i top : ℕ) → (7 ≤ top → is (terminal_at ws i) t.Not ≡ false) → IsPlain ws i 4 top
+pub signed-plain : (ws : List Token) (i top : ℕ) → (7 ≤ top → is (kind_at ws i) k.Not ≡ false) → IsPlain ws i 4 top
 signed-plain ws i top other = record { unsigned = λ a b. absurd (omega (arith, a)); affirmed = λ a b. other b }
 
-pub bare-plain : (ws : List Token) (i top : ℕ) → (4 ≤ top → one_of signs (terminal_at ws i) ≡ false) → (7 ≤ top → is (terminal_at ws i) t.Not ≡ false) → IsPlain ws i 1 top
+pub bare-plain : (ws : List Token) (i top : ℕ) → (4 ≤ top → one_of signs (kind_at ws i) ≡ false) → (7 ≤ top → is (kind_at ws i) k.Not ≡ false) → IsPlain ws i 1 top
 bare-plain ws i top sign other = record { unsigned = λ a b. sign b; affirmed = λ a b. other b }
 
-pub sign-stands : (ws : List Token) (i j : ℕ) (s : Option LeadingSign) → one_of signs (terminal_at ws i) ≡ true → GivesSign ws i s j → is_some s ≡ true
+pub sign-stands : (ws : List Token) (i j : ℕ) (s : Option LeadingSign) → one_of signs (kind_at ws i) ≡ true → GivesSign ws i s j → is_some s ≡ true
 sign-stands ws i j None h given = absurd (false≢true (sym given.0 ∙ h))
 sign-stands ws i j (Some s) h given = refl
 
@@ -288,30 +288,30 @@ tail-at {ws} {d} {i} {k} {o} {p} {first} {e} h r = subst (λ z. ReadsTail ws d i
 pub tail-fails : (ws : List Token) (d i : ℕ) {o p : Operators} (x : Stop) → p ≡ o → ((s : List Symbol) → Stops ws d (tail_of o ∷ s) i x) → (s : List Symbol) → Stops ws d (tail_of p ∷ s) i x
 tail-fails ws d i x h f s = subst (λ z. Stops ws d (tail_of z ∷ s) i x) (sym h) (f s)
 
--- the terminal that a branch was taken for
-pub is-that : (a b : Terminal) → a ≡ b → is b a ≡ true
+-- the kind that a branch was taken for
+pub is-that : (a b : TokenKind) → a ≡ b → is b a ≡ true
 is-that a b h = subst (λ z. is z a ≡ true) h (is_self a)
 
 -- A primary that is none of identifier, `this`, `new` and parenthesis.
-no-primary : (a : Terminal) → one_of literals a ≡ false → (a ≡ t.Identifier → ⊥) → (a ≡ t.This → ⊥) → (a ≡ t.New → ⊥) → (a ≡ t.Open → ⊥) → right_side g.Primary a ≡ None
+no-primary : (a : TokenKind) → one_of literals a ≡ false → (a ≡ k.Identifier → ⊥) → (a ≡ k.This → ⊥) → (a ≡ k.New → ⊥) → (a ≡ k.Open → ⊥) → right_side g.Primary a ≡ None
 unfolding right_side is
-no-primary t.Identifier l i h n o = absurd (i refl)
-no-primary t.This l i h n o = absurd (h refl)
-no-primary t.New l i h n o = absurd (n refl)
-no-primary t.Open l i h n o = absurd (o refl)
-no-primary t.Integer l i h n o = absurd (false≢true (sym l))
-no-primary t.Character l i h n o = absurd (false≢true (sym l))
-no-primary t.Text l i h n o = absurd (false≢true (sym l))
-no-primary t.True l i h n o = absurd (false≢true (sym l))
-no-primary t.False l i h n o = absurd (false≢true (sym l))
-no-primary t.None l i h n o = absurd (false≢true (sym l))
-no-primary t.Notext l i h n o = absurd (false≢true (sym l))
+no-primary k.Identifier l i h n o = absurd (i refl)
+no-primary k.This l i h n o = absurd (h refl)
+no-primary k.New l i h n o = absurd (n refl)
+no-primary k.Open l i h n o = absurd (o refl)
+no-primary k.Integer l i h n o = absurd (false≢true (sym l))
+no-primary k.Character l i h n o = absurd (false≢true (sym l))
+no-primary k.Text l i h n o = absurd (false≢true (sym l))
+no-primary k.True l i h n o = absurd (false≢true (sym l))
+no-primary k.False l i h n o = absurd (false≢true (sym l))
+no-primary k.None l i h n o = absurd (false≢true (sym l))
+no-primary k.Notext l i h n o = absurd (false≢true (sym l))
 no-primary _ l i h n o = refl
 
-pub constant-level : (ws : List Token) (d i : ℕ) → i < length ws → (a : Terminal) → a ≡ terminal_at ws i → (a ≡ t.Identifier → ⊥) → (a ≡ t.This → ⊥) → (a ≡ t.New → ⊥) → (a ≡ t.Open → ⊥)
+pub constant-level : (ws : List Token) (d i : ℕ) → i < length ws → (a : TokenKind) → a ≡ kind_at ws i → (a ≡ k.Identifier → ⊥) → (a ≡ k.This → ⊥) → (a ≡ k.New → ⊥) → (a ≡ k.Open → ⊥)
     → (r : Result (Expr × ℕ) Stop) → GivesConstant ws i r → GivesLevel ws d 0 i r
 constant-level ws d i within a e name this new group (Ok r) h =
-    level-made 0 r.0 _ h.1 refl (to (opened ws d i g.Primary (Kept literals ∷ []) refl (primary_constant (terminal_at ws i) h.0.among) within) (kept i refl h.0)) refl
+    level-made 0 r.0 _ h.1 refl (to (opened ws d i g.Primary (Kept literals ∷ []) refl (primary_constant (kind_at ws i) h.0.among) within) (kept i refl h.0)) refl
 constant-level ws d i within a e name this new group (Err (stop.Unexpected k)) h =
     unexpected-primary ws d i (stop.Unexpected k) (ap stop.Unexpected h.0) (ap (right_side g.Primary) (sym e) ∙ no-primary a (ap (one_of literals) e ∙ h.1) name this new group)
 constant-level ws d i within a e name this new group (Err (stop.TooDeep k)) h = absurd h

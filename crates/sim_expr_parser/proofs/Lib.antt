@@ -1,4 +1,4 @@
-pub mod Terminals
+pub mod Tokens
 pub mod Steps
 pub mod Tables
 pub mod Shapes

@@ -4,11 +4,11 @@ use Rattle.std.specs.Prelude.{◌&&◌, not}
 use Rattle.std.proofs.lemmas.Bool.{false≢true}
 use native.Mathlib.Decide.{dec_lt}
 use Rattle.sim_base.specs.declared.token.Token.{Token}
-use Rattle.sim_tree.specs.declared.terminal.Terminal.{Terminal}
-use Rattle.sim_tree.specs.declared.terminal.Terminal.TheVariants as t
+use Rattle.sim_base.specs.declared.token.TokenKind.{TokenKind}
+use Rattle.sim_base.specs.declared.token.TokenKind.TheVariants as k
 use Rattle.sim_tree.specs.Grammar as g
 use Rattle.sim_tree.specs.Grammar.{Part, Times, Once, Maybe, Many, Symbol, Kept, Mark, Any, Here, Of, is, one_of, rows, right_side, is_begun}
-use Rattle.sim_tree.specs.Reading.{Forest, terminal_at, after, first_of, Reads, reads-done, reads-kept, reads-mark, reads-any, reads-none, reads-here, reads-part, reads-skip, Fails, fails-kept, fails-mark, fails-part, fails-deep, fails-inside, after-kept, after-mark, after-any, after-none, after-here, after-part, after-skip, Fault}
+use Rattle.sim_tree.specs.Reading.{Forest, kind_at, after, first_of, Reads, reads-done, reads-kept, reads-mark, reads-any, reads-none, reads-here, reads-part, reads-skip, Fails, fails-kept, fails-mark, fails-part, fails-deep, fails-inside, after-kept, after-mark, after-any, after-none, after-here, after-part, after-skip, Fault}
 use Rattle.sim_tree.specs.Tree.{IsEnded}
 use Rattle.sim_tree.proofs.Follow.{each_row}
 use Rattle.sim_tree.proofs.Laws.{fault_at}
@@ -21,9 +21,9 @@ takes_end _ = false
 -- no symbol takes the end
 abbrev pub stays : List Symbol → Bool
 stays [] = true
-stays (Kept any ∷ s) = not (one_of any t.EndOfSource) && stays s
-stays (Mark a ∷ s) = not (is t.EndOfSource a) && stays s
-stays (Any a ∷ s) = not (is t.EndOfSource a) && stays s
+stays (Kept any ∷ s) = not (one_of any k.EndOfSource) && stays s
+stays (Mark a ∷ s) = not (is k.EndOfSource a) && stays s
+stays (Any a ∷ s) = not (is k.EndOfSource a) && stays s
 stays (Here ∷ s) = stays s
 stays (Of times n ∷ s) = not (takes_end n) && stays s
 
@@ -32,7 +32,7 @@ unfolding is
 rows_stay g.Program h = absurd (false≢true h)
 rows_stay _ h = refl
 
-right_stays : (n : Part) (a : Terminal) (right : List Symbol) → not (takes_end n) ≡ true → right_side n a ≡ Some right → stays right ≡ true
+right_stays : (n : Part) (a : TokenKind) (right : List Symbol) → not (takes_end n) ≡ true → right_side n a ≡ Some right → stays right ≡ true
 unfolding right_side
 right_stays n a right h e = row_get (rows n) stays a right (rows_stay n h) e
 
@@ -41,11 +41,11 @@ after_stays Once n s h = right_true _ _ h
 after_stays Maybe n s h = right_true _ _ h
 after_stays Many n s h = h
 
-next : {ws : List Token} → IsEnded ws → (p : Terminal → Bool) (i : ℕ) → not (p t.EndOfSource) ≡ true → p (terminal_at ws i) ≡ true → i < length ws → i + 1 < length ws
+next : {ws : List Token} → IsEnded ws → (p : TokenKind → Bool) (i : ℕ) → not (p k.EndOfSource) ≡ true → p (kind_at ws i) ≡ true → i < length ws → i + 1 < length ws
 next {ws} ended p i stay h within = go (dec_lt (i + 1) (length ws))
   where
     at_end : i ≡ length ws - 1 → false ≡ true
-    at_end e = sym (ap not (ap p (sym ended.last ∙ ap (terminal_at ws) (sym e)) ∙ h)) ∙ stay
+    at_end e = sym (ap not (ap p (sym ended.last ∙ ap (kind_at ws) (sym e)) ∙ h)) ∙ stay
 
     go : Dec (i + 1 < length ws) → i + 1 < length ws
     go (yes le) = le

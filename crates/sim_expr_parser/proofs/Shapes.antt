@@ -11,7 +11,7 @@ use Rattle.sim_tree.specs.declared.expr.Expr.{Expr}
 use Rattle.sim_tree.proofs.DerivationLemmas.{row-append, map-append}
 use Rattle.sim_tree.specs.Grammar as g
 use Rattle.sim_tree.specs.Grammar.{Part, Kept, Of, Maybe, signs}
-use Rattle.sim_tree.specs.Reading.{Forest, done, leaf, node, terminal_at}
+use Rattle.sim_tree.specs.Reading.{Forest, done, node, kind_at, bare_leaf}
 use Rattle.sim_tree.specs.Derivation.{Derivation, derivation_of, Item, item, level_part, raise, row, not_mark, sign_kind, operated, negated, summed, multiplied, selected, arguments, argument, whole}
 use Rattle.sim_expr_parser.specs.Parsing.{GivesSign, ReadsTo, listed}
 use Rattle.sim_expr_parser.proofs.Tables.{one_row}
@@ -37,7 +37,7 @@ selected-some s (x ∷ xs) h = refl
 -- the sign in front of a sum
 abbrev pub front : Option LeadingSign → Forest → Forest
 front None f = f
-front (Some s) f = node g.LeadingSign (leaf s.token.0 (sign_kind s.sign) done) f
+front (Some s) f = node g.LeadingSign (bare_leaf s.token.0 (sign_kind s.sign) done) f
 
 pub summed-signed : (x : LeadingSign) (s : Derivation) (fs : List Forest) → summed (Some x) s fs ≡ record { level = 4; inside = front (Some x) (node g.Term (raise 3 s) (row g.NextTerm fs done)) }
 summed-signed x s fs = refl
@@ -56,10 +56,10 @@ front-none None f h = refl
 front-none (Some x) f h = absurd (false≢true (sym h))
 
 pub sign-to : (ws : List Token) (d i j : ℕ) (s : Option LeadingSign) → GivesSign ws i s j → i < length ws → ReadsTo ws d (Of Maybe g.LeadingSign) i (front s) j
-sign-to ws d i j None h within = subst (λ z. ReadsTo ws d (Of Maybe g.LeadingSign) i (λ f. f) z) (sym h.1) (skipped (one_row g.LeadingSign signs (Kept signs ∷ []) (terminal_at ws i) false refl h.0) within)
+sign-to ws d i j None h within = subst (λ z. ReadsTo ws d (Of Maybe g.LeadingSign) i (λ f. f) z) (sym h.1) (skipped (one_row g.LeadingSign signs (Kept signs ∷ []) (kind_at ws i) false refl h.0) within)
 sign-to ws d i j (Some s) h within =
-    maybe (gone (to (opened ws d i g.LeadingSign (Kept signs ∷ []) refl (one_row g.LeadingSign signs (Kept signs ∷ []) (terminal_at ws i) true refl h.0.among) within) (kept s.token.0 h.1 h.0))
-    (leaf s.token.0 (sign_kind s.sign) done) refl)
+    maybe (gone (to (opened ws d i g.LeadingSign (Kept signs ∷ []) refl (one_row g.LeadingSign signs (Kept signs ∷ []) (kind_at ws i) true refl h.0.among) within) (kept s.token.0 h.1 h.0))
+    (bare_leaf s.token.0 (sign_kind s.sign) done) refl)
 
 pub some-mapped : {A B : Type 0} (f : A → B) (xs : List A) → 0 < length xs → 0 < length (map f xs)
 some-mapped f [] h = h
@@ -78,10 +78,10 @@ listed-more (x ∷ xs) ys y h some e =
     ∙ ap (node g.Expression (whole (derivation_of x))) (row-append g.NextArgument (map argument (map derivation_of xs)) (argument (derivation_of y)) h))
 
 pub if-forest : (i n : ℕ) (a a' b b' x x' : Expr) → n ≡ i → a' ≡ a → b' ≡ b → x' ≡ x
-    → leaf i k.If (node g.Expression (whole (derivation_of a)) (node g.SimpleExpression (raise 13 (derivation_of b)) (node g.Expression (whole (derivation_of x)) done)))
-    ≡ leaf n k.If (node g.Expression (whole (derivation_of a')) (node g.SimpleExpression (raise 13 (derivation_of b')) (node g.Expression (whole (derivation_of x')) done)))
+    → bare_leaf i k.If (node g.Expression (whole (derivation_of a)) (node g.SimpleExpression (raise 13 (derivation_of b)) (node g.Expression (whole (derivation_of x)) done)))
+    ≡ bare_leaf n k.If (node g.Expression (whole (derivation_of a')) (node g.SimpleExpression (raise 13 (derivation_of b')) (node g.Expression (whole (derivation_of x')) done)))
 if-forest i n a a' b b' x x' en ea eb ex = sym (
-    ap (λ z. leaf z k.If (node g.Expression (whole (derivation_of a')) (node g.SimpleExpression (raise 13 (derivation_of b')) (node g.Expression (whole (derivation_of x')) done)))) en
-    ∙ ap (λ z. leaf i k.If (node g.Expression (whole (derivation_of z)) (node g.SimpleExpression (raise 13 (derivation_of b')) (node g.Expression (whole (derivation_of x')) done)))) ea
-    ∙ ap (λ z. leaf i k.If (node g.Expression (whole (derivation_of a)) (node g.SimpleExpression (raise 13 (derivation_of z)) (node g.Expression (whole (derivation_of x')) done)))) eb
-    ∙ ap (λ z. leaf i k.If (node g.Expression (whole (derivation_of a)) (node g.SimpleExpression (raise 13 (derivation_of b)) (node g.Expression (whole (derivation_of z)) done)))) ex)
+    ap (λ z. bare_leaf z k.If (node g.Expression (whole (derivation_of a')) (node g.SimpleExpression (raise 13 (derivation_of b')) (node g.Expression (whole (derivation_of x')) done)))) en
+    ∙ ap (λ z. bare_leaf i k.If (node g.Expression (whole (derivation_of z)) (node g.SimpleExpression (raise 13 (derivation_of b')) (node g.Expression (whole (derivation_of x')) done)))) ea
+    ∙ ap (λ z. bare_leaf i k.If (node g.Expression (whole (derivation_of a)) (node g.SimpleExpression (raise 13 (derivation_of z)) (node g.Expression (whole (derivation_of x')) done)))) eb
+    ∙ ap (λ z. bare_leaf i k.If (node g.Expression (whole (derivation_of a)) (node g.SimpleExpression (raise 13 (derivation_of b)) (node g.Expression (whole (derivation_of z)) done)))) ex)

@@ -5,11 +5,11 @@ use Rattle.std.specs.Prelude.{◌&&◌, nat_le, nat_eq, not}
 use Rattle.std.proofs.lemmas.Bool.{false≢true}
 use Rattle.sim_base.specs.declared.token.Token.{Token}
 use Rattle.sim_base.specs.declared.token.TokenKind.{TokenKind}
+use Rattle.sim_base.specs.declared.token.TokenValue.{TokenValue}
 use Rattle.sim_tree.specs.declared.expr.Expr.{Expr}
-use Rattle.sim_tree.specs.declared.terminal.Terminal.{Terminal}
 use Rattle.sim_tree.specs.Grammar as g
 use Rattle.sim_tree.specs.Grammar.{Part, Times, Once, Maybe, Many, Symbol, Kept, Mark, Of, is, one_of, right_side, is_counted}
-use Rattle.sim_tree.specs.Reading.{Forest, done, leaf, node, terminal_at, inside_depth, is_too_deep, is_empty, Reads, reads-done, reads-kept, reads-mark, reads-part, reads-skip, Fails, fails-part, fails-kept, fails-mark, fails-inside, after-kept, after-mark, after-part, after-skip, Unexpected, TooDeep}
+use Rattle.sim_tree.specs.Reading.{Forest, done, leaf, node, kind_at, value_at, inside_depth, is_too_deep, is_empty, Reads, reads-done, reads-kept, reads-mark, reads-part, reads-skip, Fails, fails-part, fails-kept, fails-mark, fails-inside, after-kept, after-mark, after-part, after-skip, Unexpected, TooDeep}
 use Rattle.sim_tree.specs.Claim.{one}
 use Rattle.sim_tree.specs.Derivation.{Derivation, derivation_of, raise, row, level_part}
 use Rattle.sim_tree.specs.Tree.{limit, ReadsPart}
@@ -22,14 +22,14 @@ use Rattle.sim_expr_parser.specs.Parsing.{Took, Stops, ReadsTo, ReadsList, liste
 -- Inside a part that begins at i: what stands in front of j was read, to which F adds the derivation of s.
 pub record Within (ws : List Token) (d : ℕ) (n : Part) (i : ℕ) (F : Forest → Forest) (e : ℕ) (s : List Symbol) (j : ℕ) : Type 0 where
   pub right : List Symbol
-  pub begins : right_side n (terminal_at ws i) ≡ Some right
+  pub begins : right_side n (kind_at ws i) ≡ Some right
   pub shallow : is_too_deep limit n d right ≡ false
   pub depth : inside_depth n d ≡ e
   pub leads : Leads ws e right i F e s j
   pub ahead : i ≤ j
   pub within : j < length ws
 
-pub opened : (ws : List Token) (d i : ℕ) (n : Part) (right : List Symbol) → is_counted n ≡ false → right_side n (terminal_at ws i) ≡ Some right → i < length ws
+pub opened : (ws : List Token) (d i : ℕ) (n : Part) (right : List Symbol) → is_counted n ≡ false → right_side n (kind_at ws i) ≡ Some right → i < length ws
     → Within ws d n i (λ f. f) d right i
 opened ws d i n right plain b h = record {
   right = right;
@@ -105,7 +105,7 @@ module _ {ws : List Token} {d i j : ℕ} {n : Part} where
     within = p.within;
   }
 
-pub skipped : {ws : List Token} {d i : ℕ} {n : Part} → right_side n (terminal_at ws i) ≡ None → i < length ws → ReadsTo ws d (Of Maybe n) i (λ f. f) i
+pub skipped : {ws : List Token} {d i : ℕ} {n : Part} → right_side n (kind_at ws i) ≡ None → i < length ws → ReadsTo ws d (Of Maybe n) i (λ f. f) i
 skipped h within = record {
   reads = λ s f m q. reads-skip h refl q;
   fails = λ s e q. after-skip h refl q;
@@ -114,7 +114,7 @@ skipped h within = record {
 }
 
 -- the same, where an equation says that the index stays
-pub marked : {ws : List Token} {d i j : ℕ} {a : Terminal} → (is (terminal_at ws i) a ≡ true) × (j ≡ i + 1) × (j < length ws) → ReadsTo ws d (Mark a) i (λ f. f) j
+pub marked : {ws : List Token} {d i j : ℕ} {a : TokenKind} → (is (kind_at ws i) a ≡ true) × (j ≡ i + 1) × (j < length ws) → ReadsTo ws d (Mark a) i (λ f. f) j
 marked {ws} {d} {i} {j} {a} w = record {
   reads = λ s f m q. reads-mark w.0 (subst (λ z. Reads limit ws d s z f m) w.1 q);
   fails = λ s e q. after-mark w.0 (subst (λ z. Fails limit ws d s z e) w.1 q);
@@ -122,10 +122,10 @@ marked {ws} {d} {i} {j} {a} w = record {
   within = w.2;
 }
 
-pub kept : {ws : List Token} {d i j : ℕ} {any : List Terminal} {kind : TokenKind} (x : ℕ) → x ≡ i → Took ws i any kind j → ReadsTo ws d (Kept any) i (leaf x kind) j
-kept {ws} {d} {i} {j} {any} {kind} x same w = record {
-  reads = λ s f m q. subst (λ z. Reads limit ws d (Kept any ∷ s) i (leaf z kind f) m) (sym same)
-      (subst (λ z. Reads limit ws d (Kept any ∷ s) i (leaf i z f) m) w.kind_is (reads-kept w.among (subst (λ z. Reads limit ws d s z f m) w.ahead q)));
+pub kept : {ws : List Token} {d i j : ℕ} {any : List TokenKind} {kind : TokenKind} {value : TokenValue} (x : ℕ) → x ≡ i → Took ws i any kind value j → ReadsTo ws d (Kept any) i (leaf x kind value) j
+kept {ws} {d} {i} {j} {any} {kind} {value} x same w = record {
+  reads = λ s f m q. subst (λ z. Reads limit ws d (Kept any ∷ s) i (leaf z kind value f) m) (sym same)
+      (subst (λ z. Reads limit ws d (Kept any ∷ s) i z m) (ap (λ z. leaf i z (value_at ws i) f) w.kind_is ∙ ap (λ z. leaf i kind z f) w.value_is) (reads-kept w.among (subst (λ z. Reads limit ws d s z f m) w.ahead q)));
   fails = λ s e q. after-kept w.among (subst (λ z. Fails limit ws d s z e) w.ahead q);
   ahead = omega (arith, w.ahead);
   within = w.within;
@@ -146,7 +146,7 @@ once-stops ws d i n (stop.Unexpected m) h s = one-fails (start d (Of Once n ∷ 
 once-stops ws d i n (stop.TooDeep m) h s = one-fails (start d (Of Once n ∷ s) i) (TooDeep m) h
 once-stops ws d i n stop.Memory h s = tt
 
-pub mark-stops : (ws : List Token) (d i : ℕ) (a : Terminal) (x : Stop) → (is (terminal_at ws i) a ≡ false) × (x ≡ stop.Unexpected i) → (s : List Symbol) → Stops ws d (Mark a ∷ s) i x
+pub mark-stops : (ws : List Token) (d i : ℕ) (a : TokenKind) (x : Stop) → (is (kind_at ws i) a ≡ false) × (x ≡ stop.Unexpected i) → (s : List Symbol) → Stops ws d (Mark a ∷ s) i x
 mark-stops ws d i a x h s = subst (λ z. Stops ws d (Mark a ∷ s) i z) (sym h.1) (fails-mark h.0)
 
 pub memory-stops : (ws : List Token) (d i : ℕ) (s : List Symbol) (x : Stop) → x ≡ stop.Memory → Stops ws d s i x
@@ -176,7 +176,7 @@ module _ {A : Type 0} (view : A → Forest) {ws : List Token} {d b : ℕ} {n : P
       (λ h. sym (ap (λ z. row n (map view z) h) same ∙ ap (λ z. row n z h) (map-append view xs y) ∙ row-append n (map view xs) (view y) h ∙ ap (λ z. row n (map view xs) (node n z h)) made))
       (past-one (l s) p)
 
-  pub row-end : {at : ℕ} (xs : List A) → Row ws d n b (map view xs) at → right_side n (terminal_at ws at) ≡ None → b ≤ at → at < length ws
+  pub row-end : {at : ℕ} (xs : List A) → Row ws d n b (map view xs) at → right_side n (kind_at ws at) ≡ None → b ≤ at → at < length ws
       → ReadsTo ws d (Of Many n) b (row n (map view xs)) at
   row-end {at} xs l none ahead within = record {
     reads = λ s f m q. (l s).reads f m (reads-skip none refl q);
@@ -199,7 +199,7 @@ pub map-twice : {A B C : Type 0} (f : B → C) (g : A → B) (xs : List A) → m
 map-twice f g [] = refl
 map-twice f g (x ∷ xs) = ap (λ l. f (g x) ∷ l) (map-twice f g xs)
 
-pub kept-stops : (ws : List Token) (d i : ℕ) (any : List Terminal) (x : Stop) → one_of any (terminal_at ws i) ≡ false → x ≡ stop.Unexpected i → (s : List Symbol) → Stops ws d (Kept any ∷ s) i x
+pub kept-stops : (ws : List Token) (d i : ℕ) (any : List TokenKind) (x : Stop) → one_of any (kind_at ws i) ≡ false → x ≡ stop.Unexpected i → (s : List Symbol) → Stops ws d (Kept any ∷ s) i x
 kept-stops ws d i any x none h s = subst (λ z. Stops ws d (Kept any ∷ s) i z) (sym h) (fails-kept none)
 
 pub some-items : {A : Type 0} (xs : List A) (n : ℕ) → n ≡ length xs → nat_eq n 0 ≡ false → 0 < length xs
@@ -224,5 +224,5 @@ to-list {s = s} {l = l} w r = record {
   within = r.within;
 }
 
-pub unexpected-primary : (ws : List Token) (d i : ℕ) (x : Stop) → x ≡ stop.Unexpected i → right_side g.Primary (terminal_at ws i) ≡ None → Stops ws d (one g.Primary) i x
+pub unexpected-primary : (ws : List Token) (d i : ℕ) (x : Stop) → x ≡ stop.Unexpected i → right_side g.Primary (kind_at ws i) ≡ None → Stops ws d (one g.Primary) i x
 unexpected-primary ws d i x h none = subst (λ z. Stops ws d (one g.Primary) i z) (sym h) (fails-part none refl)

@@ -2,8 +2,6 @@
 use Rattle.std.specs.Prelude.{ℕ, suc, Option, Some, None}
 use Rattle.sim_base.specs.declared.token.TokenKind.{TokenKind}
 use Rattle.sim_base.specs.declared.token.TokenKind.TheVariants as k
-use Rattle.sim_tree.specs.declared.terminal.Terminal.{Terminal}
-use Rattle.sim_tree.specs.declared.terminal.Terminal.TheVariants as t
 use Rattle.sim_tree.specs.Grammar as g
 use Rattle.sim_tree.specs.Grammar.{Part, Times, Maybe, Many, Symbol, Of}
 use Rattle.sim_expr_parser.specs.declared.level.Level.{Level}
@@ -23,26 +21,15 @@ under level.Concatenation = 4
 under level.Power = 1
 
 -- the operator
-abbrev pub word : Level → Terminal
-word level.OrElse = t.OrElse
-word level.AndThen = t.AndThen
-word level.Eqv = t.Eqv
-word level.Imp = t.Imp
-word level.Or = t.Or
-word level.And = t.And
-word level.Concatenation = t.Ampersand
-word level.Power = t.Power
-
--- the operator's token
-abbrev pub word_kind : Level → TokenKind
-word_kind level.OrElse = k.OrElse
-word_kind level.AndThen = k.AndThen
-word_kind level.Eqv = k.Eqv
-word_kind level.Imp = k.Imp
-word_kind level.Or = k.Or
-word_kind level.And = k.And
-word_kind level.Concatenation = k.Ampersand
-word_kind level.Power = k.Power
+abbrev pub operator : Level → TokenKind
+operator level.OrElse = k.OrElse
+operator level.AndThen = k.AndThen
+operator level.Eqv = k.Eqv
+operator level.Imp = k.Imp
+operator level.Or = k.Or
+operator level.And = k.And
+operator level.Concatenation = k.Ampersand
+operator level.Power = k.Power
 
 -- an operator with the operand behind it
 abbrev pub many : Level → Part
@@ -81,28 +68,28 @@ tail_times _ = Many
 abbrev pub tail_of : Operators → Symbol
 tail_of o = Of (tail_times o) (tail_part o)
 
--- the operators that a terminal is one of
-abbrev pub operators_of : Terminal → Option Operators
-operators_of t.OrElse = Some (operators.Single level.OrElse)
-operators_of t.AndThen = Some (operators.Single level.AndThen)
-operators_of t.Eqv = Some (operators.Single level.Eqv)
-operators_of t.Imp = Some (operators.Single level.Imp)
-operators_of t.Or = Some (operators.Single level.Or)
-operators_of t.And = Some (operators.Single level.And)
-operators_of t.Ampersand = Some (operators.Single level.Concatenation)
-operators_of t.Power = Some (operators.Single level.Power)
-operators_of t.Plus = Some operators.Signs
-operators_of t.Minus = Some operators.Signs
-operators_of t.Times = Some operators.Multiplications
-operators_of t.Divide = Some operators.Multiplications
-operators_of t.Less = Some operators.Relations
-operators_of t.LessEqual = Some operators.Relations
-operators_of t.Equal = Some operators.Relations
-operators_of t.GreaterEqual = Some operators.Relations
-operators_of t.Greater = Some operators.Relations
-operators_of t.NotEqual = Some operators.Relations
-operators_of t.SameReference = Some operators.Relations
-operators_of t.OtherReference = Some operators.Relations
-operators_of t.Is = Some operators.Relations
-operators_of t.In = Some operators.Relations
+-- the operators that a kind is one of
+abbrev pub operators_of : TokenKind → Option Operators
+operators_of k.OrElse = Some (operators.Single level.OrElse)
+operators_of k.AndThen = Some (operators.Single level.AndThen)
+operators_of k.Eqv = Some (operators.Single level.Eqv)
+operators_of k.Imp = Some (operators.Single level.Imp)
+operators_of k.Or = Some (operators.Single level.Or)
+operators_of k.And = Some (operators.Single level.And)
+operators_of k.Ampersand = Some (operators.Single level.Concatenation)
+operators_of k.Power = Some (operators.Single level.Power)
+operators_of k.Plus = Some operators.Signs
+operators_of k.Minus = Some operators.Signs
+operators_of k.Times = Some operators.Multiplications
+operators_of k.Divide = Some operators.Multiplications
+operators_of k.Less = Some operators.Relations
+operators_of k.LessEqual = Some operators.Relations
+operators_of k.Equal = Some operators.Relations
+operators_of k.GreaterEqual = Some operators.Relations
+operators_of k.Greater = Some operators.Relations
+operators_of k.NotEqual = Some operators.Relations
+operators_of k.SameReference = Some operators.Relations
+operators_of k.OtherReference = Some operators.Relations
+operators_of k.Is = Some operators.Relations
+operators_of k.In = Some operators.Relations
 operators_of _ = None

@@ -2,9 +2,9 @@
 use Rattle.std.specs.Prelude.{◌≡◌, ◌≤◌, ◌<◌, ℕ, List, ◌∷◌, Some, Result, Ok, Err, false}
 use Rattle.sim_base.specs.declared.token.Token.{Token}
 use Rattle.sim_tree.specs.declared.expr.Expr.{Expr}
-use Rattle.sim_tree.specs.declared.terminal.Terminal.TheVariants as t
+use Rattle.sim_base.specs.declared.token.TokenKind.TheVariants as k
 use Rattle.sim_tree.specs.Grammar.{Symbol, is, one_of, signs}
-use Rattle.sim_tree.specs.Reading.{Forest, done, node, terminal_at}
+use Rattle.sim_tree.specs.Reading.{Forest, done, node, kind_at}
 use Rattle.sim_tree.specs.Derivation.{derivation_of, raise, level_part}
 use Rattle.sim_tree.specs.Tree.{ReadsPart}
 use Rattle.sim_expr_parser.specs.declared.operators.Operators.{Operators}
@@ -14,18 +14,18 @@ use Rattle.sim_expr_parser.specs.Parsing.{Stops, ReadsTo}
 
 -- the operators of a level above reached, and not above top, stand at a token
 pub record Follows (tokens : List Token) (start : ℕ) (reached : ℕ) (top : ℕ) (o : Operators) : Type 0 where
-  pub stand : operators_of (terminal_at tokens start) ≡ Some o
+  pub stand : operators_of (kind_at tokens start) ≡ Some o
   pub above : reached < level_of o
   pub within : level_of o ≤ top
 
 -- no such operators stand there
 abbrev pub NoneFollows : List Token → ℕ → ℕ → ℕ → Type 0
-NoneFollows tokens start reached top = (o : Operators) → operators_of (terminal_at tokens start) ≡ Some o → reached < level_of o → level_of o ≤ top → ⊥
+NoneFollows tokens start reached top = (o : Operators) → operators_of (kind_at tokens start) ≡ Some o → reached < level_of o → level_of o ≤ top → ⊥
 
 -- Of the levels above this one, up to top, none begins at start by a sign or by `not`.
 pub record IsPlain (tokens : List Token) (start : ℕ) (level : ℕ) (top : ℕ) : Type 0 where
-  pub unsigned : level < 4 → 4 ≤ top → one_of signs (terminal_at tokens start) ≡ false
-  pub affirmed : level < 7 → 7 ≤ top → is (terminal_at tokens start) t.Not ≡ false
+  pub unsigned : level < 4 → 4 ≤ top → one_of signs (kind_at tokens start) ≡ false
+  pub affirmed : level < 7 → 7 ≤ top → is (kind_at tokens start) k.Not ≡ false
 
 -- a part of a level from start up to end, which may be raised up to the level top
 pub record IsRead (tokens : List Token) (depth : ℕ) (start : ℕ) (level : ℕ) (top : ℕ) (e : Expr) (end : ℕ) : Type 0 where

@@ -7,22 +7,23 @@ use Rattle.sim_base.specs.declared.token.Token.{Token}
 use Rattle.sim_base.specs.declared.token.TokenKind.{TokenKind}
 use Rattle.sim_tree.specs.declared.expr.Expr.{Expr}
 use Rattle.sim_tree.specs.declared.expr.LeadingSign.{LeadingSign}
-use Rattle.sim_tree.specs.declared.terminal.Terminal.{Terminal}
-use Rattle.sim_tree.specs.declared.terminal.Terminal.TheVariants as t
+use Rattle.sim_base.specs.declared.token.TokenKind.TheVariants as k
+use Rattle.sim_base.specs.declared.token.TokenValue.{TokenValue}
+use Rattle.sim_base.specs.declared.token.TokenValue.TheVariants as token_value
 use Rattle.sim_tree.specs.Grammar as g
 use Rattle.sim_tree.specs.Grammar.{Part, Symbol, Of, Once, Many, one_of, signs}
-use Rattle.sim_tree.specs.Reading.{Forest, done, leaf, node, kind_at, terminal_at, Reads, Fails, Fault, Unexpected, TooDeep}
+use Rattle.sim_tree.specs.Reading.{Forest, done, leaf, node, kind_at, Reads, Fails, Fault, Unexpected, TooDeep, value_at}
 use Rattle.sim_tree.specs.Claim.{one}
 use Rattle.sim_tree.specs.Derivation.{Derivation, derivation_of, raise, row, whole, argument, level_part, sign_kind}
 use Rattle.sim_tree.specs.Tree.{limit, ReadsPart, IsEnded}
 use Rattle.sim_expr_parser.specs.declared.refusal.Stop.{Stop}
 use Rattle.sim_expr_parser.specs.declared.refusal.Stop.TheVariants as stop
 
-abbrev pub multiplications : List Terminal
-multiplications = t.Times ∷ t.Divide ∷ []
+abbrev pub multiplications : List TokenKind
+multiplications = k.Times ∷ k.Divide ∷ []
 
-abbrev pub tests : List Terminal
-tests = t.Is ∷ t.In ∷ []
+abbrev pub tests : List TokenKind
+tests = k.Is ∷ k.In ∷ []
 
 -- a source's tokens: the last one ends them, and each has a number
 pub record IsSource (tokens : List Token) : Type 0 where
@@ -30,11 +31,16 @@ pub record IsSource (tokens : List Token) : Type 0 where
   pub numbered : length tokens < 2 ^ 32
 
 -- a token of one of these kinds was taken, and there is one behind it
-pub record Took (tokens : List Token) (start : ℕ) (any : List Terminal) (kind : TokenKind) (end : ℕ) : Type 0 where
-  pub among : one_of any (terminal_at tokens start) ≡ true
+pub record Took (tokens : List Token) (start : ℕ) (any : List TokenKind) (kind : TokenKind) (value : TokenValue) (end : ℕ) : Type 0 where
+  pub among : one_of any (kind_at tokens start) ≡ true
   pub kind_is : kind_at tokens start ≡ kind
+  pub value_is : value_at tokens start ≡ value
   pub ahead : end ≡ start + 1
   pub within : end < length tokens
+
+-- the same of a word or a sign
+abbrev pub TookBare : List Token → ℕ → List TokenKind → TokenKind → ℕ → Type 0
+TookBare tokens start any kind end = Took tokens start any kind token_value.Absent end
 
 -- where reading symbols from start on stops
 abbrev pub Stops : List Token → ℕ → List Symbol → ℕ → Stop → Type 0
@@ -82,7 +88,7 @@ GivesBoxed tokens depth level start (Err e) = Stops tokens depth (one (level_par
 
 -- one more of a repeated part: whether it begins, and if so what is inside it
 abbrev pub GivesNext : {A : Type 0} → List Token → ℕ → Part → ℕ → (A → Forest) → Result (Option (A × ℕ)) Stop → Type 0
-GivesNext tokens depth n start view (Ok None) = g.right_side n (terminal_at tokens start) ≡ None
+GivesNext tokens depth n start view (Ok None) = g.right_side n (kind_at tokens start) ≡ None
 GivesNext tokens depth n start view (Ok (Some r)) = (start < r.1) × ReadsPart tokens depth n start (view r.0) r.1
 GivesNext tokens depth n start view (Err e) = (s : List Symbol) → Stops tokens depth (Of Many n ∷ s) start e
 
@@ -93,12 +99,12 @@ GivesList tokens depth start (Err e) = (s : List Symbol) → Stops tokens depth 
 
 -- a constant, or no other token
 abbrev pub GivesConstant : List Token → ℕ → Result (Expr × ℕ) Stop → Type 0
-GivesConstant tokens start (Ok r) = Took tokens start g.literals (kind_at tokens start) r.1 × (derivation_of r.0 ≡ record { level = 0; inside = leaf start (kind_at tokens start) done })
-GivesConstant tokens start (Err (stop.Unexpected k)) = (k ≡ start) × (one_of g.literals (terminal_at tokens start) ≡ false)
+GivesConstant tokens start (Ok r) = Took tokens start g.literals (kind_at tokens start) (value_at tokens start) r.1 × (derivation_of r.0 ≡ record { level = 0; inside = leaf start (kind_at tokens start) (value_at tokens start) done })
+GivesConstant tokens start (Err (stop.Unexpected k)) = (k ≡ start) × (one_of g.literals (kind_at tokens start) ≡ false)
 GivesConstant tokens start (Err (stop.TooDeep k)) = ⊥
 GivesConstant tokens start (Err stop.Memory) = Unit {0}
 
 -- the sign in front of a sum, if there is one
 abbrev pub GivesSign : List Token → ℕ → Option LeadingSign → ℕ → Type 0
-GivesSign tokens start None end = (one_of signs (terminal_at tokens start) ≡ false) × (end ≡ start)
-GivesSign tokens start (Some s) end = Took tokens start signs (sign_kind s.sign) end × (s.token.0 ≡ start)
+GivesSign tokens start None end = (one_of signs (kind_at tokens start) ≡ false) × (end ≡ start)
+GivesSign tokens start (Some s) end = TookBare tokens start signs (sign_kind s.sign) end × (s.token.0 ≡ start)

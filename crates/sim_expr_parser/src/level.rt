@@ -2,9 +2,10 @@
 
 ghost use Rattle.std.specs.Prelude.{◌≡◌, ◌<◌, ◌≤◌, map};
 ghost use Rattle.sim_tree.specs.Derivation.{operated, operand_derivation, derivation_of};
-ghost use Rattle.sim_expr_parser.specs.Level.{many, under, word, word_kind};
+ghost use Rattle.sim_expr_parser.specs.Level.{many, under, operator};
 
-use sim_tree::{Expr, Operand, Terminal};
+use sim_base::TokenKind;
+use sim_tree::{Expr, Operand};
 
 /// A level with one operator, from the loosest.
 #[derive(Clone, Copy, Debug, PartialEq, Eq)]
@@ -29,18 +30,18 @@ pub enum Level {
 
 impl Level {
     /// Its operator.
-    pub fn operator(self) -> Terminal
-        ensures { result ≡ word self }
+    pub fn operator(self) -> TokenKind
+        ensures { result ≡ operator self }
     {
         match self {
-            Level::OrElse => Terminal::OrElse,
-            Level::AndThen => Terminal::AndThen,
-            Level::Eqv => Terminal::Eqv,
-            Level::Imp => Terminal::Imp,
-            Level::Or => Terminal::Or,
-            Level::And => Terminal::And,
-            Level::Concatenation => Terminal::Ampersand,
-            Level::Power => Terminal::Power,
+            Level::OrElse => TokenKind::OrElse,
+            Level::AndThen => TokenKind::AndThen,
+            Level::Eqv => TokenKind::Eqv,
+            Level::Imp => TokenKind::Imp,
+            Level::Or => TokenKind::Or,
+            Level::And => TokenKind::And,
+            Level::Concatenation => TokenKind::Ampersand,
+            Level::Power => TokenKind::Power,
         }
     }
 
@@ -64,7 +65,7 @@ impl Level {
 
     /// The node of its operands.
     pub fn node(self, first: Box<Expr>, rest: Vec<Operand>) -> Expr
-        ensures { derivation_of result ≡ operated (under self) (word_kind self) (many self) (derivation_of first.value) (map operand_derivation rest.items) }
+        ensures { derivation_of result ≡ operated (under self) (operator self) (many self) (derivation_of first.value) (map operand_derivation rest.items) }
     {
         match self {
             Level::OrElse => Expr::OrElse { first, rest },

@@ -14,4 +14,4 @@ pub use lists::add;
 pub use parser::{LIMIT, arguments, expression, parse_expr, postfix, selectors};
 pub use refusal::{Stop, SyntaxRefusal};
 pub use signs::leading_sign;
-pub use source::{Source, terminal_at_token};
+pub use source::{Source, kind_at_token};

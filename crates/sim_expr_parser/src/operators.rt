@@ -3,14 +3,14 @@
 
 ghost use Rattle.std.specs.Prelude.{◌≡◌, ◌<◌, length, MatchOption, ◌&&◌, nat_le};
 ghost use Rattle.sim_tree.specs.Grammar.{is, one_of, signs};
-ghost use Rattle.sim_tree.specs.Reading.{terminal_at};
-ghost use Rattle.sim_tree.specs.declared.terminal.Terminal.TheVariants as t;
+ghost use Rattle.sim_tree.specs.Reading.{kind_at};
+ghost use Rattle.sim_base.specs.declared.token.TokenKind.TheVariants as k;
 ghost use Rattle.sim_expr_parser.specs.Level.{below_of, level_of, operators_of};
 ghost use Rattle.sim_expr_parser.specs.Operators.{Follows, NoneFollows};
 
 use crate::level::Level;
 use crate::source::Source;
-use sim_tree::Terminal;
+use sim_base::TokenKind;
 
 /// The operators of one level.
 #[derive(Clone, Copy, Debug, PartialEq, Eq)]
@@ -26,31 +26,31 @@ pub enum Operators {
 }
 
 impl Operators {
-    /// Those that a terminal is one of.
-    pub fn of(terminal: Terminal) -> Option<Operators>
-        ensures { result ≡ operators_of terminal }
+    /// Those that a kind is one of.
+    pub fn of(kind: TokenKind) -> Option<Operators>
+        ensures { result ≡ operators_of kind }
     {
-        match terminal {
-            Terminal::OrElse => Some(Operators::Single(Level::OrElse)),
-            Terminal::AndThen => Some(Operators::Single(Level::AndThen)),
-            Terminal::Eqv => Some(Operators::Single(Level::Eqv)),
-            Terminal::Imp => Some(Operators::Single(Level::Imp)),
-            Terminal::Or => Some(Operators::Single(Level::Or)),
-            Terminal::And => Some(Operators::Single(Level::And)),
-            Terminal::Ampersand => Some(Operators::Single(Level::Concatenation)),
-            Terminal::Power => Some(Operators::Single(Level::Power)),
-            Terminal::Plus | Terminal::Minus => Some(Operators::Signs),
-            Terminal::Times | Terminal::Divide => Some(Operators::Multiplications),
-            Terminal::Less
-            | Terminal::LessEqual
-            | Terminal::Equal
-            | Terminal::GreaterEqual
-            | Terminal::Greater
-            | Terminal::NotEqual
-            | Terminal::SameReference
-            | Terminal::OtherReference
-            | Terminal::Is
-            | Terminal::In => Some(Operators::Relations),
+        match kind {
+            TokenKind::OrElse => Some(Operators::Single(Level::OrElse)),
+            TokenKind::AndThen => Some(Operators::Single(Level::AndThen)),
+            TokenKind::Eqv => Some(Operators::Single(Level::Eqv)),
+            TokenKind::Imp => Some(Operators::Single(Level::Imp)),
+            TokenKind::Or => Some(Operators::Single(Level::Or)),
+            TokenKind::And => Some(Operators::Single(Level::And)),
+            TokenKind::Ampersand => Some(Operators::Single(Level::Concatenation)),
+            TokenKind::Power => Some(Operators::Single(Level::Power)),
+            TokenKind::Plus | TokenKind::Minus => Some(Operators::Signs),
+            TokenKind::Times | TokenKind::Divide => Some(Operators::Multiplications),
+            TokenKind::Less
+            | TokenKind::LessEqual
+            | TokenKind::Equal
+            | TokenKind::GreaterEqual
+            | TokenKind::Greater
+            | TokenKind::NotEqual
+            | TokenKind::SameReference
+            | TokenKind::OtherReference
+            | TokenKind::Is
+            | TokenKind::In => Some(Operators::Relations),
             _ => None,
         }
     }
@@ -74,7 +74,7 @@ pub fn operators_at(source: &Source, at: usize, reached: u32, top: u32) -> Optio
     requires { at < length source.now }
     ensures { MatchOption result (NoneFollows source.now at reached top) (Follows source.now at reached top) }
 {
-    let operators = Operators::of(source.terminal_at(at))?;
+    let operators = Operators::of(source.kind_at(at))?;
     let level = operators.operand() + 1;
     if reached < level && level <= top {
         Some(operators)
@@ -86,21 +86,21 @@ pub fn operators_at(source: &Source, at: usize, reached: u32, top: u32) -> Optio
 /// Whether `not` stands at a token, and may begin a part of this level.
 pub fn begins_with_not(source: &Source, at: usize, top: u32) -> bool
     requires { at < length source.now }
-    ensures { result ≡ (nat_le 7 top && is (terminal_at source.now at) t.Not) }
+    ensures { result ≡ (nat_le 7 top && is (kind_at source.now at) k.Not) }
 {
-    top >= 7 && source.terminal_at(at) == Terminal::Not
+    top >= 7 && source.kind_at(at) == TokenKind::Not
 }
 
 /// Whether a sign stands at a token, and may begin a part of this level.
 pub fn begins_with_sign(source: &Source, at: usize, top: u32) -> bool
     requires { at < length source.now }
-    ensures { result ≡ (nat_le 4 top && one_of signs (terminal_at source.now at)) }
+    ensures { result ≡ (nat_le 4 top && one_of signs (kind_at source.now at)) }
 {
-    top >= 4 && is_sign(source.terminal_at(at))
+    top >= 4 && is_sign(source.kind_at(at))
 }
 
-fn is_sign(terminal: Terminal) -> bool
-    ensures { result ≡ one_of signs terminal }
+fn is_sign(kind: TokenKind) -> bool
+    ensures { result ≡ one_of signs kind }
 {
-    matches!(terminal, Terminal::Plus | Terminal::Minus)
+    matches!(kind, TokenKind::Plus | TokenKind::Minus)
 }

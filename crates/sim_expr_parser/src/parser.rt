@@ -2,12 +2,12 @@
 #![tactic(auto, unfolding(sim_tree::specs::Grammar::is))]
 
 ghost use Rattle.std.specs.Prelude.{◌≡◌, ◌<◌, ◌≤◌, ◌+◌, ℕ, List, map, length, Some, true};
-ghost use Rattle.sim_tree.specs.declared.terminal.Terminal.TheVariants as t;
+ghost use Rattle.sim_base.specs.declared.token.TokenKind.TheVariants as k;
 ghost use Rattle.sim_tree.specs.Grammar as g;
 ghost use Rattle.sim_tree.specs.Grammar.{Of, Once, Maybe, Many, Mark, begins_simple as spec_begins, is, one_of, signs};
-ghost use Rattle.sim_tree.specs.Reading.{terminal_at};
+ghost use Rattle.sim_tree.specs.Reading.{kind_at};
 ghost use Rattle.sim_tree.specs.Derivation.{derivation_of, not_mark, operand_derivation, item, term_derivation, factor_derivation, selector_derivation, arguments as arguments_derivation, level_part};
-ghost use Rattle.sim_expr_parser.specs.Level.{many, under, word_kind, operators_of};
+ghost use Rattle.sim_expr_parser.specs.Level.{many, under, operator, operators_of};
 ghost use Rattle.sim_expr_parser.specs.declared.operators.Operators.TheVariants as spec_operators;
 ghost use Rattle.sim_expr_parser.specs.Operators.{IsRead, GivesTail};
 ghost use Rattle.sim_expr_parser.specs.Claim.{Answers};
@@ -19,8 +19,8 @@ use crate::operators::{Operators, begins_with_not, begins_with_sign, operators_a
 use crate::refusal::{Stop, SyntaxRefusal};
 use crate::signs::{leading_sign, membership_at, multiplication_at, relation_at, sign_at};
 use crate::source::Source;
-use sim_base::{Rule, Token, TokenNo};
-use sim_tree::{Expr, Factor, Operand, Selector, Term, Terminal};
+use sim_base::{Rule, Token, TokenKind, TokenNo};
+use sim_tree::{Expr, Factor, Operand, Selector, Term};
 use std::alloc::Global;
 
 /// How deep statements and expressions nest.
@@ -43,25 +43,25 @@ const NEGATION: u32 = 7;
 
 const SIMPLE: u32 = 13;
 
-fn begins_simple(terminal: Terminal) -> bool
-    ensures { result ≡ one_of spec_begins terminal }
+fn begins_simple(kind: TokenKind) -> bool
+    ensures { result ≡ one_of spec_begins kind }
 {
     matches!(
-        terminal,
-        Terminal::Not
-            | Terminal::Plus
-            | Terminal::Minus
-            | Terminal::Integer
-            | Terminal::Character
-            | Terminal::Text
-            | Terminal::True
-            | Terminal::False
-            | Terminal::None
-            | Terminal::Notext
-            | Terminal::Identifier
-            | Terminal::This
-            | Terminal::New
-            | Terminal::Open
+        kind,
+        TokenKind::Not
+            | TokenKind::Plus
+            | TokenKind::Minus
+            | TokenKind::Integer
+            | TokenKind::Character
+            | TokenKind::Text
+            | TokenKind::True
+            | TokenKind::False
+            | TokenKind::None
+            | TokenKind::Notext
+            | TokenKind::Identifier
+            | TokenKind::This
+            | TokenKind::New
+            | TokenKind::Open
     )
 }
 
@@ -100,14 +100,14 @@ pub fn expression(source: &Source, at: usize, depth: u32) -> Result<(Expr, usize
     requires shallow { depth ≤ LIMIT }
     ensures { GivesLevel source.now depth 14 at result }
 {
-    let terminal = source.terminal_at(at);
-    if terminal != Terminal::If && !begins_simple(terminal) {
+    let kind = source.kind_at(at);
+    if kind != TokenKind::If && !begins_simple(kind) {
         return Err(Stop::Unexpected(at));
     }
     if depth == LIMIT {
         return Err(Stop::TooDeep(at));
     }
-    if terminal == Terminal::If {
+    if kind == TokenKind::If {
         return conditional(source, at, depth);
     }
     up_to_level(source, at, depth + 1, SIMPLE)
@@ -119,14 +119,14 @@ pub fn expression(source: &Source, at: usize, depth: u32) -> Result<(Expr, usize
 fn conditional(source: &Source, at: usize, depth: u32) -> Result<(Expr, usize), Stop>
     requires within { at < length source.now }
     requires shallow { depth < LIMIT }
-    ensures { is (terminal_at source.now at) t.If ≡ true → GivesLevel source.now depth 14 at result }
+    ensures { is (kind_at source.now at) k.If ≡ true → GivesLevel source.now depth 14 at result }
 {
     let token = source.token_no(at);
-    let next = source.expect(at, Terminal::If)?;
+    let next = source.expect(at, TokenKind::If)?;
     let (condition, next) = boxed(source, next, depth + 1)?;
-    let next = source.expect(next, Terminal::Then)?;
+    let next = source.expect(next, TokenKind::Then)?;
     let (first, next) = boxed_up_to_level(source, next, depth + 1, SIMPLE)?;
-    let next = source.expect(next, Terminal::Else)?;
+    let next = source.expect(next, TokenKind::Else)?;
     let (second, end) = boxed(source, next, depth + 1)?;
     Ok((
         Expr::If {
@@ -240,7 +240,7 @@ fn extended(
 ) -> Result<(Expr, usize), Stop>
     requires within { at < length source.now }
     requires shallow { depth ≤ LIMIT }
-    ensures { operators_of (terminal_at source.now at) ≡ Some operators → GivesTail source.now depth at operators first.value result }
+    ensures { operators_of (kind_at source.now at) ≡ Some operators → GivesTail source.now depth at operators first.value result }
 {
     match operators {
         Operators::Relations => relation(source, at, depth, first),
@@ -282,7 +282,7 @@ fn operands(
 ) -> Result<(Vec<Operand>, usize), Stop>
     requires within { start < length source.now }
     requires shallow { depth ≤ LIMIT }
-    ensures { GivesRow source.now depth (many level) start (λ v. map (λ o. item (under level) (word_kind level) (operand_derivation o)) v.items) result }
+    ensures { GivesRow source.now depth (many level) start (λ v. map (λ o. item (under level) (operator level) (operand_derivation o)) v.items) result }
 {
     let mut at = start;
     let mut rest = Vec::new(source.allocator());
@@ -302,7 +302,7 @@ fn not_marks(source: &Source, start: usize) -> Result<(Vec<TokenNo>, usize), Sto
 {
     let mut at = start;
     let mut marks = Vec::new(source.allocator());
-    while let Some(next) = source.eat(at, Terminal::Not) {
+    while let Some(next) = source.eat(at, TokenKind::Not) {
         marks.push(source.token_no(at))?;
         at = next;
     }
@@ -315,7 +315,7 @@ fn not_marks(source: &Source, start: usize) -> Result<(Vec<TokenNo>, usize), Sto
 fn negation(source: &Source, at: usize, depth: u32) -> Result<(Expr, usize), Stop>
     requires within { at < length source.now }
     requires shallow { depth ≤ LIMIT }
-    ensures { is (terminal_at source.now at) t.Not ≡ true → GivesLevel source.now depth 7 at result }
+    ensures { is (kind_at source.now at) k.Not ≡ true → GivesLevel source.now depth 7 at result }
 {
     let (marks, next) = not_marks(source, at)?;
     let (operand, end) = boxed_up_to_level(source, next, depth, RELATION)?;
@@ -334,7 +334,7 @@ fn negation(source: &Source, at: usize, depth: u32) -> Result<(Expr, usize), Sto
 fn relation(source: &Source, at: usize, depth: u32, left: Box<Expr>) -> Result<(Expr, usize), Stop>
     requires within { at < length source.now }
     requires shallow { depth ≤ LIMIT }
-    ensures { operators_of (terminal_at source.now at) ≡ Some spec_operators.Relations → GivesTail source.now depth at spec_operators.Relations left.value result }
+    ensures { operators_of (kind_at source.now at) ≡ Some spec_operators.Relations → GivesTail source.now depth at spec_operators.Relations left.value result }
 {
     let token = source.token_no(at);
     if let Some((membership, next)) = membership_at(source, at) {
@@ -371,7 +371,7 @@ fn relation(source: &Source, at: usize, depth: u32, left: Box<Expr>) -> Result<(
 fn signed_sum(source: &Source, at: usize, depth: u32) -> Result<(Expr, usize), Stop>
     requires within { at < length source.now }
     requires shallow { depth ≤ LIMIT }
-    ensures { one_of signs (terminal_at source.now at) ≡ true → GivesLevel source.now depth 4 at result }
+    ensures { one_of signs (kind_at source.now at) ≡ true → GivesLevel source.now depth 4 at result }
 {
     let (sign, start) = leading_sign(source, at);
     let (first, next) = boxed_up_to_level(source, start, depth, TERM)?;
@@ -459,7 +459,7 @@ fn selector(source: &Source, at: usize, depth: u32) -> Result<Option<(Selector, 
     ensures { GivesNext source.now depth g.Selection at selector_derivation result }
 {
     let token = source.token_no(at);
-    if let Some(next) = source.eat(at, Terminal::Dot) {
+    if let Some(next) = source.eat(at, TokenKind::Dot) {
         let (name, next) = source.identifier_at(next)?;
         let (arguments, end) = arguments(source, next, depth)?;
         return Ok(Some((
@@ -471,7 +471,7 @@ fn selector(source: &Source, at: usize, depth: u32) -> Result<Option<(Selector, 
             end,
         )));
     }
-    let Some(next) = source.eat(at, Terminal::Qua) else {
+    let Some(next) = source.eat(at, TokenKind::Qua) else {
         return Ok(None);
     };
     let (class, end) = source.identifier_at(next)?;
@@ -484,11 +484,11 @@ fn primary(source: &Source, at: usize, depth: u32) -> Result<(Expr, usize), Stop
     requires shallow { depth ≤ LIMIT }
     ensures { GivesLevel source.now depth 0 at result }
 {
-    match source.terminal_at(at) {
-        Terminal::Identifier => named(source, at, depth),
-        Terminal::Open => parentheses(source, at, depth),
-        Terminal::This => local_object(source, at),
-        Terminal::New => generator(source, at, depth),
+    match source.kind_at(at) {
+        TokenKind::Identifier => named(source, at, depth),
+        TokenKind::Open => parentheses(source, at, depth),
+        TokenKind::This => local_object(source, at),
+        TokenKind::New => generator(source, at, depth),
         _ => source.constant_at(at),
     }
 }
@@ -499,7 +499,7 @@ fn primary(source: &Source, at: usize, depth: u32) -> Result<(Expr, usize), Stop
 fn named(source: &Source, at: usize, depth: u32) -> Result<(Expr, usize), Stop>
     requires within { at < length source.now }
     requires shallow { depth ≤ LIMIT }
-    ensures { is (terminal_at source.now at) t.Identifier ≡ true → GivesLevel source.now depth 0 at result }
+    ensures { is (kind_at source.now at) k.Identifier ≡ true → GivesLevel source.now depth 0 at result }
 {
     let (name, next) = source.identifier_at(at)?;
     let (arguments, end) = arguments(source, next, depth)?;
@@ -512,12 +512,12 @@ fn named(source: &Source, at: usize, depth: u32) -> Result<(Expr, usize), Stop>
 fn parentheses(source: &Source, at: usize, depth: u32) -> Result<(Expr, usize), Stop>
     requires within { at < length source.now }
     requires shallow { depth ≤ LIMIT }
-    ensures { is (terminal_at source.now at) t.Open ≡ true → GivesLevel source.now depth 0 at result }
+    ensures { is (kind_at source.now at) k.Open ≡ true → GivesLevel source.now depth 0 at result }
 {
     let token = source.token_no(at);
-    let next = source.expect(at, Terminal::Open)?;
+    let next = source.expect(at, TokenKind::Open)?;
     let (inner, next) = boxed(source, next, depth)?;
-    let end = source.expect(next, Terminal::Close)?;
+    let end = source.expect(next, TokenKind::Close)?;
     Ok((Expr::Parentheses { token, inner }, end))
 }
 
@@ -525,10 +525,10 @@ fn parentheses(source: &Source, at: usize, depth: u32) -> Result<(Expr, usize), 
 #[inline(never)]
 fn local_object(source: &Source, at: usize) -> Result<(Expr, usize), Stop>
     requires within { at < length source.now }
-    ensures { (d : ℕ) → is (terminal_at source.now at) t.This ≡ true → GivesLevel source.now d 0 at result }
+    ensures { (d : ℕ) → is (kind_at source.now at) k.This ≡ true → GivesLevel source.now d 0 at result }
 {
     let token = source.token_no(at);
-    let next = source.expect(at, Terminal::This)?;
+    let next = source.expect(at, TokenKind::This)?;
     let (class, end) = source.identifier_at(next)?;
     Ok((Expr::This { token, class }, end))
 }
@@ -539,10 +539,10 @@ fn local_object(source: &Source, at: usize) -> Result<(Expr, usize), Stop>
 fn generator(source: &Source, at: usize, depth: u32) -> Result<(Expr, usize), Stop>
     requires within { at < length source.now }
     requires shallow { depth ≤ LIMIT }
-    ensures { is (terminal_at source.now at) t.New ≡ true → GivesLevel source.now depth 0 at result }
+    ensures { is (kind_at source.now at) k.New ≡ true → GivesLevel source.now depth 0 at result }
 {
     let token = source.token_no(at);
-    let next = source.expect(at, Terminal::New)?;
+    let next = source.expect(at, TokenKind::New)?;
     let (class, next) = source.identifier_at(next)?;
     let (arguments, end) = arguments(source, next, depth)?;
     Ok((
@@ -562,11 +562,11 @@ pub fn arguments(source: &Source, at: usize, depth: u32) -> Result<(Vec<Expr>, u
     requires shallow { depth ≤ LIMIT }
     ensures { GivesTo source.now depth (Of Maybe g.Arguments) at (λ v. arguments_derivation (map derivation_of v.items)) result }
 {
-    let Some(next) = source.eat(at, Terminal::Open) else {
+    let Some(next) = source.eat(at, TokenKind::Open) else {
         return Ok((Vec::new(source.allocator()), at));
     };
     let (list, next) = argument_list(source, next, depth)?;
-    let end = source.expect(next, Terminal::Close)?;
+    let end = source.expect(next, TokenKind::Close)?;
     Ok((list, end))
 }
 
@@ -580,7 +580,7 @@ fn argument_list(source: &Source, start: usize, depth: u32) -> Result<(Vec<Expr>
     let mut list = Vec::new(source.allocator());
     let (first, mut at) = expression(source, start, depth)?;
     add(&mut list, first)?;
-    while let Some(next) = source.eat(at, Terminal::Comma) {
+    while let Some(next) = source.eat(at, TokenKind::Comma) {
         let (argument, end) = expression(source, next, depth)?;
         add(&mut list, argument)?;
         at = end;

@@ -3,23 +3,23 @@
 
 ghost use Rattle.std.specs.Prelude.{◌≡◌, ◌<◌, false, length, MatchOption};
 ghost use Rattle.sim_tree.specs.Grammar.{one_of, relations, signs};
-ghost use Rattle.sim_tree.specs.Reading.{terminal_at};
-ghost use Rattle.sim_tree.specs.Terminal.{terminal_of};
+ghost use Rattle.sim_tree.specs.Reading.{kind_at};
 ghost use Rattle.sim_tree.specs.Derivation.{sign_kind, multiplication_kind, relation_kind, membership_kind};
-ghost use Rattle.sim_expr_parser.specs.Parsing.{Took, GivesSign, multiplications, tests};
+ghost use Rattle.sim_expr_parser.specs.Parsing.{TookBare, GivesSign, multiplications, tests};
 
 use crate::source::Source;
-use sim_tree::{LeadingSign, Membership, Multiplication, Relation, Sign, Terminal};
+use sim_base::TokenKind;
+use sim_tree::{LeadingSign, Membership, Multiplication, Relation, Sign};
 
 /// The sign at a token, and the index after it.
 pub fn sign_at(source: &Source, at: usize) -> Option<(Sign, usize)>
     requires within { at < length source.now }
-    ensures { MatchOption result (one_of signs (terminal_at source.now at) ≡ false) (λ r. Took source.now at signs (sign_kind r.0) r.1) }
+    ensures { MatchOption result (one_of signs (kind_at source.now at) ≡ false) (λ r. TookBare source.now at signs (sign_kind r.0) r.1) }
 {
-    if let Some(next) = source.eat(at, Terminal::Plus) {
+    if let Some(next) = source.eat(at, TokenKind::Plus) {
         return Some((Sign::Plus, next));
     }
-    let next = source.eat(at, Terminal::Minus)?;
+    let next = source.eat(at, TokenKind::Minus)?;
     Some((Sign::Minus, next))
 }
 
@@ -38,40 +38,40 @@ pub fn leading_sign(source: &Source, at: usize) -> (Option<LeadingSign>, usize)
 /// The operator of a product at a token, and the index after it.
 pub fn multiplication_at(source: &Source, at: usize) -> Option<(Multiplication, usize)>
     requires within { at < length source.now }
-    ensures { MatchOption result (one_of multiplications (terminal_at source.now at) ≡ false) (λ r. Took source.now at multiplications (multiplication_kind r.0) r.1) }
+    ensures { MatchOption result (one_of multiplications (kind_at source.now at) ≡ false) (λ r. TookBare source.now at multiplications (multiplication_kind r.0) r.1) }
 {
-    if let Some(next) = source.eat(at, Terminal::Times) {
+    if let Some(next) = source.eat(at, TokenKind::Times) {
         return Some((Multiplication::Times, next));
     }
-    let next = source.eat(at, Terminal::Divide)?;
+    let next = source.eat(at, TokenKind::Divide)?;
     Some((Multiplication::Divide, next))
 }
 
 /// The test of a class at a token, and the index after it.
 pub fn membership_at(source: &Source, at: usize) -> Option<(Membership, usize)>
     requires within { at < length source.now }
-    ensures { MatchOption result (one_of tests (terminal_at source.now at) ≡ false) (λ r. Took source.now at tests (membership_kind r.0) r.1) }
+    ensures { MatchOption result (one_of tests (kind_at source.now at) ≡ false) (λ r. TookBare source.now at tests (membership_kind r.0) r.1) }
 {
-    if let Some(next) = source.eat(at, Terminal::Is) {
+    if let Some(next) = source.eat(at, TokenKind::Is) {
         return Some((Membership::Is, next));
     }
-    let next = source.eat(at, Terminal::In)?;
+    let next = source.eat(at, TokenKind::In)?;
     Some((Membership::In, next))
 }
 
-// The relation that a terminal stands for.
-fn relation_of(terminal: Terminal) -> Option<Relation>
-    ensures { MatchOption result (one_of relations terminal ≡ false) (λ r. terminal ≡ terminal_of (relation_kind r)) }
+// The relation that a kind stands for.
+fn relation_of(kind: TokenKind) -> Option<Relation>
+    ensures { MatchOption result (one_of relations kind ≡ false) (λ r. kind ≡ relation_kind r) }
 {
-    match terminal {
-        Terminal::Less => Some(Relation::Less),
-        Terminal::LessEqual => Some(Relation::LessEqual),
-        Terminal::Equal => Some(Relation::Equal),
-        Terminal::GreaterEqual => Some(Relation::GreaterEqual),
-        Terminal::Greater => Some(Relation::Greater),
-        Terminal::NotEqual => Some(Relation::NotEqual),
-        Terminal::SameReference => Some(Relation::SameReference),
-        Terminal::OtherReference => Some(Relation::OtherReference),
+    match kind {
+        TokenKind::Less => Some(Relation::Less),
+        TokenKind::LessEqual => Some(Relation::LessEqual),
+        TokenKind::Equal => Some(Relation::Equal),
+        TokenKind::GreaterEqual => Some(Relation::GreaterEqual),
+        TokenKind::Greater => Some(Relation::Greater),
+        TokenKind::NotEqual => Some(Relation::NotEqual),
+        TokenKind::SameReference => Some(Relation::SameReference),
+        TokenKind::OtherReference => Some(Relation::OtherReference),
         _ => None,
     }
 }
@@ -79,9 +79,9 @@ fn relation_of(terminal: Terminal) -> Option<Relation>
 /// The relation at a token, and the index after it.
 pub fn relation_at(source: &Source, at: usize) -> Option<(Relation, usize)>
     requires within { at < length source.now }
-    ensures { MatchOption result (one_of relations (terminal_at source.now at) ≡ false) (λ r. Took source.now at relations (relation_kind r.0) r.1) }
+    ensures { MatchOption result (one_of relations (kind_at source.now at) ≡ false) (λ r. TookBare source.now at relations (relation_kind r.0) r.1) }
 {
-    let terminal = source.terminal_at(at);
-    let relation = relation_of(terminal)?;
-    Some((relation, source.eat(at, terminal)?))
+    let kind = source.kind_at(at);
+    let relation = relation_of(kind)?;
+    Some((relation, source.eat(at, kind)?))
 }

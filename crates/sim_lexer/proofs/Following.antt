@@ -5,13 +5,14 @@ use Rattle.std.proofs.lemmas.Bool.Decides.{nat_tests}
 use Rattle.std.proofs.lemmas.List.{take-append-drop, length-take-le, length-append}
 use Rattle.std.proofs.lemmas.List.Sums.{fold-append, sum_by-append, sum_by-cons}
 use Rattle.std.specs.List.{count_by, fold}
+use Rattle.sim_base.specs.Lexeme.{bare}
 use Rattle.sim_base.specs.declared.rule.Rule.{Rule}
+use Rattle.sim_base.specs.declared.token.Lexeme.{Lexeme}
 use Rattle.sim_base.specs.declared.token.Token.{Token}
-use Rattle.sim_base.specs.declared.token.TokenKind.{TokenKind}
 use Rattle.sim_base.specs.declared.token.TokenKind.TheVariants as k
 use Rattle.sim_lexer.specs.Bytes.{is_line_feed}
 use Rattle.sim_lexer.specs.Claims.{IsNoEnd, Refused, Refuses}
-use Rattle.sim_lexer.specs.Piece.{Piece, Separator, Lexeme}
+use Rattle.sim_lexer.specs.Piece.{Piece, Separator, Lexeme as LexemePiece}
 use Rattle.sim_lexer.specs.Pieces.{piece}
 use Rattle.sim_lexer.specs.Scanning.{IsItem, is_piece, is_text, closed, unclosed, past, past_byte, token_at}
 use Rattle.sim_lexer.specs.Spelling.{Lexed, Spelled, Broken, Breaks, piece_breaks, text_breaks, Spells, ends, passes, gives, breaks, Reads, reads, Writes, lexeme_writes, text_writes, begins_line, line_behind, token, with_next}
@@ -60,9 +61,9 @@ after-past before piece at after = record {
       ∙ sym (fold-append (λ begins byte. is_line_feed byte) true before piece);
 }
 
-token-after : (before : List ℕ) (at : Position) (kind : TokenKind) → IsAfter before at → token_at at kind ≡ token before kind
-token-after before at kind after =
-    let T : ℕ → ℕ → Token = λ place line. record { kind = kind; place = place; line = record { 0 = line } } in
+token-after : (before : List ℕ) (at : Position) (lexeme : Lexeme) → IsAfter before at → token_at at lexeme ≡ token before lexeme
+token-after before at lexeme after =
+    let T : ℕ → ℕ → Token = λ place line. record { lexeme = lexeme; place = place; line = record { 0 = line } } in
     ap (λ (place : ℕ). T place at.line) after.place ∙ ap (T (length before)) after.line
 
 -- ---- what follows
@@ -94,11 +95,11 @@ separated : {front : Piece} {all : List ℕ} {size : ℕ} → IsItem front all (
 separated {all = all} (is_piece e) within = let w = subst (λ p. IsWithin p all) e within in (e, w.within)
 separated (is_text e found) within = elim found [ ]
 
-written : {front : Piece} {all : List ℕ} {kind : TokenKind} {size : ℕ} → IsItem front all (item.Lexeme kind size) → IsWithin front all
-    → Writes front (take size all) (drop size all) kind × (size ≤ length all)
-written {all = all} {kind = kind} {size = size} (is_piece e) within =
+written : {front : Piece} {all : List ℕ} {lexeme : Lexeme} {size : ℕ} → IsItem front all (item.Lexeme lexeme size) → IsWithin front all
+    → Writes front (take size all) (drop size all) lexeme × (size ≤ length all)
+written {all = all} {lexeme = lexeme} {size = size} (is_piece e) within =
     let w = subst (λ p. IsWithin p all) e within in
-    (lexeme_writes (e ∙ ap (Lexeme kind) (sym (length-take-le size all w.within))), w.within)
+    (lexeme_writes (e ∙ ap (LexemePiece lexeme) (sym (length-take-le size all w.within))), w.within)
 written {all = all} (is_text e (closed bytes size within d)) _ =
     (text_writes e (subst (λ (bs : List ℕ). Content (drop 1 bs) bytes (drop size all)) (split_at size all) d), within)
 
@@ -123,31 +124,31 @@ module _ {source : List ℕ} {tokens : List Token} {at : Position} {rest : List 
         is.1,
       )
 
-  pub follows-gives : (kind : TokenKind) (size : ℕ) → IsItem (piece at.begins_line rest) rest (item.Lexeme kind size)
-      → Follows source (with_next tokens (token_at at kind)) (past at (take size rest)) (drop size rest) × (size ≤ length rest)
-  follows-gives kind size found =
+  pub follows-gives : (lexeme : Lexeme) (size : ℕ) → IsItem (piece at.begins_line rest) rest (item.Lexeme lexeme size)
+      → Follows source (with_next tokens (token_at at lexeme)) (past at (take size rest)) (drop size rest) × (size ≤ length rest)
+  follows-gives lexeme size found =
       (record { before = follows.before ++ take size rest; after = after-past follows.before (take size rest) at follows.after; whole = from }, is.1)
     where
-      is : Writes (piece at.begins_line rest) (take size rest) (drop size rest) kind × (size ≤ length rest)
+      is : Writes (piece at.begins_line rest) (take size rest) (drop size rest) lexeme × (size ≤ length rest)
       is = written found (within-piece at.begins_line rest)
 
-      here : Writes (piece (begins_line follows.before) rest) (take size rest) (drop size rest) kind
-      here = subst (λ (front : Piece). Writes front (take size rest) (drop size rest) kind) front_is is.0
+      here : Writes (piece (begins_line follows.before) rest) (take size rest) (drop size rest) lexeme
+      here = subst (λ (front : Piece). Writes front (take size rest) (drop size rest) lexeme) front_is is.0
 
-      same : token follows.before kind ≡ token_at at kind
-      same = sym (token-after follows.before at kind follows.after)
+      same : token follows.before lexeme ≡ token_at at lexeme
+      same = sym (token-after follows.before at lexeme follows.after)
 
-      from : (answer : Lexed) → Spells (follows.before ++ take size rest) (drop size rest) answer → Reads source (onto (with_next tokens (token_at at kind)) answer)
+      from : (answer : Lexed) → Spells (follows.before ++ take size rest) (drop size rest) answer → Reads source (onto (with_next tokens (token_at at lexeme)) answer)
       from (Spelled more) spelled =
           subst (λ (t : Token). Reads source (onto (with_next tokens t) (Spelled more))) same
-          (follows.whole (Spelled (token follows.before kind ∷ more)) (gives kind (take size rest) (drop size rest) (split_at size rest) here spelled))
-      from (Broken rule place) spelled = follows.whole (Broken rule place) (gives kind (take size rest) (drop size rest) (split_at size rest) here spelled)
+          (follows.whole (Spelled (token follows.before lexeme ∷ more)) (gives lexeme (take size rest) (drop size rest) (split_at size rest) here spelled))
+      from (Broken rule place) spelled = follows.whole (Broken rule place) (gives lexeme (take size rest) (drop size rest) (split_at size rest) here spelled)
 
-  pub follows-ends : rest ≡ [] → Reads source (Spelled (with_next tokens (token_at at k.EndOfSource)))
+  pub follows-ends : rest ≡ [] → Reads source (Spelled (with_next tokens (token_at at (bare k.EndOfSource))))
   follows-ends none =
-      subst (λ (t : Token). Reads source (Spelled (with_next tokens t))) (sym (token-after follows.before at k.EndOfSource follows.after))
-      (follows.whole (Spelled (token follows.before k.EndOfSource ∷ []))
-      (subst (λ (r : List ℕ). Spells follows.before r (Spelled (token follows.before k.EndOfSource ∷ []))) (sym none) ends))
+      subst (λ (t : Token). Reads source (Spelled (with_next tokens t))) (sym (token-after follows.before at (bare k.EndOfSource) follows.after))
+      (follows.whole (Spelled (token follows.before (bare k.EndOfSource) ∷ []))
+      (subst (λ (r : List ℕ). Spells follows.before r (Spelled (token follows.before (bare k.EndOfSource) ∷ []))) (sym none) ends))
 
   pub follows-breaks : (rule : Rule) → IsItem (piece at.begins_line rest) rest (item.Fault rule) → Reads source (Broken rule at.place)
   follows-breaks rule found =
@@ -160,13 +161,13 @@ pub passed-some : (fresh : Bool) (all : List ℕ) (size : ℕ) → IsItem (piece
 passed-some fresh all size (is_piece e) = let w = subst (λ p. IsWithin p all) e (within-piece fresh all) in w.some
 passed-some fresh all size (is_text e found) = elim found [ ]
 
-pub given-some : (fresh : Bool) (all : List ℕ) (kind : TokenKind) (size : ℕ) → IsItem (piece fresh all) all (item.Lexeme kind size) → 0 < size
-given-some fresh all kind size found =
+pub given-some : (fresh : Bool) (all : List ℕ) (lexeme : Lexeme) (size : ℕ) → IsItem (piece fresh all) all (item.Lexeme lexeme size) → 0 < size
+given-some fresh all lexeme size found =
     let is = written found (within-piece fresh all) in
     omega (arith, lexeme-some fresh all (take size all) (drop size all) is.0, length-take-le size all is.1)
 
-pub given-inside : (fresh : Bool) (all : List ℕ) (kind : TokenKind) (size : ℕ) → IsItem (piece fresh all) all (item.Lexeme kind size) → IsNoEnd kind
-given-inside fresh all kind size found = no_end-written fresh all (written found (within-piece fresh all)).0
+pub given-inside : (fresh : Bool) (all : List ℕ) (lexeme : Lexeme) (size : ℕ) → IsItem (piece fresh all) all (item.Lexeme lexeme size) → IsNoEnd lexeme.kind
+given-inside fresh all lexeme size found = no_end-written fresh all (written found (within-piece fresh all)).0
 
 pub none_left : (all : List ℕ) → length all ≡ 0 → all ≡ []
 none_left [] so = refl

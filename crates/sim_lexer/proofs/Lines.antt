@@ -4,11 +4,12 @@ use Rattle.std.proofs.lemmas.List.{take_at, length-append}
 use Rattle.std.proofs.lemmas.List.Elements.{All-cons, All-nil, All-head, All-tail}
 use Rattle.std.specs.List.{All, count_by, fold}
 use Rattle.std.specs.Prelude.{nat_eq}
+use Rattle.sim_base.specs.Lexeme.{bare}
 use Rattle.sim_base.specs.Place.{line_at}
+use Rattle.sim_base.specs.declared.token.Lexeme.{Lexeme}
 use Rattle.sim_base.specs.declared.token.Token.{Token}
-use Rattle.sim_base.specs.declared.token.TokenKind.{TokenKind}
 use Rattle.sim_base.specs.declared.token.TokenKind.TheVariants as k
-use Rattle.sim_lexer.specs.Spelling.{Lexed, Spelled, Broken, Spells, ends, passes, gives, breaks, Reads, too_long, reads, line_behind, token, with_token, with_joined, with_next, neighbours, joined_kind}
+use Rattle.sim_lexer.specs.Spelling.{Lexed, Spelled, Broken, Spells, ends, passes, gives, breaks, Reads, too_long, reads, line_behind, token, with_token, with_joined, with_next, neighbours, joined_lexeme}
 
 -- the token stands in the source or at its end, and on the line of its place
 pub record IsPlaced (source : List ℕ) (token : Token) : Type 0 where
@@ -28,8 +29,8 @@ line_in_front before after = ap (λ (bytes : List ℕ). 1 + count_by (nat_eq 10)
 in_front : (source before after : List ℕ) → source ≡ before ++ after → length before ≤ length source
 in_front source before after whole = omega (arith, ap length whole, length-append before after)
 
-placed-token : (source before after : List ℕ) (kind : TokenKind) → source ≡ before ++ after → IsPlaced source (token before kind)
-placed-token source before after kind whole = record {
+placed-token : (source before after : List ℕ) (lexeme : Lexeme) → source ≡ before ++ after → IsPlaced source (token before lexeme)
+placed-token source before after lexeme whole = record {
   within = in_front source before after whole;
   line = sym (line_in_front before after) ∙ ap (λ (bytes : List ℕ). line_at bytes (length before)) (sym whole);
 }
@@ -43,23 +44,23 @@ moved source before piece rest all whole split = whole ∙ ap (λ (bytes : List 
 
 placed-spelled : (source : List ℕ) {before all : List ℕ} {answer : Lexed} → Spells before all answer → source ≡ before ++ all → ArePlaced source answer
 placed-spelled source (ends {before = before}) whole =
-    All-cons (IsPlaced source) (token before k.EndOfSource) [] (placed-token source before [] k.EndOfSource whole) (All-nil (IsPlaced source))
+    All-cons (IsPlaced source) (token before (bare k.EndOfSource)) [] (placed-token source before [] (bare k.EndOfSource) whole) (All-nil (IsPlaced source))
 placed-spelled source {before} {all} (passes piece rest split is d) whole = placed-spelled source d (moved source before piece rest all whole split)
-placed-spelled source {before} {all} (gives {answer = answer} kind piece rest split is d) whole =
-    placed-more source (token before kind) answer (placed-token source before all kind whole) (placed-spelled source d (moved source before piece rest all whole split))
+placed-spelled source {before} {all} (gives {answer = answer} lexeme piece rest split is d) whole =
+    placed-more source (token before lexeme) answer (placed-token source before all lexeme whole) (placed-spelled source d (moved source before piece rest all whole split))
 placed-spelled source {before} {all} (breaks rule is) whole = in_front source before all whole
 
-placed-neighbours : (source : List ℕ) (made : Option TokenKind) (first next : Token) → IsPlaced source first → IsPlaced source next
+placed-neighbours : (source : List ℕ) (made : Option Lexeme) (first next : Token) → IsPlaced source first → IsPlaced source next
     → All (IsPlaced source) (neighbours made first next)
 placed-neighbours source None first next here there =
     All-cons (IsPlaced source) first (next ∷ []) here (All-cons (IsPlaced source) next [] there (All-nil (IsPlaced source)))
-placed-neighbours source (Some kind) first next here there =
-    All-cons (IsPlaced source) (record { kind = kind; place = first.place; line = first.line }) [] (record { within = here.within; line = here.line }) (All-nil (IsPlaced source))
+placed-neighbours source (Some lexeme) first next here there =
+    All-cons (IsPlaced source) (record first { lexeme = lexeme }) [] (record { within = here.within; line = here.line }) (All-nil (IsPlaced source))
 
 placed-next : (source : List ℕ) (tokens : List Token) (next : Token) → All (IsPlaced source) tokens → IsPlaced source next → All (IsPlaced source) (with_next tokens next)
 placed-next source [] next before here = All-cons (IsPlaced source) next [] here (All-nil (IsPlaced source))
 placed-next source (last ∷ []) next before here =
-    placed-neighbours source (joined_kind last.kind next.kind) last next (All-head (IsPlaced source) last [] before) here
+    placed-neighbours source (joined_lexeme last.lexeme next.lexeme) last next (All-head (IsPlaced source) last [] before) here
 placed-next source (first ∷ second ∷ rest) next before here =
     All-cons (IsPlaced source) first (with_next (second ∷ rest) next) (All-head (IsPlaced source) first (second ∷ rest) before)
     (placed-next source (second ∷ rest) next (All-tail (IsPlaced source) first (second ∷ rest) before) here)

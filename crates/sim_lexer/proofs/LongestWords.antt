@@ -10,14 +10,14 @@ use Rattle.std.specs.Char.{to_ascii_lowercase}
 use Rattle.std.specs.List.{All, position, prefix_len, take_while}
 use Rattle.std.specs.Prelude.{if◌then◌else◌, codes, nat_eq, nat_lt, pos, slice_index, ◌^◌}
 use Rattle.std.specs.Str.{bytes_eq}
-use Rattle.sim_base.specs.declared.token.TokenKind.{TokenKind}
-use Rattle.sim_base.specs.declared.token.TokenKind.TheVariants as k
+use Rattle.sim_base.specs.declared.token.Lexeme.{Lexeme}
+use Rattle.sim_base.specs.Lexeme.{whole_number}
 use Rattle.sim_base.specs.declared.rule.Rule.TheVariants as x
 use Rattle.sim_lexer.specs.Bytes.{is_digit, is_digit_of, is_letter, is_word_byte}
 use Rattle.sim_lexer.specs.Constants.{integer, is_real_behind, number, number_in, number_value, radix, radix_digits, with_radix}
 use Rattle.sim_lexer.specs.Longest.{AreDigits, IsBased, IsLongest, IsLongestWord, IsNumber, IsWord, based, decimal}
-use Rattle.sim_lexer.specs.Piece.{Lexeme, Fault}
-use Rattle.sim_lexer.specs.Pieces.{comment, comment_behind, comment_to, lower_word, word, word_kind, word_lexeme}
+use Rattle.sim_lexer.specs.Piece.{Lexeme as LexemePiece, Fault}
+use Rattle.sim_lexer.specs.Pieces.{comment, comment_behind, comment_to, lower_word, with_comment, word, word_lexeme}
 use Rattle.sim_lexer.specs.Words.{is_left_out}
 
 abbrev Passes : (ℕ → Bool) → ℕ → Type 0
@@ -81,37 +81,37 @@ word_in_front (byte ∷ rest) letter = record {
       (subst (All (Passes is_word_byte)) (sym is.split) (All-cons (Passes is_word_byte) is.first is.rest (letter_in_word is.first is.letter) is.all));
 }
 
-no_comment : (place : Option ℕ) (kind : TokenKind) (size : ℕ) → comment_to place ≡ Lexeme kind size → ⊥
-no_comment None kind size is = cc
-no_comment (Some place) kind size is = cc
+no_comment : (place : Option ℕ) (lexeme : Lexeme) (size : ℕ) → comment_to place ≡ LexemePiece lexeme size → ⊥
+no_comment None lexeme size is = cc
+no_comment (Some place) lexeme size is = cc
 
-same_lexeme : {kind other : TokenKind} {size more : ℕ} → Lexeme kind size ≡ Lexeme other more → (kind ≡ other) × (size ≡ more)
+same_lexeme : {lexeme other : Lexeme} {size more : ℕ} → LexemePiece lexeme size ≡ LexemePiece other more → (lexeme ≡ other) × (size ≡ more)
 same_lexeme is = (cc, cc)
 
-comment_no_lexeme : (all : List ℕ) (kind : TokenKind) (size : ℕ) → comment all ≡ Lexeme kind size → ⊥
+comment_no_lexeme : (all : List ℕ) (lexeme : Lexeme) (size : ℕ) → comment all ≡ LexemePiece lexeme size → ⊥
 unfolding comment
-comment_no_lexeme all kind size is = no_comment (position (λ byte. nat_eq byte 59) all) kind size is
+comment_no_lexeme all lexeme size is = no_comment (position (λ byte. nat_eq byte 59) all) lexeme size is
 
-pub longest_word : (all : List ℕ) (kind : TokenKind) (size : ℕ) → is_letter (slice_index all 0) ≡ true → word all ≡ Lexeme kind size → IsLongestWord all kind size
+pub longest_word : (all : List ℕ) (lexeme : Lexeme) (size : ℕ) → is_letter (slice_index all 0) ≡ true → word all ≡ LexemePiece lexeme size → IsLongestWord all lexeme size
 unfolding word
-longest_word all kind size letter is = by (bytes_eq (lower_word all) (codes "comment")) (is_left_out (lower_word all)) is
+longest_word all lexeme size letter is = by (bytes_eq (lower_word all) (codes "comment")) (is_left_out (lower_word all)) is
   where
-    here : TokenKind
-    here = word_kind (lower_word all)
+    here : Lexeme
+    here = word_lexeme (lower_word all)
 
     letters : ℕ
     letters = prefix_len is_word_byte all
 
-    by : (comments left : Bool) → (if comments then comment all else if left then Fault x.WordLeftOut else word_lexeme here letters all) ≡ Lexeme kind size → IsLongestWord all kind size
-    by true left so = absurd (comment_no_lexeme all kind size so)
+    by : (comments left : Bool) → (if comments then comment all else if left then Fault x.WordLeftOut else with_comment here letters all) ≡ LexemePiece lexeme size → IsLongestWord all lexeme size
+    by true left so = absurd (comment_no_lexeme all lexeme size so)
     by false true so = cc
     by false false so =
         let same = same_lexeme so in
         record {
           letters = letters;
           longest = word_in_front all letter;
-          kind_is = sym same.0;
-          size_is = sym same.1 ∙ ap (λ k. letters + comment_behind k (drop letters all)) same.0;
+          lexeme_is = sym same.0;
+          size_is = sym same.1 ∙ ap (λ (found : Lexeme). letters + comment_behind found.kind (drop letters all)) same.0;
         }
 
 -- ---- numbers
@@ -122,11 +122,11 @@ r_no_digit mark is_r = grind (arith, nat_tests)
 digit_of_ten : (byte : ℕ) → is_digit byte ≡ true → is_digit_of 10 byte ≡ true
 digit_of_ten byte digit = grind (arith, nat_tests)
 
-integer_size : (base : ℕ) (digits : List ℕ) (size : ℕ) (behind : List ℕ) (kind : TokenKind) (found : ℕ) → integer base digits size behind ≡ Lexeme kind found → found ≡ size
+integer_size : (base : ℕ) (digits : List ℕ) (size : ℕ) (behind : List ℕ) (lexeme : Lexeme) (found : ℕ) → integer base digits size behind ≡ LexemePiece lexeme found → found ≡ size
 unfolding integer
-integer_size base digits size behind kind found is = by (is_real_behind behind) (nat_lt (number_value base digits) (2 ^ 63)) is
+integer_size base digits size behind lexeme found is = by (is_real_behind behind) (nat_lt (number_value base digits) (2 ^ 63)) is
   where
-    by : (real small : Bool) → (if real then Fault x.RealConstant else if small then Lexeme (k.Integer (pos (number_value base digits))) size else Fault x.IntegerTooLarge) ≡ Lexeme kind found → found ≡ size
+    by : (real small : Bool) → (if real then Fault x.RealConstant else if small then LexemePiece (whole_number (pos (number_value base digits))) size else Fault x.IntegerTooLarge) ≡ LexemePiece lexeme found → found ≡ size
     by true small so = cc
     by false true so = cc
     by false false so = cc
@@ -270,26 +270,26 @@ module _ (all : List ℕ) (some : 0 < prefix_len (is_digit_of 10) all) where
           let none : radix_digits base behind ≡ [] = ap (radix_digits base) stands ∙ ap (λ b. if b then take_while (is_digit_of base) rest else []) other in
           absurd (false≢true (sym more_digits ∙ ap (λ (l : List ℕ). nat_eq (length l) 0) none))
 
-  by_digits : (size base : ℕ) (kind : TokenKind) (none : Bool) → radix whole ≡ Some base → nat_eq (length (radix_digits base behind)) 0 ≡ none
-      → (if none then integer 10 whole (length whole) behind else with_radix base whole (radix_digits base behind) behind) ≡ Lexeme kind size → IsLongest IsNumber all size
-  by_digits size base kind true named so is =
-      without_digits size base named (zero_of (length (radix_digits base behind)) so) (integer_size 10 whole (length whole) behind kind size is)
+  by_digits : (size base : ℕ) (lexeme : Lexeme) (none : Bool) → radix whole ≡ Some base → nat_eq (length (radix_digits base behind)) 0 ≡ none
+      → (if none then integer 10 whole (length whole) behind else with_radix base whole (radix_digits base behind) behind) ≡ LexemePiece lexeme size → IsLongest IsNumber all size
+  by_digits size base lexeme true named so is =
+      without_digits size base named (zero_of (length (radix_digits base behind)) so) (integer_size 10 whole (length whole) behind lexeme size is)
     where
       zero_of : (n : ℕ) → nat_eq n 0 ≡ true → n ≡ 0
       zero_of n same = grind (arith, nat_tests)
-  by_digits size base kind false named so is =
+  by_digits size base lexeme false named so is =
       by_behind size base behind named refl so
-      (integer_size base (radix_digits base behind) (length whole + (1 + length (radix_digits base behind))) (drop (1 + length (radix_digits base behind)) behind) kind size is)
+      (integer_size base (radix_digits base behind) (length whole + (1 + length (radix_digits base behind))) (drop (1 + length (radix_digits base behind)) behind) lexeme size is)
 
-  by_radix : (size : ℕ) (kind : TokenKind) (base : Option ℕ) → radix whole ≡ base → number_in base whole behind ≡ Lexeme kind size → IsLongest IsNumber all size
-  by_radix size kind None named is = without_base size named (integer_size 10 whole (length whole) behind kind size is)
-  by_radix size kind (Some base) named is = by_digits size base kind (nat_eq (length (radix_digits base behind)) 0) named refl is
+  by_radix : (size : ℕ) (lexeme : Lexeme) (base : Option ℕ) → radix whole ≡ base → number_in base whole behind ≡ LexemePiece lexeme size → IsLongest IsNumber all size
+  by_radix size lexeme None named is = without_base size named (integer_size 10 whole (length whole) behind lexeme size is)
+  by_radix size lexeme (Some base) named is = by_digits size base lexeme (nat_eq (length (radix_digits base behind)) 0) named refl is
 
 digits_in_front : (all : List ℕ) → is_digit (slice_index all 0) ≡ true → 0 < prefix_len (is_digit_of 10) all
 digits_in_front [] digit = absurd (false≢true digit)
 digits_in_front (byte ∷ rest) digit = omega (arith, prefix_more (is_digit_of 10) byte rest (digit_of_ten byte digit))
 
-pub longest_number : (all : List ℕ) (kind : TokenKind) (size : ℕ) → is_digit (slice_index all 0) ≡ true → number all ≡ Lexeme kind size → IsLongest IsNumber all size
+pub longest_number : (all : List ℕ) (lexeme : Lexeme) (size : ℕ) → is_digit (slice_index all 0) ≡ true → number all ≡ LexemePiece lexeme size → IsLongest IsNumber all size
 unfolding number
-longest_number all kind size digit is =
-    by_radix all (digits_in_front all digit) size kind (radix (take_while (is_digit_of 10) all)) refl is
+longest_number all lexeme size digit is =
+    by_radix all (digits_in_front all digit) size lexeme (radix (take_while (is_digit_of 10) all)) refl is

@@ -1,9 +1,12 @@
 -- No lexeme is the end of the source.
 use Rattle.std.proofs.Common.{ℕ, ◌+◌, Bool, true, false, subst, List, [], ◌∷◌, Option, Some, None, length, drop, rules}
 use Rattle.std.specs.List.{All, position, starts_with, take_while}
-use Rattle.std.specs.Prelude.{unwrap_or, if◌then◌else◌, nat_eq, nat_lt, nat_le, ◌^◌, ◌&&◌, codes, slice_index}
+use Rattle.std.specs.Prelude.{if◌then◌else◌, nat_eq, nat_lt, nat_le, ◌^◌, ◌&&◌, codes, slice_index}
+use Rattle.std.specs.Option.{option_map_or}
 use Rattle.std.specs.Str.{bytes_eq}
 use Rattle.std.proofs.lemmas.List.Elements.{All-cons, All-nil, All-head, All-tail}
+use Rattle.sim_base.specs.Lexeme.{bare, named}
+use Rattle.sim_base.specs.declared.token.Lexeme.{Lexeme}
 use Rattle.sim_base.specs.declared.token.Token.{Token}
 use Rattle.sim_base.specs.declared.token.TokenKind.{TokenKind}
 use Rattle.sim_base.specs.declared.token.TokenKind.TheVariants as k
@@ -12,16 +15,16 @@ use Rattle.sim_lexer.specs.Claims.{IsNoEnd}
 use Rattle.sim_lexer.specs.Constants.{Code, character, code_form, coded_character, integer, is_real_behind, number, number_in, number_value, plain_character, radix, radix_digits}
 use Rattle.sim_lexer.specs.Pieces.{begun_by, comment, comment_to, lower_word, percent_line, piece, word}
 use Rattle.sim_lexer.specs.Signs.{sign_in, sign, signs_of_more, signs_of_one}
-use Rattle.sim_lexer.specs.Spelling.{Writes, lexeme_writes, text_writes, else_behind, joined_kind, neighbours, text_behind, then_behind, with_next}
+use Rattle.sim_lexer.specs.Spelling.{Writes, lexeme_writes, text_writes, joined_by, joined_lexeme, neighbours, with_next}
 use Rattle.sim_lexer.specs.EndComments.{is_directive}
-use Rattle.sim_lexer.specs.Piece.{Piece, Nothing, Separator, Lexeme, Quote, Fault}
+use Rattle.sim_lexer.specs.Piece.{Piece, Nothing, Separator, Lexeme as LexemePiece, Quote, Fault}
 use Rattle.sim_lexer.specs.Words.{Row, is_left_out, keyword, look_up, or_else, words_a_to_d, words_e_to_h, words_i_to_n, words_o_to_s, words_t_to_z}
 
 abbrev pub GivesNoEnd : Piece → Type 0
 GivesNoEnd Nothing = Unit {0}
 GivesNoEnd (Separator size) = Unit {0}
 GivesNoEnd Quote = Unit {0}
-GivesNoEnd (Lexeme kind size) = IsNoEnd kind
+GivesNoEnd (LexemePiece lexeme size) = IsNoEnd lexeme.kind
 GivesNoEnd (Fault rule) = Unit {0}
 
 abbrev IsNoEndIf : Option TokenKind → Type 0
@@ -53,7 +56,7 @@ no_end-keyword bytes =
     (or_other (look_up words_i_to_n bytes) _ (looked_up words_i_to_n bytes (search rules))
     (or_other (look_up words_o_to_s bytes) _ (looked_up words_o_to_s bytes (search rules)) (looked_up words_t_to_z bytes (search rules)))))
 
-or_identifier : (kind : Option TokenKind) (bytes : List ℕ) → IsNoEndIf kind → IsNoEnd (unwrap_or kind (k.Identifier bytes))
+or_identifier : (kind : Option TokenKind) (bytes : List ℕ) → IsNoEndIf kind → IsNoEnd (option_map_or bare kind (named bytes)).kind
 or_identifier None bytes none = tt
 or_identifier (Some kind) bytes none = none
 
@@ -126,41 +129,33 @@ no_end-piece begins_line [] = tt
 no_end-piece begins_line (byte ∷ rest) = either (begins_line && nat_eq byte 37) _ _ (no_end-percent (byte ∷ rest)) (no_end-begun byte (byte ∷ rest))
 
 -- a lexeme writes no end of the source
-pub no_end-written : (begins_line : Bool) (all : List ℕ) {lexeme rest : List ℕ} {kind : TokenKind} → Writes (piece begins_line all) lexeme rest kind → IsNoEnd kind
+pub no_end-written : (begins_line : Bool) (all : List ℕ) {written rest : List ℕ} {lexeme : Lexeme} → Writes (piece begins_line all) written rest lexeme → IsNoEnd lexeme.kind
 no_end-written begins_line all (lexeme_writes is) = subst GivesNoEnd is (no_end-piece begins_line all)
 no_end-written begins_line all (text_writes is d) = tt
 
 -- Tokens that are joined are no end of the source.
 
 abbrev pub IsInside : Token → Type 0
-IsInside token = IsNoEnd token.kind
+IsInside token = IsNoEnd token.lexeme.kind
 
-behind_text : (bytes : List ℕ) (next : TokenKind) → IsNoEndIf (text_behind bytes next)
-behind_text bytes (k.Text more) = tt
-behind_text bytes _ = tt
+abbrev JoinsNoEnd : Option Lexeme → Type 0
+JoinsNoEnd None = Unit {0}
+JoinsNoEnd (Some lexeme) = IsNoEnd lexeme.kind
 
-behind_and : (next : TokenKind) → IsNoEndIf (then_behind next)
-behind_and k.Then = tt
-behind_and _ = tt
+no_end-joined : (first second : TokenKind) (bytes more : List ℕ) → JoinsNoEnd (joined_by first second bytes more)
+no_end-joined k.Text k.Text bytes more = tt
+no_end-joined k.And k.Then bytes more = tt
+no_end-joined k.Or k.Else bytes more = tt
+no_end-joined first second bytes more = tt
 
-behind_or : (next : TokenKind) → IsNoEndIf (else_behind next)
-behind_or k.Else = tt
-behind_or _ = tt
-
-no_end-joined : (first next : TokenKind) → IsNoEndIf (joined_kind first next)
-no_end-joined (k.Text bytes) next = behind_text bytes next
-no_end-joined k.And next = behind_and next
-no_end-joined k.Or next = behind_or next
-no_end-joined _ next = tt
-
-inside-neighbours : (made : Option TokenKind) (first next : Token) → IsNoEndIf made → IsInside first → IsInside next → All IsInside (neighbours made first next)
+inside-neighbours : (made : Option Lexeme) (first next : Token) → JoinsNoEnd made → IsInside first → IsInside next → All IsInside (neighbours made first next)
 inside-neighbours None first next none here there = All-cons IsInside first (next ∷ []) here (All-cons IsInside next [] there (All-nil IsInside))
-inside-neighbours (Some kind) first next none here there = All-cons IsInside (record { kind = kind; place = first.place; line = first.line }) [] none (All-nil IsInside)
+inside-neighbours (Some lexeme) first next none here there = All-cons IsInside (record first { lexeme = lexeme }) [] none (All-nil IsInside)
 
 -- one more token
 pub inside-next : (tokens : List Token) (next : Token) → All IsInside tokens → IsInside next → All IsInside (with_next tokens next)
 inside-next [] next before here = All-cons IsInside next [] here (All-nil IsInside)
-inside-next (last ∷ []) next before here = inside-neighbours (joined_kind last.kind next.kind) last next (no_end-joined last.kind next.kind) (All-head IsInside last [] before) here
+inside-next (last ∷ []) next before here = inside-neighbours (joined_lexeme last.lexeme next.lexeme) last next (no_end-joined last.lexeme.kind next.lexeme.kind _ _) (All-head IsInside last [] before) here
 inside-next (first ∷ second ∷ rest) next before here =
     All-cons IsInside first (with_next (second ∷ rest) next) (All-head IsInside first (second ∷ rest) before)
     (inside-next (second ∷ rest) next (All-tail IsInside first (second ∷ rest) before) here)

@@ -1,10 +1,10 @@
 -- A source reads as one answer at most.
 use Rattle.std.proofs.Common.{◌≡◌, ℕ, Bool, List, [], ◌++◌, refl, ap, sym, ◌∙◌, subst, drop, take, length, length-append, arith}
 use Rattle.std.proofs.lemmas.List.{take_at, drop_at}
+use Rattle.sim_base.specs.Lexeme.{text}
 use Rattle.sim_base.specs.declared.rule.Rule.{Rule}
-use Rattle.sim_base.specs.declared.token.TokenKind.{TokenKind}
-use Rattle.sim_base.specs.declared.token.TokenKind.TheVariants as k
-use Rattle.sim_lexer.specs.Piece.{Piece, Separator, Lexeme, Fault}
+use Rattle.sim_base.specs.declared.token.Lexeme.{Lexeme}
+use Rattle.sim_lexer.specs.Piece.{Piece, Separator, Lexeme as LexemePiece, Fault}
 use Rattle.sim_lexer.specs.Pieces.{piece}
 use Rattle.sim_lexer.specs.Spelling.{Lexed, Broken, Breaks, piece_breaks, text_breaks, Reads, too_long, reads, Spells, ends, passes, gives, breaks, Writes, lexeme_writes, text_writes, begins_line, token, with_token, with_joined}
 use Rattle.sim_lexer.specs.Texts.{Content}
@@ -15,10 +15,10 @@ use Rattle.sim_lexer.proofs.TextLemmas.{one_content}
 same_size : {front : Piece} {m n : ℕ} → front ≡ Separator m → front ≡ Separator n → m ≡ n
 same_size first second = cc
 
-same_kind : {front : Piece} {k l : TokenKind} {m n : ℕ} → front ≡ Lexeme k m → front ≡ Lexeme l n → k ≡ l
-same_kind first second = cc
+same_lexeme : {front : Piece} {k l : Lexeme} {m n : ℕ} → front ≡ LexemePiece k m → front ≡ LexemePiece l n → k ≡ l
+same_lexeme first second = cc
 
-same_length : {front : Piece} {k l : TokenKind} {m n : ℕ} → front ≡ Lexeme k m → front ≡ Lexeme l n → m ≡ n
+same_length : {front : Piece} {k l : Lexeme} {m n : ℕ} → front ≡ LexemePiece k m → front ≡ LexemePiece l n → m ≡ n
 same_length first second = cc
 
 same_rule : {front : Piece} {r q : Rule} → front ≡ Fault r → front ≡ Fault q → r ≡ q
@@ -27,14 +27,14 @@ same_rule first second = cc
 same_sizes : (p r q s : List ℕ) → p ++ r ≡ q ++ s → r ≡ s → length p ≡ length q
 same_sizes p r q s whole rests = omega (arith, ap length whole, ap length rests, length-append p r, length-append q s)
 
-same_written : {front : Piece} {all p r q s : List ℕ} {k l : TokenKind} → all ≡ p ++ r → all ≡ q ++ s → Writes front p r k → Writes front q s l → (k ≡ l) × (length p ≡ length q)
-same_written first second (lexeme_writes e) (lexeme_writes f) = (same_kind e f, same_length e f)
+same_written : {front : Piece} {all p r q s : List ℕ} {k l : Lexeme} → all ≡ p ++ r → all ≡ q ++ s → Writes front p r k → Writes front q s l → (k ≡ l) × (length p ≡ length q)
+same_written first second (lexeme_writes e) (lexeme_writes f) = (same_lexeme e f, same_length e f)
 same_written first second (lexeme_writes e) (text_writes f d) = cc
 same_written first second (text_writes e d) (lexeme_writes f) = cc
 same_written {p = p} {r = r} {q = q} {s = s} first second (text_writes {bytes = b} e d) (text_writes {bytes = c} f g) =
     let whole : q ++ s ≡ p ++ r = sym second ∙ first in
     let same = one_content d (subst (λ (bytes : List ℕ). Content (drop 1 bytes) c s) whole g) in
-    (ap k.Text same.0, same_sizes p r q s (sym whole) same.1)
+    (ap text same.0, same_sizes p r q s (sym whole) same.1)
 
 same_broken : {front : Piece} {all : List ℕ} {r q : Rule} → Breaks front all r → Breaks front all q → r ≡ q
 same_broken (piece_breaks e) (piece_breaks f) = same_rule e f
@@ -44,7 +44,7 @@ same_broken (text_breaks e none) (text_breaks f other) = refl
 
 -- and only one of these stands there
 
-no_separator_writes : {front : Piece} {n : ℕ} {lexeme rest : List ℕ} {kind : TokenKind} → front ≡ Separator n → Writes front lexeme rest kind → ⊥
+no_separator_writes : {front : Piece} {n : ℕ} {written rest : List ℕ} {lexeme : Lexeme} → front ≡ Separator n → Writes front written rest lexeme → ⊥
 no_separator_writes e (lexeme_writes f) = cc
 no_separator_writes e (text_writes f d) = cc
 
@@ -52,7 +52,7 @@ no_separator_breaks : {front : Piece} {n : ℕ} {all : List ℕ} {rule : Rule} �
 no_separator_breaks e (piece_breaks f) = cc
 no_separator_breaks e (text_breaks f none) = cc
 
-no_written_breaks : {front : Piece} {all lexeme rest : List ℕ} {kind : TokenKind} {rule : Rule} → all ≡ lexeme ++ rest → Writes front lexeme rest kind → Breaks front all rule → ⊥
+no_written_breaks : {front : Piece} {all written rest : List ℕ} {lexeme : Lexeme} {rule : Rule} → all ≡ written ++ rest → Writes front written rest lexeme → Breaks front all rule → ⊥
 no_written_breaks split (lexeme_writes e) (piece_breaks f) = cc
 no_written_breaks split (lexeme_writes e) (text_breaks f none) = cc
 no_written_breaks split (text_writes e d) (piece_breaks f) = cc
@@ -63,7 +63,7 @@ none_separates : (b : Bool) (n : ℕ) → piece b [] ≡ Separator n → ⊥
 unfolding piece
 none_separates b n e = cc
 
-none_writes : (b : Bool) {lexeme rest : List ℕ} {kind : TokenKind} → Writes (piece b []) lexeme rest kind → ⊥
+none_writes : (b : Bool) {written rest : List ℕ} {lexeme : Lexeme} → Writes (piece b []) written rest lexeme → ⊥
 unfolding piece
 none_writes b (lexeme_writes e) = cc
 none_writes b (text_writes e d) = cc
@@ -102,7 +102,7 @@ one_spelling (gives k p r e v d) (passes q s f is g) = absurd (no_separator_writ
 one_spelling {before} (gives {answer = a} k p r e v d) (gives l q s f w g) =
     let same = same_written e f v w in
     let there = one_spelling d (moved before p r q s (same_piece p r q s e f same.1) (same_rest p r q s e f same.1) g) in
-    ap (λ (kind : TokenKind). with_token (token before kind) a) same.0 ∙ ap (with_token (token before l)) there
+    ap (λ (lexeme : Lexeme). with_token (token before lexeme) a) same.0 ∙ ap (with_token (token before l)) there
 one_spelling (gives k p r e v d) (breaks q f) = absurd (no_written_breaks e v f)
 one_spelling {before} (breaks q e) ends = absurd (none_breaks (begins_line before) e)
 one_spelling (breaks q e) (passes p s f is g) = absurd (no_separator_breaks is e)

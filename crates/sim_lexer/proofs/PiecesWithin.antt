@@ -1,4 +1,5 @@
 -- What stands in front of the rest of a source takes at least one byte of it, and no more than there are.
+use Rattle.sim_base.specs.declared.token.Lexeme.{Lexeme}
 use Rattle.sim_base.specs.declared.token.TokenKind.{TokenKind}
 use Rattle.sim_base.specs.declared.token.TokenKind.TheVariants as k
 use Rattle.std.proofs.Common.{◌++◌, subst, length-append, ◌≡◌, ℕ, ◌+◌, ◌-◌, ◌<◌, ◌≤◌, Bool, true, false, List, [], ◌∷◌, zero, suc, Option, Some, None, length, drop, refl, sym, ap, length-drop, length-take, rules, arith}
@@ -14,7 +15,7 @@ use Rattle.std.specs.Prelude.{if◌then◌else◌, nat_eq, nat_lt, nat_le, ◌^�
 use Rattle.std.specs.Str.{bytes_eq}
 use Rattle.sim_lexer.specs.Bytes.{is_digit, is_digit_of, is_in_line, is_letter, is_separator, is_word_byte}
 use Rattle.sim_lexer.specs.Constants.{Code, character, code_form, coded_character, integer, is_real_behind, number, number_in, number_value, plain_character, radix, radix_digits}
-use Rattle.sim_lexer.specs.Pieces.{begun_by, comment, comment_behind, comment_to, lower_word, percent_line, piece, word, word_kind, word_lexeme}
+use Rattle.sim_lexer.specs.Pieces.{begun_by, comment, comment_behind, comment_to, lower_word, percent_line, piece, with_comment, word, word_lexeme}
 use Rattle.sim_lexer.specs.Signs.{sign_in, sign, signs_of_more, signs_of_one}
 use Rattle.sim_lexer.specs.Within.{EndsWithin, IsPiece, IsWithin}
 use Rattle.sim_lexer.specs.Words.{Row, is_left_out}
@@ -74,19 +75,19 @@ within-behind : (kind : TokenKind) (behind : List ℕ) → comment_behind kind b
 within-behind k.End behind = end_comment-within behind
 within-behind _ behind = omega arith
 
-within-lexeme : (kind : TokenKind) (byte : ℕ) (rest : List ℕ) → is_word_byte byte ≡ true → IsWithin (word_lexeme kind (prefix_len is_word_byte (byte ∷ rest)) (byte ∷ rest)) (byte ∷ rest)
-within-lexeme kind byte rest passing =
+within-lexeme : (lexeme : Lexeme) (byte : ℕ) (rest : List ℕ) → is_word_byte byte ≡ true → IsWithin (with_comment lexeme (prefix_len is_word_byte (byte ∷ rest)) (byte ∷ rest)) (byte ∷ rest)
+within-lexeme lexeme byte rest passing =
     let all : List ℕ = byte ∷ rest in
     let size = prefix_len is_word_byte all in
     let letters = class_piece is_word_byte byte rest passing in
-    let behind : comment_behind kind (drop size all) ≤ length all - size = subst (λ n. comment_behind kind (drop size all) ≤ n) (length-drop size all) (within-behind kind (drop size all)) in
+    let behind : comment_behind lexeme.kind (drop size all) ≤ length all - size = subst (λ n. comment_behind lexeme.kind (drop size all) ≤ n) (length-drop size all) (within-behind lexeme.kind (drop size all)) in
     fits _ _ (omega (arith, letters.some)) (omega (arith, letters.within, behind))
 
 within-word : (byte : ℕ) (rest : List ℕ) → is_letter byte ≡ true → IsWithin (word (byte ∷ rest)) (byte ∷ rest)
 unfolding word
 within-word byte rest letter =
     by_test (bytes_eq (lower_word (byte ∷ rest)) (codes "comment")) _ _ _ (λ comment. within-comment (byte ∷ rest))
-    (λ other. by_test (is_left_out (lower_word (byte ∷ rest))) _ _ _ (λ out. tt) (λ kept. within-lexeme (word_kind (lower_word (byte ∷ rest))) byte rest (word_begins byte letter)))
+    (λ other. by_test (is_left_out (lower_word (byte ∷ rest))) _ _ _ (λ out. tt) (λ kept. within-lexeme (word_lexeme (lower_word (byte ∷ rest))) byte rest (word_begins byte letter)))
 
 -- ---- numbers
 
@@ -200,7 +201,7 @@ within-piece begins_line (byte ∷ rest) =
 pub separator-some : (begins_line : Bool) (all separator : List ℕ) → piece begins_line all ≡ Separator (length separator) → 0 < length separator
 separator-some begins_line all separator is = let within = subst (λ p. IsWithin p all) is (within-piece begins_line all) in within.some
 
-pub lexeme-some : (begins_line : Bool) (all lexeme rest : List ℕ) {kind : TokenKind} → Writes (piece begins_line all) lexeme rest kind → 0 < length lexeme
-lexeme-some begins_line all lexeme rest (lexeme_writes is) = let within = subst (λ p. IsWithin p all) is (within-piece begins_line all) in within.some
-lexeme-some begins_line all lexeme rest (text_writes is d) =
-    omega (arith, content_within d, length-drop 1 (lexeme ++ rest), length-append lexeme rest)
+pub lexeme-some : (begins_line : Bool) (all written rest : List ℕ) {lexeme : Lexeme} → Writes (piece begins_line all) written rest lexeme → 0 < length written
+lexeme-some begins_line all written rest (lexeme_writes is) = let within = subst (λ p. IsWithin p all) is (within-piece begins_line all) in within.some
+lexeme-some begins_line all written rest (text_writes is d) =
+    omega (arith, content_within d, length-drop 1 (written ++ rest), length-append written rest)

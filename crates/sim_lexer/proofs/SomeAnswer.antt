@@ -2,10 +2,11 @@
 use Rattle.std.proofs.Common.{◌≡◌, ℕ, ◌<◌, ◌≤◌, zero, suc, inl, inr, List, [], ◌∷◌, ◌++◌, length, take, drop, length-drop, refl, sym, ap, subst, ◌∙◌, arith}
 use Rattle.std.proofs.lemmas.Bool.{cases_lt}
 use Rattle.std.proofs.lemmas.List.{take-append-drop, length-take-le}
+use Rattle.sim_base.specs.Lexeme.{bare, text}
 use Rattle.sim_base.specs.declared.rule.Rule.TheVariants.{SourceTooLong, TextConstantNotClosed}
-use Rattle.sim_base.specs.declared.token.TokenKind.{TokenKind}
+use Rattle.sim_base.specs.declared.token.Lexeme.{Lexeme}
 use Rattle.sim_base.specs.declared.token.TokenKind.TheVariants as k
-use Rattle.sim_lexer.specs.Piece.{Piece, Nothing, Separator, Lexeme, Quote, Fault}
+use Rattle.sim_lexer.specs.Piece.{Piece, Nothing, Separator, Lexeme as LexemePiece, Quote, Fault}
 use Rattle.sim_lexer.specs.Pieces.{piece}
 use Rattle.sim_lexer.specs.Spelling.{Lexed, Spelled, Broken, piece_breaks, text_breaks, Spells, ends, passes, gives, breaks, Reads, too_long, reads, Writes, lexeme_writes, text_writes, begins_line, token, with_token, with_joined}
 use Rattle.sim_lexer.specs.Texts.{Content}
@@ -30,22 +31,22 @@ module _ (before all : List ℕ) (shorter : (next rest : List ℕ) → length re
       let rest = shorter (before ++ take size all) (drop size all) (omega (arith, length-drop size all)) in
       (rest.0, passes (take size all) (drop size all) (split_at size all) (is ∙ ap Separator (sym (length-take-le size all within))) rest.1)
 
-  given : (kind : TokenKind) (size : ℕ) → 0 < size → size ≤ length all → Writes (piece (begins_line before) all) (take size all) (drop size all) kind → HasSpelling before all
-  given kind size some_size within writes =
+  given : (lexeme : Lexeme) (size : ℕ) → 0 < size → size ≤ length all → Writes (piece (begins_line before) all) (take size all) (drop size all) lexeme → HasSpelling before all
+  given lexeme size some_size within writes =
       let rest = shorter (before ++ take size all) (drop size all) (omega (arith, length-drop size all)) in
-      (with_token (token before kind) rest.0, gives kind (take size all) (drop size all) (split_at size all) writes rest.1)
+      (with_token (token before lexeme) rest.0, gives lexeme (take size all) (drop size all) (split_at size all) writes rest.1)
 
   quoted : piece (begins_line before) all ≡ Quote → ContentOrNone (drop 1 all) → HasSpelling before all
   quoted is (some bytes rest d) =
-      let lexeme = text_lexeme all bytes rest d in
-      given (k.Text bytes) lexeme.size lexeme.some lexeme.within (text_writes is (subst (λ (bs : List ℕ). Content (drop 1 bs) bytes (drop lexeme.size all)) (split_at lexeme.size all) lexeme.content))
+      let constant = text_lexeme all bytes rest d in
+      given (text bytes) constant.size constant.some constant.within (text_writes is (subst (λ (bs : List ℕ). Content (drop 1 bs) bytes (drop constant.size all)) (split_at constant.size all) constant.content))
   quoted is (none never) = (Broken TextConstantNotClosed (length before), breaks TextConstantNotClosed (text_breaks is never))
 
   by_piece : (front : Piece) → piece (begins_line before) all ≡ front → IsWithin front all → HasSpelling before all
-  by_piece Nothing is within = subst (HasSpelling before) (sym (none_left all within)) (Spelled (token before k.EndOfSource ∷ []), ends)
+  by_piece Nothing is within = subst (HasSpelling before) (sym (none_left all within)) (Spelled (token before (bare k.EndOfSource) ∷ []), ends)
   by_piece (Separator size) is within = passed size within.some within.within is
-  by_piece (Lexeme kind size) is within =
-      given kind size within.some within.within (lexeme_writes (is ∙ ap (Lexeme kind) (sym (length-take-le size all within.within))))
+  by_piece (LexemePiece lexeme size) is within =
+      given lexeme size within.some within.within (lexeme_writes (is ∙ ap (LexemePiece lexeme) (sym (length-take-le size all within.within))))
   by_piece Quote is within = quoted is (find_content (drop 1 all))
   by_piece (Fault rule) is within = (Broken rule (length before), breaks rule (piece_breaks is))
 

@@ -27,5 +27,5 @@ pub record IsEnded (tokens : List Token) : Type 0 where
   pub before : List Token
   pub last : Token
   pub split : tokens ≡ before ++ last ∷ []
-  pub end : last.kind ≡ k.EndOfSource
-  pub only : All (λ token. IsNoEnd token.kind) before
+  pub end : last.lexeme.kind ≡ k.EndOfSource
+  pub only : All (λ token. IsNoEnd token.lexeme.kind) before

@@ -3,8 +3,8 @@ use Rattle.std.specs.Prelude.{ℕ, ◌+◌, ◌*◌, ◌^◌, List, [], ◌∷�
 use Rattle.std.specs.List.{fold, prefix_len, take_while}
 use Rattle.std.specs.Char.{to_ascii_lowercase}
 use Rattle.std.specs.Str.{bytes_eq}
+use Rattle.sim_base.specs.Lexeme.{character as character_lexeme, whole_number}
 use Rattle.sim_base.specs.declared.rule.Rule.TheVariants as x
-use Rattle.sim_base.specs.declared.token.TokenKind.TheVariants as k
 use Rattle.sim_lexer.specs.Bytes.{digit_value, is_digit, is_digit_of}
 use Rattle.sim_lexer.specs.Piece.{Piece, Fault, Lexeme}
 
@@ -30,7 +30,7 @@ is_real_behind behind =
 unfoldable pub integer : (base : ℕ) (digits : List ℕ) (size : ℕ) (behind : List ℕ) → Piece
 integer base digits size behind =
     if is_real_behind behind then Fault x.RealConstant
-    else if nat_lt (number_value base digits) (2 ^ 63) then Lexeme (k.Integer (pos (number_value base digits))) size
+    else if nat_lt (number_value base digits) (2 ^ 63) then Lexeme (whole_number (pos (number_value base digits))) size
     else Fault x.IntegerTooLarge
 
 -- the base that stands before an `R`
@@ -88,13 +88,13 @@ code_form (mark ∷ rest) =
 -- a character constant: the form `!n!` is tried first, then one byte from 32 on
 abbrev pub plain_character : List ℕ → Piece
 plain_character all =
-    if nat_le 32 (slice_index all 1) && nat_eq (slice_index all 2) 39 then Lexeme (k.Character (slice_index all 1)) 3
+    if nat_le 32 (slice_index all 1) && nat_eq (slice_index all 2) 39 then Lexeme (character_lexeme (slice_index all 1)) 3
     else Fault x.BadCharacterConstant
 
 abbrev pub coded_character : Option Code → List ℕ → Piece
 coded_character None all = plain_character all
 coded_character (Some form) all =
-    if nat_eq (slice_index all (1 + form.size)) 39 then Lexeme (k.Character form.byte) (form.size + 2)
+    if nat_eq (slice_index all (1 + form.size)) 39 then Lexeme (character_lexeme form.byte) (form.size + 2)
     else plain_character all
 
 unfoldable pub character : List ℕ → Piece

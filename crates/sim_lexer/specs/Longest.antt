@@ -2,10 +2,10 @@
 use Rattle.std.specs.Prelude.{ℕ, ◌≡◌, ◌+◌, ◌<◌, ◌≤◌, List, ◌∷◌, ◌++◌, Some, true, drop, length, map, nat_eq, take}
 use Rattle.std.specs.Char.{to_ascii_lowercase}
 use Rattle.std.specs.List.{All}
-use Rattle.sim_base.specs.declared.token.TokenKind.{TokenKind}
+use Rattle.sim_base.specs.declared.token.Lexeme.{Lexeme}
 use Rattle.sim_lexer.specs.Bytes.{is_digit_of, is_letter, is_word_byte}
 use Rattle.sim_lexer.specs.Constants.{radix}
-use Rattle.sim_lexer.specs.Pieces.{comment_behind, word_kind}
+use Rattle.sim_lexer.specs.Pieces.{comment_behind, word_lexeme}
 
 -- so many bytes in front are such, and no greater number of bytes in front is
 pub record IsLongest (Is : List ℕ → Type 0) (all : List ℕ) (size : ℕ) : Type 0 where
@@ -22,11 +22,11 @@ pub record IsWord (bytes : List ℕ) : Type 0 where
   pub all : All (λ byte. is_word_byte byte ≡ true) rest
 
 -- the longest word in front, as what it is; `end` takes its comment along
-pub record IsLongestWord (all : List ℕ) (kind : TokenKind) (size : ℕ) : Type 0 where
+pub record IsLongestWord (all : List ℕ) (lexeme : Lexeme) (size : ℕ) : Type 0 where
   pub letters : ℕ
   pub longest : IsLongest IsWord all letters
-  pub kind_is : kind ≡ word_kind (map to_ascii_lowercase (take letters all))
-  pub size_is : size ≡ letters + comment_behind kind (drop letters all)
+  pub lexeme_is : lexeme ≡ word_lexeme (map to_ascii_lowercase (take letters all))
+  pub size_is : size ≡ letters + comment_behind lexeme.kind (drop letters all)
 
 -- digits of a base, one or more
 pub record AreDigits (base : ℕ) (digits : List ℕ) : Type 0 where

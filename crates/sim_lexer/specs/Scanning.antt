@@ -1,20 +1,20 @@
 -- How the code hands on what it has scanned.
 use Rattle.std.specs.Prelude.{ℕ, ◌≡◌, ◌+◌, ◌<◌, ◌≤◌, List, [], ◌∷◌, Option, Some, None, Bool, true, false, drop, length, nat_eq, not, slice_index, if◌then◌else◌}
 use Rattle.std.specs.List.{fold}
+use Rattle.sim_base.specs.Lexeme.{text}
 use Rattle.sim_base.specs.declared.rule.Rule.TheVariants as x
+use Rattle.sim_base.specs.declared.token.Lexeme.{Lexeme}
 use Rattle.sim_base.specs.declared.token.Token.{Token}
 use Rattle.sim_base.specs.declared.token.TokenKind.{TokenKind}
 use Rattle.sim_base.specs.declared.token.TokenKind.TheVariants as k
 use Rattle.sim_lexer.specs.Bytes.{is_between, is_line_feed, is_text_byte}
 use Rattle.sim_lexer.specs.Constants.{Code, code_form}
 use Rattle.sim_lexer.specs.EndComments.{Spot, LineStart, Elsewhere}
-use Rattle.sim_lexer.specs.Piece.{Piece, Separator, Lexeme, Quote, Fault}
+use Rattle.sim_lexer.specs.Piece.{Piece, Separator, Lexeme as LexemePiece, Quote, Fault}
 use Rattle.sim_lexer.specs.Texts.{Content}
 use Rattle.sim_lexer.specs.declared.constants.CodeForm.{CodeForm}
 use Rattle.sim_lexer.specs.declared.item.Item.{Item}
 use Rattle.sim_lexer.specs.declared.item.Item.TheVariants as item
-use Rattle.sim_lexer.specs.declared.joining.Pair.{Pair}
-use Rattle.sim_lexer.specs.declared.joining.Pair.TheVariants.{One, Two}
 use Rattle.sim_lexer.specs.declared.position.Position.{Position}
 use Rattle.sim_lexer.specs.declared.texts.TextPiece.{TextPiece}
 use Rattle.sim_lexer.specs.declared.texts.TextPiece.TheVariants.{Closing, Means, Bad}
@@ -33,20 +33,20 @@ past_byte at byte =
 abbrev pub past : Position → List ℕ → Position
 past at bytes = fold past_byte at bytes
 
-abbrev pub token_at : Position → TokenKind → Token
-token_at at kind = record { kind = kind; place = at.place; line = record { 0 = at.line } }
+abbrev pub token_at : Position → Lexeme → Token
+token_at at lexeme = record { lexeme = lexeme; place = at.place; line = record { 0 = at.line } }
 
 -- ---- pieces
 
 -- the piece that an item is
 abbrev pub piece_of : Item → Piece
 piece_of (item.Skipped size) = Separator size
-piece_of (item.Lexeme kind size) = Lexeme kind size
+piece_of (item.Lexeme lexeme size) = LexemePiece lexeme size
 piece_of (item.Fault rule) = Fault rule
 
 -- what stands in front of all these bytes, behind an opening quote: a text constant, or none
 pub data IsText (all : List ℕ) : Item → Type 0 where
-  closed : (bytes : List ℕ) (size : ℕ) → size ≤ length all → Content (drop 1 all) bytes (drop size all) → IsText all (item.Lexeme (k.Text bytes) size)
+  closed : (bytes : List ℕ) (size : ℕ) → size ≤ length all → Content (drop 1 all) bytes (drop size all) → IsText all (item.Lexeme (text bytes) size)
   unclosed : ((bytes rest : List ℕ) → Content (drop 1 all) bytes rest → ⊥) → IsText all (item.Fault x.TextConstantNotClosed)
 
 -- the item is what stands in front
@@ -86,20 +86,16 @@ IsPieceOf Bad all = Unit {0}
 
 -- ---- neighbours
 
-abbrev pub pair_of : Option TokenKind → TokenKind → TokenKind → Pair
-pair_of None first next = Two first next
-pair_of (Some kind) first next = One kind
-
 -- a token of this kind may be one with the next
 abbrev pub may_join : TokenKind → Bool
-may_join (k.Text bytes) = true
+may_join k.Text = true
 may_join k.And = true
 may_join k.Or = true
 may_join kind = false
 
 abbrev pub last_may_join : List Token → Bool
 last_may_join [] = false
-last_may_join (last ∷ []) = may_join last.kind
+last_may_join (last ∷ []) = may_join last.lexeme.kind
 last_may_join (first ∷ second ∷ rest) = last_may_join (second ∷ rest)
 
 -- ---- words

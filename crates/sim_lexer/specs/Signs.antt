@@ -1,6 +1,7 @@
 -- The tokens that are written by signs.
 use Rattle.std.specs.Prelude.{ℕ, ◌≡◌, ◌≤◌, List, [], ◌∷◌, ◌++◌, true, ◌&&◌, codes, length, nat_eq, slice_index, if◌then◌else◌}
 use Rattle.std.specs.List.{starts_with}
+use Rattle.sim_base.specs.Lexeme.{bare}
 use Rattle.sim_base.specs.declared.rule.Rule.TheVariants as x
 use Rattle.sim_base.specs.declared.token.TokenKind.TheVariants as k
 use Rattle.sim_lexer.specs.Bytes.{is_digit}
@@ -49,7 +50,7 @@ IsNoLonger all size row = starts_with nat_eq all row.0 ≡ true → length row.0
 -- the first sign of a table that stands in front, else the piece that another table gives
 abbrev pub sign_in : List Row → (all : List ℕ) → Piece → Piece
 sign_in [] all other = other
-sign_in (row ∷ rows) all other = if starts_with nat_eq all row.0 then Lexeme row.1 (length row.0) else sign_in rows all other
+sign_in (row ∷ rows) all other = if starts_with nat_eq all row.0 then Lexeme (bare row.1) (length row.0) else sign_in rows all other
 
 -- the longest sign in front; a `.` with a digit behind it is a real constant
 unfoldable pub sign : List ℕ → Piece

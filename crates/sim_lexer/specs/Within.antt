@@ -11,7 +11,7 @@ pub record IsPiece (size most : ℕ) : Type 0 where
 abbrev pub EndsWithin : Piece → ℕ → Type 0
 EndsWithin Nothing most = most ≡ 0
 EndsWithin (Separator size) most = IsPiece size most
-EndsWithin (Lexeme kind size) most = IsPiece size most
+EndsWithin (Lexeme lexeme size) most = IsPiece size most
 EndsWithin Quote most = Unit {0}
 EndsWithin (Fault rule) most = Unit {0}
 

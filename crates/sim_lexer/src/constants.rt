@@ -1,11 +1,12 @@
 //! Integer and character constants.
 ghost use Rattle.std.specs.Prelude.{◌≡◌, ◌+◌, ◌<◌, ◌≤◌, ◌^◌, length, IfSome, MatchOption};
+ghost use Rattle.sim_base.specs.Lexeme.{character as character_lexeme, whole_number};
 ghost use Rattle.sim_lexer.specs.Constants.{character, closed_form, code_form, integer, is_real_behind, is_scale, number, number_in, number_value, one_more, plain_character, radix, radix_digits};
 ghost use Rattle.sim_lexer.specs.Scanning.{code_of, piece_of};
 
 use crate::bytes::{byte_at, digit_value, digits_len};
 use crate::item::Item;
-use sim_base::{Rule, TokenKind};
+use sim_base::{Lexeme, Rule, TokenKind, TokenValue};
 
 /// The form `!n!`: the byte that it stands for, and how many bytes it takes.
 #[derive(Clone, Copy, Debug, PartialEq, Eq)]
@@ -89,8 +90,18 @@ fn integer(base: u8, digits: &[u8], size: usize, behind: &[u8]) -> Item
         return Item::Fault(Rule::RealConstant);
     }
     match number_value(base, digits) {
-        Some(number) => Item::Lexeme(TokenKind::Integer(number as i64), size),
+        Some(number) => Item::Lexeme(whole_number(number as i64), size),
         None => Item::Fault(Rule::IntegerTooLarge),
+    }
+}
+
+// The lexeme of an integer constant.
+fn whole_number(number: i64) -> Lexeme
+    ensures lexeme { result ≡ whole_number number }
+{
+    Lexeme {
+        kind: TokenKind::Integer,
+        value: TokenValue::Integer(number),
     }
 }
 
@@ -180,7 +191,7 @@ pub(crate) fn character_item(rest: &[u8]) -> Item
 {
     match code_form(rest.split_at(1).1) {
         Some(form) if byte_at(rest, 1 + form.size) == b'\'' => {
-            Item::Lexeme(TokenKind::Character(form.byte), form.size + 2)
+            Item::Lexeme(character(form.byte), form.size + 2)
         }
         _ => plain_character(rest),
     }
@@ -192,8 +203,18 @@ fn plain_character(rest: &[u8]) -> Item
 {
     let byte = byte_at(rest, 1);
     if byte >= b' ' && byte_at(rest, 2) == b'\'' {
-        Item::Lexeme(TokenKind::Character(byte), 3)
+        Item::Lexeme(character(byte), 3)
     } else {
         Item::Fault(Rule::BadCharacterConstant)
+    }
+}
+
+// The lexeme of a character constant.
+fn character(code: u8) -> Lexeme
+    ensures lexeme { result ≡ character_lexeme code }
+{
+    Lexeme {
+        kind: TokenKind::Character,
+        value: TokenValue::Character(code),
     }
 }

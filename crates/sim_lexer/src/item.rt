@@ -2,7 +2,7 @@
 ghost use Rattle.std.specs.Prelude.{◌≡◌, ◌+◌, ◌<◌, ◌≤◌, ◌^◌, length, nat_eq, slice_get, IfOk, IfSome, Some};
 ghost use Rattle.std.specs.List.{position, prefix_len, take_while};
 ghost use Rattle.sim_lexer.specs.Bytes.{is_word_byte};
-ghost use Rattle.sim_lexer.specs.Pieces.{begun_by, comment, comment_behind, lower_word, percent_line, piece, word, word_kind, word_lexeme, word_piece};
+ghost use Rattle.sim_lexer.specs.Pieces.{begun_by, comment, comment_behind, lower_word, percent_line, piece, with_comment, word, word_lexeme, word_piece};
 ghost use Rattle.sim_lexer.specs.Scanning.{IsItem, is_no_capital, piece_of};
 
 use crate::bytes::{is_separator, is_word_byte, line_len, word_len};
@@ -11,7 +11,7 @@ use crate::end_comments::{end_comment, is_directive, is_percent_line};
 use crate::signs::sign_item;
 use crate::texts::text_item;
 use crate::words::{is_left_out, keyword};
-use sim_base::{ByteString, Rule, TokenKind};
+use sim_base::{ByteString, Lexeme, Rule, TokenKind, TokenValue};
 use std::alloc::{AllocError, Global};
 
 /// What stands in front.
@@ -19,8 +19,8 @@ use std::alloc::{AllocError, Global};
 pub enum Item {
     /// So many bytes that spell no token: a blank, a line feed, a comment or an empty line.
     Skipped(usize),
-    /// A token and the number of bytes that spell it, for `end` with those of its comment.
-    Lexeme(TokenKind, usize),
+    /// A lexeme and the number of bytes that spell it, for `end` with those of its comment.
+    Lexeme(Lexeme, usize),
     /// A rule is broken at the first byte.
     Fault(Rule),
 }
@@ -150,23 +150,23 @@ fn item_of_word(alloc: Global, word: &[u8], rest: &[u8]) -> Result<Item, AllocEr
     } else if is_left_out(word) {
         Ok(Item::Fault(Rule::WordLeftOut))
     } else {
-        Ok(word_lexeme(word_kind(alloc, word)?, rest))
+        Ok(with_comment(word_lexeme(alloc, word)?, rest))
     }
 }
 
 // The lexeme of the word in front: `end` takes its comment along.
-fn word_lexeme(kind: TokenKind, rest: &[u8]) -> Item
+fn with_comment(lexeme: Lexeme, rest: &[u8]) -> Item
     requires { length rest.now < 2 ^ 62 }
-    ensures item { word_lexeme kind (prefix_len is_word_byte rest.now) rest.now ≡ piece_of result }
+    ensures item { with_comment lexeme (prefix_len is_word_byte rest.now) rest.now ≡ piece_of result }
 {
     let size = word_len(rest);
-    let behind = comment_behind(&kind, rest.split_at(size).1);
-    Item::Lexeme(kind, size + behind)
+    let behind = comment_behind(lexeme.kind, rest.split_at(size).1);
+    Item::Lexeme(lexeme, size + behind)
 }
 
 // How many bytes behind a word belong to it.
-fn comment_behind(kind: &TokenKind, behind: &[u8]) -> usize
-    ensures len { result ≡ comment_behind kind.now behind.now }
+fn comment_behind(kind: TokenKind, behind: &[u8]) -> usize
+    ensures len { result ≡ comment_behind kind behind.now }
     ensures within { result ≤ length behind.now }
 {
     match kind {
@@ -176,11 +176,14 @@ fn comment_behind(kind: &TokenKind, behind: &[u8]) -> usize
 }
 
 // A keyword or an identifier.
-fn word_kind(alloc: Global, word: &[u8]) -> Result<TokenKind, AllocError>
-    ensures kind { IfOk result (λ kind. kind ≡ word_kind word.now) }
+fn word_lexeme(alloc: Global, word: &[u8]) -> Result<Lexeme, AllocError>
+    ensures lexeme { IfOk result (λ lexeme. lexeme ≡ word_lexeme word.now) }
 {
     match keyword(word) {
-        Some(kind) => Ok(kind),
-        None => Ok(TokenKind::Identifier(ByteString::new(Vec::from_slice(alloc, word)?))),
+        Some(kind) => Ok(Lexeme::bare(kind)),
+        None => Ok(Lexeme {
+            kind: TokenKind::Identifier,
+            value: TokenValue::Bytes(ByteString::new(Vec::from_slice(alloc, word)?)),
+        }),
     }
 }

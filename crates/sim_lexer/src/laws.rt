@@ -3,12 +3,12 @@ ghost use Rattle.std.specs.Prelude.{◌≡◌, ◌≤◌, ℕ, List, true, lengt
 ghost use Rattle.std.specs.List.{All};
 ghost use Rattle.sim_base.specs.Place.{line_at};
 ghost use Rattle.sim_base.specs.declared.rule.Rule.{Rule as AnyRule};
+ghost use Rattle.sim_base.specs.declared.token.Lexeme.{Lexeme as AnyLexeme};
 ghost use Rattle.sim_base.specs.declared.token.Token.{Token as AnyToken};
-ghost use Rattle.sim_base.specs.declared.token.TokenKind.{TokenKind as AnyKind};
 ghost use Rattle.sim_lexer.specs.Bytes.{is_digit, is_letter};
 ghost use Rattle.sim_lexer.specs.Constants.{number};
 ghost use Rattle.sim_lexer.specs.Longest.{IsLongest, IsLongestWord, IsNumber};
-ghost use Rattle.sim_lexer.specs.Piece.{Lexeme};
+ghost use Rattle.sim_lexer.specs.Piece.{Lexeme as LexemePiece};
 ghost use Rattle.sim_lexer.specs.Pieces.{word};
 ghost use Rattle.sim_lexer.specs.Signs.{IsNoLonger, sign, signs};
 ghost use Rattle.sim_lexer.specs.Spelling.{Broken, Lexed, Reads, Spelled};
@@ -30,19 +30,19 @@ pub fn places_and_lines()
 
 /// Of the tokens that are written by signs the longest is taken: no sign of the table that stands in front has more bytes.
 pub fn longest_sign()
-    ensures longest { (all : List ℕ) (kind : AnyKind) (size : ℕ) → sign all ≡ Lexeme kind size → All (IsNoLonger all size) signs }
+    ensures longest { (all : List ℕ) (lexeme : AnyLexeme) (size : ℕ) → sign all ≡ LexemePiece lexeme size → All (IsNoLonger all size) signs }
 {}
 
 /// Of the words that stand in front the longest is taken: where a letter stands in front and a token is spelled there, no
 /// more bytes from there on are a word.
 pub fn longest_word()
-    ensures longest { (all : List ℕ) (kind : AnyKind) (size : ℕ) → is_letter (slice_index all 0) ≡ true → word all ≡ Lexeme kind size
-        → IsLongestWord all kind size }
+    ensures longest { (all : List ℕ) (lexeme : AnyLexeme) (size : ℕ) → is_letter (slice_index all 0) ≡ true → word all ≡ LexemePiece lexeme size
+        → IsLongestWord all lexeme size }
 {}
 
 /// Of the numbers that stand in front the longest is taken: where a digit stands in front and a token is spelled there, no
 /// more bytes from there on are a number.
 pub fn longest_number()
-    ensures longest { (all : List ℕ) (kind : AnyKind) (size : ℕ) → is_digit (slice_index all 0) ≡ true → number all ≡ Lexeme kind size
+    ensures longest { (all : List ℕ) (lexeme : AnyLexeme) (size : ℕ) → is_digit (slice_index all 0) ≡ true → number all ≡ LexemePiece lexeme size
         → IsLongest IsNumber all size }
 {}

@@ -6,7 +6,7 @@ ghost use Rattle.sim_lexer.specs.Signs.{sign, sign_in, signs_of_more, signs_of_o
 
 use crate::bytes::byte_at;
 use crate::item::Item;
-use sim_base::{Rule, TokenKind};
+use sim_base::{Lexeme, Rule, TokenKind};
 
 /// The longest sign in front. A `.` with a digit behind it is a real constant, and a byte that begins no sign begins
 /// no token.
@@ -25,23 +25,23 @@ fn long_sign(rest: &[u8]) -> Item
     ensures item { sign_in signs_of_more rest.now (sign_in signs_of_one rest.now (AnyFault Rule.ByteBeginsNoToken)) ≡ piece_of result }
 {
     if rest.starts_with(b"=/=") {
-        Item::Lexeme(TokenKind::OtherReference, 3)
+        Item::Lexeme(Lexeme::bare(TokenKind::OtherReference), 3)
     } else if rest.starts_with(b"**") {
-        Item::Lexeme(TokenKind::Power, 2)
+        Item::Lexeme(Lexeme::bare(TokenKind::Power), 2)
     } else if rest.starts_with(b"//") {
-        Item::Lexeme(TokenKind::Divide, 2)
+        Item::Lexeme(Lexeme::bare(TokenKind::Divide), 2)
     } else if rest.starts_with(b":=") {
-        Item::Lexeme(TokenKind::Assign, 2)
+        Item::Lexeme(Lexeme::bare(TokenKind::Assign), 2)
     } else if rest.starts_with(b":-") {
-        Item::Lexeme(TokenKind::AssignReference, 2)
+        Item::Lexeme(Lexeme::bare(TokenKind::AssignReference), 2)
     } else if rest.starts_with(b"==") {
-        Item::Lexeme(TokenKind::SameReference, 2)
+        Item::Lexeme(Lexeme::bare(TokenKind::SameReference), 2)
     } else if rest.starts_with(b"<=") {
-        Item::Lexeme(TokenKind::LessEqual, 2)
+        Item::Lexeme(Lexeme::bare(TokenKind::LessEqual), 2)
     } else if rest.starts_with(b">=") {
-        Item::Lexeme(TokenKind::GreaterEqual, 2)
+        Item::Lexeme(Lexeme::bare(TokenKind::GreaterEqual), 2)
     } else if rest.starts_with(b"<>") {
-        Item::Lexeme(TokenKind::NotEqual, 2)
+        Item::Lexeme(Lexeme::bare(TokenKind::NotEqual), 2)
     } else {
         short_sign(rest)
     }
@@ -52,31 +52,31 @@ fn short_sign(rest: &[u8]) -> Item
     ensures item { sign_in signs_of_one rest.now (AnyFault Rule.ByteBeginsNoToken) ≡ piece_of result }
 {
     if rest.starts_with(b"(") {
-        Item::Lexeme(TokenKind::Open, 1)
+        Item::Lexeme(Lexeme::bare(TokenKind::Open), 1)
     } else if rest.starts_with(b")") {
-        Item::Lexeme(TokenKind::Close, 1)
+        Item::Lexeme(Lexeme::bare(TokenKind::Close), 1)
     } else if rest.starts_with(b",") {
-        Item::Lexeme(TokenKind::Comma, 1)
+        Item::Lexeme(Lexeme::bare(TokenKind::Comma), 1)
     } else if rest.starts_with(b";") {
-        Item::Lexeme(TokenKind::Semicolon, 1)
+        Item::Lexeme(Lexeme::bare(TokenKind::Semicolon), 1)
     } else if rest.starts_with(b":") {
-        Item::Lexeme(TokenKind::Colon, 1)
+        Item::Lexeme(Lexeme::bare(TokenKind::Colon), 1)
     } else if rest.starts_with(b".") {
-        Item::Lexeme(TokenKind::Dot, 1)
+        Item::Lexeme(Lexeme::bare(TokenKind::Dot), 1)
     } else if rest.starts_with(b"+") {
-        Item::Lexeme(TokenKind::Plus, 1)
+        Item::Lexeme(Lexeme::bare(TokenKind::Plus), 1)
     } else if rest.starts_with(b"-") {
-        Item::Lexeme(TokenKind::Minus, 1)
+        Item::Lexeme(Lexeme::bare(TokenKind::Minus), 1)
     } else if rest.starts_with(b"*") {
-        Item::Lexeme(TokenKind::Times, 1)
+        Item::Lexeme(Lexeme::bare(TokenKind::Times), 1)
     } else if rest.starts_with(b"&") {
-        Item::Lexeme(TokenKind::Ampersand, 1)
+        Item::Lexeme(Lexeme::bare(TokenKind::Ampersand), 1)
     } else if rest.starts_with(b"=") {
-        Item::Lexeme(TokenKind::Equal, 1)
+        Item::Lexeme(Lexeme::bare(TokenKind::Equal), 1)
     } else if rest.starts_with(b"<") {
-        Item::Lexeme(TokenKind::Less, 1)
+        Item::Lexeme(Lexeme::bare(TokenKind::Less), 1)
     } else if rest.starts_with(b">") {
-        Item::Lexeme(TokenKind::Greater, 1)
+        Item::Lexeme(Lexeme::bare(TokenKind::Greater), 1)
     } else {
         Item::Fault(Rule::ByteBeginsNoToken)
     }

@@ -8,7 +8,7 @@ use crate::item::{Item, item_in_front};
 use crate::joining::add;
 use crate::position::{Position, past};
 use crate::refusal::LexRefusal;
-use sim_base::{Line, Rule, Token, TokenKind};
+use sim_base::{Lexeme, Line, Rule, Token, TokenKind};
 use std::alloc::Global;
 
 /// The greatest number of bytes that a source may have.
@@ -54,7 +54,8 @@ fn read(alloc: Global, source: &[u8]) -> Result<Vec<Token>, LexRefusal>
     let mut rest = source;
     'items: loop {
         let [byte, ..] = rest else {
-            add(&mut tokens, token(at, TokenKind::EndOfSource))?;
+            let end = Lexeme::bare(TokenKind::EndOfSource);
+            add(alloc, &mut tokens, token(at, end))?;
             return Ok(tokens);
         };
         match item_in_front(alloc, at.begins_line, *byte, rest)? {
@@ -63,9 +64,9 @@ fn read(alloc: Global, source: &[u8]) -> Result<Vec<Token>, LexRefusal>
                 at = past(at, piece);
                 rest = behind;
             }
-            Item::Lexeme(kind, size) => {
+            Item::Lexeme(lexeme, size) => {
                 let (piece, behind) = rest.split_at(size);
-                add(&mut tokens, token(at, kind))?;
+                add(alloc, &mut tokens, token(at, lexeme))?;
                 at = past(at, piece);
                 rest = behind;
             }
@@ -79,12 +80,12 @@ fn read(alloc: Global, source: &[u8]) -> Result<Vec<Token>, LexRefusal>
     }
 }
 
-// The token of this kind that begins here.
-fn token(at: Position, kind: TokenKind) -> Token
-    ensures token { result ≡ token_at at kind }
+// The token of this lexeme that begins here.
+fn token(at: Position, lexeme: Lexeme) -> Token
+    ensures token { result ≡ token_at at lexeme }
 {
     Token {
-        kind,
+        lexeme,
         place: at.place,
         line: Line(at.line),
     }

@@ -1,12 +1,13 @@
 //! Text constants.
 ghost use Rattle.std.specs.Prelude.{◌≡◌, ◌<◌, ◌^◌, length, IfOk};
+ghost use Rattle.sim_base.specs.Lexeme.{text};
 ghost use Rattle.sim_lexer.specs.Constants.{code_form};
 ghost use Rattle.sim_lexer.specs.Scanning.{IsPieceOf, IsText, text_byte, text_piece};
 
 use crate::bytes::is_text_byte;
 use crate::constants::code_form;
 use crate::item::Item;
-use sim_base::{ByteString, Rule, TokenKind};
+use sim_base::{ByteString, Lexeme, Rule, TokenKind, TokenValue};
 use std::alloc::{AllocError, Global};
 
 /// What stands in front behind the opening quote of a text constant.
@@ -37,12 +38,19 @@ pub(crate) fn text_item(alloc: Global, rest: &[u8]) -> Result<Item, AllocError>
                 read += size;
                 behind = behind.split_at(size).1;
             }
-            TextPiece::Closing => {
-                let kind = TokenKind::Text(ByteString::new(bytes));
-                return Ok(Item::Lexeme(kind, read + 2));
-            }
+            TextPiece::Closing => return Ok(Item::Lexeme(text(bytes), read + 2)),
             TextPiece::Bad => return Ok(Item::Fault(Rule::TextConstantNotClosed)),
         }
+    }
+}
+
+/// The text constant that means these bytes.
+pub(crate) fn text(bytes: Vec<u8>) -> Lexeme
+    ensures lexeme { result ≡ text bytes.items }
+{
+    Lexeme {
+        kind: TokenKind::Text,
+        value: TokenValue::Bytes(ByteString::new(bytes)),
     }
 }
 

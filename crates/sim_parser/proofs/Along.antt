@@ -2,7 +2,7 @@
 use Rattle.std.proofs.Common.{◌≡◌, ◌≤◌, ◌<◌, ℕ, List, [], ◌∷◌, length, None, refl, sym, subst, arith}
 use Rattle.sim_base.specs.declared.token.Token.{Token}
 use Rattle.sim_tree.specs.Grammar.{Part, Maybe, Of, Symbol, right_side}
-use Rattle.sim_tree.specs.Reading.{Forest, done, node, terminal_at, Reads, reads-done}
+use Rattle.sim_tree.specs.Reading.{Forest, done, node, kind_at, Reads, reads-done}
 use Rattle.sim_tree.specs.Tree.{limit, ReadsPart}
 use Rattle.sim_tree.proofs.Steps.{Leads, start}
 use Rattle.sim_expr_parser.specs.declared.refusal.Stop.{Stop}
@@ -58,5 +58,5 @@ closed-by {ws} {d} {i} {j} {e} {m} {n} w f r h same = record {
 pub maybe-all : {ws : List Token} {d i j : ℕ} {n : Part} {f : Forest} → ReadsPart ws d n i f j → i < length ws → ReadsAll ws d (Of Maybe n ∷ []) i (node n f done) j
 maybe-all {d = d} {i = i} {n = n} {f = f} p h = all (past (along d i (Of Maybe n ∷ []) h) (maybe p)) (node n f done) refl
 
-pub skipped-all : {ws : List Token} {d i : ℕ} {n : Part} → right_side n (terminal_at ws i) ≡ None → i < length ws → ReadsAll ws d (Of Maybe n ∷ []) i done i
+pub skipped-all : {ws : List Token} {d i : ℕ} {n : Part} → right_side n (kind_at ws i) ≡ None → i < length ws → ReadsAll ws d (Of Maybe n ∷ []) i done i
 skipped-all {d = d} {i = i} {n = n} none h = all (past (along d i (Of Maybe n ∷ []) h) (skipped none h)) done refl

@@ -1,29 +1,29 @@
 -- The grammar's table, at what the lists of `for` statements are read by.
 use Rattle.std.proofs.Common.{◌≡◌, ◌∙◌, ap, refl, false, List, [], ◌∷◌, Some, None, if◌then◌else◌}
 use Rattle.std.specs.Prelude.{◌||◌}
-use Rattle.sim_tree.specs.declared.terminal.Terminal.{Terminal}
-use Rattle.sim_tree.specs.declared.terminal.Terminal.TheVariants as t
+use Rattle.sim_base.specs.declared.token.TokenKind.{TokenKind}
+use Rattle.sim_base.specs.declared.token.TokenKind.TheVariants as k
 use Rattle.sim_tree.specs.Grammar as g
 use Rattle.sim_tree.specs.Grammar.{Symbol, Kept, Mark, Of, Once, Maybe, Many, just, is, right_side}
 
 abbrev pub values_symbols : List Symbol
-values_symbols = Kept (just t.Assign) ∷ Of Once g.ForElement ∷ Of Many g.NextForElement ∷ []
+values_symbols = Kept (just k.Assign) ∷ Of Once g.ForElement ∷ Of Many g.NextForElement ∷ []
 
 abbrev pub references_symbols : List Symbol
-references_symbols = Kept (just t.AssignReference) ∷ Of Once g.ReferenceElement ∷ Of Many g.NextReferenceElement ∷ []
+references_symbols = Kept (just k.AssignReference) ∷ Of Once g.ReferenceElement ∷ Of Many g.NextReferenceElement ∷ []
 
-pub values_row : right_side g.ForList t.Assign ≡ Some values_symbols
+pub values_row : right_side g.ForList k.Assign ≡ Some values_symbols
 unfolding right_side is
 values_row = refl
 
-pub references_row : right_side g.ForList t.AssignReference ≡ Some references_symbols
+pub references_row : right_side g.ForList k.AssignReference ≡ Some references_symbols
 unfolding right_side is
 references_row = refl
 
-pub no_list : (a : Terminal) → is a t.Assign ≡ false → is a t.AssignReference ≡ false → right_side g.ForList a ≡ None
+pub no_list : (a : TokenKind) → is a k.Assign ≡ false → is a k.AssignReference ≡ false → right_side g.ForList a ≡ None
 unfolding right_side
 no_list a h e =
-    ap (λ x. if x || false then Some values_symbols else (if is a t.AssignReference || false then Some references_symbols else None)) h
+    ap (λ x. if x || false then Some values_symbols else (if is a k.AssignReference || false then Some references_symbols else None)) h
     ∙ ap (λ x. if x || false then Some references_symbols else None) e
 
 abbrev pub element_symbols : List Symbol
@@ -33,21 +33,21 @@ abbrev pub reference_symbols : List Symbol
 reference_symbols = Of Once g.Expression ∷ Of Maybe g.ReferenceElementTail ∷ []
 
 abbrev pub step_symbols : List Symbol
-step_symbols = Kept (just t.Step) ∷ Of Once g.Expression ∷ Mark t.Until ∷ Of Once g.Expression ∷ []
+step_symbols = Kept (just k.Step) ∷ Of Once g.Expression ∷ Mark k.Until ∷ Of Once g.Expression ∷ []
 
 abbrev pub while_symbols : List Symbol
-while_symbols = Kept (just t.While) ∷ Of Once g.Expression ∷ []
+while_symbols = Kept (just k.While) ∷ Of Once g.Expression ∷ []
 
-pub step_row : right_side g.ForElementTail t.Step ≡ Some step_symbols
+pub step_row : right_side g.ForElementTail k.Step ≡ Some step_symbols
 unfolding right_side is
 step_row = refl
 
-pub while_row : right_side g.ForElementTail t.While ≡ Some while_symbols
+pub while_row : right_side g.ForElementTail k.While ≡ Some while_symbols
 unfolding right_side is
 while_row = refl
 
-pub no_tail : (a : Terminal) → is a t.Step ≡ false → is a t.While ≡ false → right_side g.ForElementTail a ≡ None
+pub no_tail : (a : TokenKind) → is a k.Step ≡ false → is a k.While ≡ false → right_side g.ForElementTail a ≡ None
 unfolding right_side
 no_tail a h e =
-    ap (λ x. if x || false then Some step_symbols else (if is a t.While || false then Some while_symbols else None)) h
+    ap (λ x. if x || false then Some step_symbols else (if is a k.While || false then Some while_symbols else None)) h
     ∙ ap (λ x. if x || false then Some while_symbols else None) e

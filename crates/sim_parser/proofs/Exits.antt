@@ -2,9 +2,9 @@
 use Rattle.std.proofs.Common.{◌≡◌, ◌<◌, ℕ, ◌+◌, true, false, List, [], ◌∷◌, length, Some, Result, subst}
 use Rattle.std.specs.Result.{IsErrAnd}
 use Rattle.sim_base.specs.declared.token.Token.{Token}
-use Rattle.sim_tree.specs.declared.terminal.Terminal.{Terminal}
+use Rattle.sim_base.specs.declared.token.TokenKind.{TokenKind}
 use Rattle.sim_tree.specs.Grammar.{Part, Symbol, Kept, Mark, Of, Once, just, is, right_side, is_counted}
-use Rattle.sim_tree.specs.Reading.{Forest, terminal_at, Fails, Unexpected, TooDeep, after-kept}
+use Rattle.sim_tree.specs.Reading.{Forest, kind_at, Fails, Unexpected, TooDeep, after-kept}
 use Rattle.sim_tree.specs.Claim.{one}
 use Rattle.sim_tree.specs.Tree.{limit, ReadsPart}
 use Rattle.sim_expr_parser.specs.declared.refusal.Stop.{Stop}
@@ -29,10 +29,10 @@ module _ {ws : List Token} {d i : ℕ} {x : Stop} where
   pub here_part : {n : Part} {s : List Symbol} → Stops ws d (one n) i x → Ends ws d (Of Once n ∷ s) i x
   here_part {n} {s} h = rest (once-stops ws d i n x h s)
 
-  pub here_mark : {a : Terminal} {s : List Symbol} → (is (terminal_at ws i) a ≡ false) × (x ≡ stop.Unexpected i) → Ends ws d (Mark a ∷ s) i x
+  pub here_mark : {a : TokenKind} {s : List Symbol} → (is (kind_at ws i) a ≡ false) × (x ≡ stop.Unexpected i) → Ends ws d (Mark a ∷ s) i x
   here_mark {a} {s} h = rest (mark-stops ws d i a x h s)
 
-  pub here_kept : {a : Terminal} {s : List Symbol} → (is (terminal_at ws i) a ≡ false) × (x ≡ stop.Unexpected i) → Ends ws d (Kept (just a) ∷ s) i x
+  pub here_kept : {a : TokenKind} {s : List Symbol} → (is (kind_at ws i) a ≡ false) × (x ≡ stop.Unexpected i) → Ends ws d (Kept (just a) ∷ s) i x
   here_kept {a} {s} h = rest (kept-stops ws d i (just a) x (just_is _ _ _ h.0) h.1 s)
 
   -- further on
@@ -47,10 +47,10 @@ module _ {ws : List Token} {d i : ℕ} {x : Stop} where
   pub past_part : {n : Part} {s : List Symbol} {f : Forest} {j : ℕ} → ReadsPart ws d n i f j → Ends ws d s j x → Ends ws d (Of Once n ∷ s) i x
   past_part r h = past_to (once r) h
 
-  pub past_mark : {a : Terminal} {s : List Symbol} {j : ℕ} → (is (terminal_at ws i) a ≡ true) × (j ≡ i + 1) × (j < length ws) → Ends ws d s j x → Ends ws d (Mark a ∷ s) i x
+  pub past_mark : {a : TokenKind} {s : List Symbol} {j : ℕ} → (is (kind_at ws i) a ≡ true) × (j ≡ i + 1) × (j < length ws) → Ends ws d s j x → Ends ws d (Mark a ∷ s) i x
   past_mark w h = past_to (marked w) h
 
-  pub past_kept : {a : Terminal} {s : List Symbol} {j : ℕ} → (is (terminal_at ws i) a ≡ true) × (j ≡ i + 1) × (j < length ws) → Ends ws d s j x → Ends ws d (Kept (just a) ∷ s) i x
+  pub past_kept : {a : TokenKind} {s : List Symbol} {j : ℕ} → (is (kind_at ws i) a ≡ true) × (j ≡ i + 1) × (j < length ws) → Ends ws d s j x → Ends ws d (Kept (just a) ∷ s) i x
   past_kept {a} {s} {j} w h = rest (go x h.stops)
     where
       go : (y : Stop) → Stops ws d s j y → Stops ws d (Kept (just a) ∷ s) i y
@@ -63,6 +63,6 @@ pub out : {A : Type 0} (ws : List Token) (d : ℕ) (s : List Symbol) (i : ℕ) (
 out ws d s i view r e h q = exit (λ z. GivesAll ws d s i view z) r e h q.stops
 
 -- out of one that reads a part
-pub out_part : {A : Type 0} (ws : List Token) (d i : ℕ) (n : Part) (right : List Symbol) → is_counted n ≡ false → right_side n (terminal_at ws i) ≡ Some right → i < length ws
+pub out_part : {A : Type 0} (ws : List Token) (d i : ℕ) (n : Part) (right : List Symbol) → is_counted n ≡ false → right_side n (kind_at ws i) ≡ Some right → i < length ws
     → (view : A → Forest) (r : Result (A × ℕ) Stop) (e : Stop) → IsErrAnd r (λ y. y ≡ e) → Ends ws d right i e → GivesPart ws d n i view r
 out_part ws d i n right plain begins within view r e h q = exit (λ z. GivesPart ws d n i view z) r e h (stops-at Once (opened ws d i n right plain begins within) e q.stops [])

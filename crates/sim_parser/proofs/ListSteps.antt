@@ -3,9 +3,9 @@ use Rattle.std.proofs.Common.{◌≡◌, ◌≤◌, ◌<◌, ℕ, ◌+◌, true,
 use Rattle.std.specs.declared.alloc.Global.{Global}
 use Rattle.std.specs.declared.vec.Vec.{Vec}
 use Rattle.sim_base.specs.declared.token.Token.{Token}
-use Rattle.sim_tree.specs.declared.terminal.Terminal.TheVariants as t
+use Rattle.sim_base.specs.declared.token.TokenKind.TheVariants as k
 use Rattle.sim_tree.specs.Grammar.{Part, Symbol, Of, Once, Many, is, just, right_side}
-use Rattle.sim_tree.specs.Reading.{Forest, done, node, terminal_at, Reads, reads-done, reads-skip, after-skip}
+use Rattle.sim_tree.specs.Reading.{Forest, done, node, kind_at, Reads, reads-done, reads-skip, after-skip}
 use Rattle.sim_tree.specs.Derivation.{row}
 use Rattle.sim_tree.specs.Tree.{limit}
 use Rattle.sim_tree.proofs.Steps.{Leads, past-one, leads-as}
@@ -18,7 +18,7 @@ use Rattle.sim_parser.specs.CommaLists.{further, IsFurther, listed_with, ReadsIt
 use Rattle.sim_parser.specs.Parsing.{ReadsAll, GivesAll, GivesPart}
 
 abbrev pub Comma : List Token → ℕ → ℕ → Type 0
-Comma ws i j = (is (terminal_at ws i) t.Comma ≡ true) × (j ≡ i + 1) × (j < length ws)
+Comma ws i j = (is (kind_at ws i) k.Comma ≡ true) × (j ≡ i + 1) × (j < length ws)
 
 -- what a loop over such a list has read up to j
 pub record Listed {A : Type 0} (view : A → Forest → Forest) (ws : List Token) (d : ℕ) (item : Symbol) (next : Part) (i : ℕ) (xs : List A) (j : ℕ) : Type 0 where
@@ -34,7 +34,7 @@ list-grows view next (x ∷ xs) ys y h some e =
 
 opened-further : (ws : List Token) (d at after : ℕ) (item : Symbol) (next : Part) → IsFurther item next → Comma ws at after → at < length ws → Within ws d next at (λ f. f) d (item ∷ []) after
 opened-further ws d at after item next f comma within =
-    to (opened ws d at next (further item) f.1 (one_row next (just t.Comma) (further item) (terminal_at ws at) true f.0 (just_is (terminal_at ws at) t.Comma true comma.0)) within) (marked comma)
+    to (opened ws d at next (further item) f.1 (one_row next (just k.Comma) (further item) (kind_at ws at) true f.0 (just_is (kind_at ws at) k.Comma true comma.0)) within) (marked comma)
 
 module _ {A : Type 0} (view : A → Forest → Forest) {ws : List Token} {d i j : ℕ} {item : Symbol} {next : Part} where
   pub list-first : (xs ys : List A) (y : A) → ReadsTo ws d item i (view y) j → xs ≡ [] → ys ≡ xs ++ y ∷ [] → Listed view ws d item next i ys j
@@ -63,9 +63,9 @@ module _ {A : Type 0} (view : A → Forest → Forest) {ws : List Token} {d i j 
       → (s : List Symbol) → Stops ws d (item ∷ Of Many next ∷ s) i e
   list-stops {after} xs f l within comma e h s = leads-stops (l.goes s) e (stops-in Many (opened-further ws d j after item next f comma within) e h s)
 
-  pub list-ends : (xs : List A) → IsFurther item next → Listed view ws d item next i xs j → is (terminal_at ws j) t.Comma ≡ false → i ≤ j → j < length ws → ReadsItems view ws d item next i xs j
+  pub list-ends : (xs : List A) → IsFurther item next → Listed view ws d item next i xs j → is (kind_at ws j) k.Comma ≡ false → i ≤ j → j < length ws → ReadsItems view ws d item next i xs j
   list-ends xs f l over ahead within =
-      let none : right_side next (terminal_at ws j) ≡ None = one_row next (just t.Comma) (further item) (terminal_at ws j) false f.0 (just_is (terminal_at ws j) t.Comma false over) in
+      let none : right_side next (kind_at ws j) ≡ None = one_row next (just k.Comma) (further item) (kind_at ws j) false f.0 (just_is (kind_at ws j) k.Comma false over) in
       record {
         reads = λ s h k q. (l.goes s).reads h k (reads-skip none refl q);
         fails = λ s e q. (l.goes s).fails e (after-skip none refl q);

@@ -4,11 +4,11 @@ use Rattle.std.proofs.lemmas.Bool.{false≢true, le-leb, lt-leb}
 use Rattle.std.specs.Prelude.{◌||◌, ◌&&◌, nat_le, not}
 use Rattle.sim_base.specs.declared.token.Token.{Token}
 use Rattle.sim_tree.specs.declared.stmt.Stmt.{Stmt}
-use Rattle.sim_tree.specs.declared.terminal.Terminal.{Terminal}
-use Rattle.sim_tree.specs.declared.terminal.Terminal.TheVariants as t
+use Rattle.sim_base.specs.declared.token.TokenKind.{TokenKind}
+use Rattle.sim_base.specs.declared.token.TokenKind.TheVariants as k
 use Rattle.sim_tree.specs.Grammar as g
 use Rattle.sim_tree.specs.Grammar.{Symbol, Of, Once, Maybe, Many, Kept, Mark, Here, is, one_of, just, right_side, is_counted}
-use Rattle.sim_tree.specs.Reading.{done, place, terminal_at, is_empty, is_too_deep, reads-done, reads-here, Fails, fails-deep, fails-inside, TooDeep}
+use Rattle.sim_tree.specs.Reading.{done, place, kind_at, is_empty, is_too_deep, reads-done, reads-here, Fails, fails-deep, fails-inside, TooDeep}
 use Rattle.sim_tree.specs.Claim.{one}
 use Rattle.sim_tree.specs.ProgramDerivation.{statement_derivation}
 use Rattle.sim_tree.specs.Tree.{limit, ReadsPart}
@@ -21,101 +21,101 @@ use Rattle.sim_parser.specs.declared.statement.Branch.TheVariants as branch
 use Rattle.sim_parser.specs.Parsing.{GivesPart, GivesAll, GivesInside, identified_row, operation_row, if_row, while_row, for_row, inspect_row, activation_row, begins, branch_word, branch_part}
 
 -- The row of a statement that its next token begins.
-pub record Begun (a : Terminal) : Type 0 where
+pub record Begun (a : TokenKind) : Type 0 where
   pub right : List Symbol
   pub row : right_side g.Statement a ≡ Some right
   pub some : is_empty right ≡ false
 
-pub begun_row : (a : Terminal) → one_of begins a ≡ true → Begun a
+pub begun_row : (a : TokenKind) → one_of begins a ≡ true → Begun a
 unfolding right_side is
-begun_row t.Identifier h = record { right = identified_row; row = refl; some = refl }
-begun_row t.Begin h = record { right = Of Once g.Compound ∷ []; row = refl; some = refl }
-begun_row t.Inner h = record { right = Kept (just t.Inner) ∷ []; row = refl; some = refl }
-begun_row t.This h = record { right = operation_row; row = refl; some = refl }
-begun_row t.New h = record { right = operation_row; row = refl; some = refl }
-begun_row t.Open h = record { right = operation_row; row = refl; some = refl }
-begun_row t.If h = record { right = if_row; row = refl; some = refl }
-begun_row t.While h = record { right = while_row; row = refl; some = refl }
-begun_row t.For h = record { right = for_row; row = refl; some = refl }
-begun_row t.Inspect h = record { right = inspect_row; row = refl; some = refl }
-begun_row t.Activate h = record { right = activation_row; row = refl; some = refl }
-begun_row t.Reactivate h = record { right = activation_row; row = refl; some = refl }
+begun_row k.Identifier h = record { right = identified_row; row = refl; some = refl }
+begun_row k.Begin h = record { right = Of Once g.Compound ∷ []; row = refl; some = refl }
+begun_row k.Inner h = record { right = Kept (just k.Inner) ∷ []; row = refl; some = refl }
+begun_row k.This h = record { right = operation_row; row = refl; some = refl }
+begun_row k.New h = record { right = operation_row; row = refl; some = refl }
+begun_row k.Open h = record { right = operation_row; row = refl; some = refl }
+begun_row k.If h = record { right = if_row; row = refl; some = refl }
+begun_row k.While h = record { right = while_row; row = refl; some = refl }
+begun_row k.For h = record { right = for_row; row = refl; some = refl }
+begun_row k.Inspect h = record { right = inspect_row; row = refl; some = refl }
+begun_row k.Activate h = record { right = activation_row; row = refl; some = refl }
+begun_row k.Reactivate h = record { right = activation_row; row = refl; some = refl }
 begun_row _ h = absurd (false≢true h)
 
-pub empty_row : (a : Terminal) → one_of begins a ≡ false → right_side g.Statement a ≡ Some (Here ∷ [])
+pub empty_row : (a : TokenKind) → one_of begins a ≡ false → right_side g.Statement a ≡ Some (Here ∷ [])
 unfolding right_side is
-empty_row t.Identifier h = absurd (false≢true (sym h))
-empty_row t.Begin h = absurd (false≢true (sym h))
-empty_row t.Inner h = absurd (false≢true (sym h))
-empty_row t.This h = absurd (false≢true (sym h))
-empty_row t.New h = absurd (false≢true (sym h))
-empty_row t.Open h = absurd (false≢true (sym h))
-empty_row t.If h = absurd (false≢true (sym h))
-empty_row t.While h = absurd (false≢true (sym h))
-empty_row t.For h = absurd (false≢true (sym h))
-empty_row t.Inspect h = absurd (false≢true (sym h))
-empty_row t.Activate h = absurd (false≢true (sym h))
-empty_row t.Reactivate h = absurd (false≢true (sym h))
+empty_row k.Identifier h = absurd (false≢true (sym h))
+empty_row k.Begin h = absurd (false≢true (sym h))
+empty_row k.Inner h = absurd (false≢true (sym h))
+empty_row k.This h = absurd (false≢true (sym h))
+empty_row k.New h = absurd (false≢true (sym h))
+empty_row k.Open h = absurd (false≢true (sym h))
+empty_row k.If h = absurd (false≢true (sym h))
+empty_row k.While h = absurd (false≢true (sym h))
+empty_row k.For h = absurd (false≢true (sym h))
+empty_row k.Inspect h = absurd (false≢true (sym h))
+empty_row k.Activate h = absurd (false≢true (sym h))
+empty_row k.Reactivate h = absurd (false≢true (sym h))
 empty_row _ h = refl
 
 -- what begins a statement, and is none of the words
-pub operation_begins : (a : Terminal) → one_of begins a ≡ true → (a ≡ t.Begin → ⊥) → (a ≡ t.Identifier → ⊥) → (a ≡ t.Inner → ⊥) → (a ≡ t.If → ⊥) → (a ≡ t.While → ⊥)
-    → (a ≡ t.For → ⊥) → (a ≡ t.Inspect → ⊥) → (a ≡ t.Activate → ⊥) → (a ≡ t.Reactivate → ⊥) → one_of (t.This ∷ t.New ∷ t.Open ∷ []) a ≡ true
+pub operation_begins : (a : TokenKind) → one_of begins a ≡ true → (a ≡ k.Begin → ⊥) → (a ≡ k.Identifier → ⊥) → (a ≡ k.Inner → ⊥) → (a ≡ k.If → ⊥) → (a ≡ k.While → ⊥)
+    → (a ≡ k.For → ⊥) → (a ≡ k.Inspect → ⊥) → (a ≡ k.Activate → ⊥) → (a ≡ k.Reactivate → ⊥) → one_of (k.This ∷ k.New ∷ k.Open ∷ []) a ≡ true
 unfolding is
-operation_begins t.Begin h n1 n2 n3 n4 n5 n6 n7 n8 n9 = absurd (n1 refl)
-operation_begins t.Identifier h n1 n2 n3 n4 n5 n6 n7 n8 n9 = absurd (n2 refl)
-operation_begins t.Inner h n1 n2 n3 n4 n5 n6 n7 n8 n9 = absurd (n3 refl)
-operation_begins t.If h n1 n2 n3 n4 n5 n6 n7 n8 n9 = absurd (n4 refl)
-operation_begins t.While h n1 n2 n3 n4 n5 n6 n7 n8 n9 = absurd (n5 refl)
-operation_begins t.For h n1 n2 n3 n4 n5 n6 n7 n8 n9 = absurd (n6 refl)
-operation_begins t.Inspect h n1 n2 n3 n4 n5 n6 n7 n8 n9 = absurd (n7 refl)
-operation_begins t.Activate h n1 n2 n3 n4 n5 n6 n7 n8 n9 = absurd (n8 refl)
-operation_begins t.Reactivate h n1 n2 n3 n4 n5 n6 n7 n8 n9 = absurd (n9 refl)
-operation_begins t.This h n1 n2 n3 n4 n5 n6 n7 n8 n9 = refl
-operation_begins t.New h n1 n2 n3 n4 n5 n6 n7 n8 n9 = refl
-operation_begins t.Open h n1 n2 n3 n4 n5 n6 n7 n8 n9 = refl
+operation_begins k.Begin h n1 n2 n3 n4 n5 n6 n7 n8 n9 = absurd (n1 refl)
+operation_begins k.Identifier h n1 n2 n3 n4 n5 n6 n7 n8 n9 = absurd (n2 refl)
+operation_begins k.Inner h n1 n2 n3 n4 n5 n6 n7 n8 n9 = absurd (n3 refl)
+operation_begins k.If h n1 n2 n3 n4 n5 n6 n7 n8 n9 = absurd (n4 refl)
+operation_begins k.While h n1 n2 n3 n4 n5 n6 n7 n8 n9 = absurd (n5 refl)
+operation_begins k.For h n1 n2 n3 n4 n5 n6 n7 n8 n9 = absurd (n6 refl)
+operation_begins k.Inspect h n1 n2 n3 n4 n5 n6 n7 n8 n9 = absurd (n7 refl)
+operation_begins k.Activate h n1 n2 n3 n4 n5 n6 n7 n8 n9 = absurd (n8 refl)
+operation_begins k.Reactivate h n1 n2 n3 n4 n5 n6 n7 n8 n9 = absurd (n9 refl)
+operation_begins k.This h n1 n2 n3 n4 n5 n6 n7 n8 n9 = refl
+operation_begins k.New h n1 n2 n3 n4 n5 n6 n7 n8 n9 = refl
+operation_begins k.Open h n1 n2 n3 n4 n5 n6 n7 n8 n9 = refl
 operation_begins _ h n1 n2 n3 n4 n5 n6 n7 n8 n9 = absurd (false≢true h)
 
-pub operation_stands : (a : Terminal) → one_of (t.This ∷ t.New ∷ t.Open ∷ []) a ≡ true → right_side g.Statement a ≡ Some operation_row
+pub operation_stands : (a : TokenKind) → one_of (k.This ∷ k.New ∷ k.Open ∷ []) a ≡ true → right_side g.Statement a ≡ Some operation_row
 unfolding right_side is
-operation_stands t.This h = refl
-operation_stands t.New h = refl
-operation_stands t.Open h = refl
+operation_stands k.This h = refl
+operation_stands k.New h = refl
+operation_stands k.Open h = refl
 operation_stands _ h = absurd (false≢true h)
 
-pub block_at : right_side g.Statement t.Begin ≡ Some (Of Once g.Compound ∷ [])
+pub block_at : right_side g.Statement k.Begin ≡ Some (Of Once g.Compound ∷ [])
 unfolding right_side is
 block_at = refl
 
-pub identified_at : right_side g.Statement t.Identifier ≡ Some identified_row
+pub identified_at : right_side g.Statement k.Identifier ≡ Some identified_row
 unfolding right_side is
 identified_at = refl
 
-pub inner_at : right_side g.Statement t.Inner ≡ Some (Kept (just t.Inner) ∷ [])
+pub inner_at : right_side g.Statement k.Inner ≡ Some (Kept (just k.Inner) ∷ [])
 unfolding right_side is
 inner_at = refl
 
-pub if_at : right_side g.Statement t.If ≡ Some if_row
+pub if_at : right_side g.Statement k.If ≡ Some if_row
 unfolding right_side is
 if_at = refl
 
-pub while_at : right_side g.Statement t.While ≡ Some while_row
+pub while_at : right_side g.Statement k.While ≡ Some while_row
 unfolding right_side is
 while_at = refl
 
-pub for_at : right_side g.Statement t.For ≡ Some for_row
+pub for_at : right_side g.Statement k.For ≡ Some for_row
 unfolding right_side is
 for_at = refl
 
-pub inspect_at : right_side g.Statement t.Inspect ≡ Some inspect_row
+pub inspect_at : right_side g.Statement k.Inspect ≡ Some inspect_row
 unfolding right_side is
 inspect_at = refl
 
-pub activate_at : right_side g.Statement t.Activate ≡ Some activation_row
+pub activate_at : right_side g.Statement k.Activate ≡ Some activation_row
 unfolding right_side is
 activate_at = refl
 
-pub reactivate_at : right_side g.Statement t.Reactivate ≡ Some activation_row
+pub reactivate_at : right_side g.Statement k.Reactivate ≡ Some activation_row
 unfolding right_side is
 reactivate_at = refl
 
@@ -129,18 +129,18 @@ not_deep : (b : Bool) → (b && false) ≡ false
 not_deep true = refl
 not_deep false = refl
 
-stops_inside : (ws : List Token) (d i : ℕ) (r : Begun (terminal_at ws i)) → d < 200 → (x : Stop) → Stops ws (d + 1) r.right i x → Stops ws d (one g.Statement) i x
+stops_inside : (ws : List Token) (d i : ℕ) (r : Begun (kind_at ws i)) → d < 200 → (x : Stop) → Stops ws (d + 1) r.right i x → Stops ws d (one g.Statement) i x
 stops_inside ws d i r lt (stop.Unexpected m) h = fails-inside r.row (shallow_statement d r.right lt) h
 stops_inside ws d i r lt (stop.TooDeep m) h = fails-inside r.row (shallow_statement d r.right lt) h
 stops_inside ws d i r lt stop.Memory h = tt
 
 -- the inside of a statement, read by its row
-pub inside : (ws : List Token) (d i : ℕ) (right : List Symbol) → right_side g.Statement (terminal_at ws i) ≡ Some right → (r : Result (Stmt × ℕ) Stop) → GivesAll ws d right i statement_derivation r → GivesInside ws d i r
+pub inside : (ws : List Token) (d i : ℕ) (right : List Symbol) → right_side g.Statement (kind_at ws i) ≡ Some right → (r : Result (Stmt × ℕ) Stop) → GivesAll ws d right i statement_derivation r → GivesInside ws d i r
 inside ws d i right e (Ok x) h = record { right = right; begins = e; all = h }
 inside ws d i right e (Err x) h = λ other f. subst (λ z. Stops ws d z i x) (same_row (sym e ∙ f)) h
 
 -- a statement from its inside
-pub from_inside : (ws : List Token) (d i : ℕ) → one_of begins (terminal_at ws i) ≡ true → d < 200 → (r : Result (Stmt × ℕ) Stop) → GivesInside ws (d + 1) i r → GivesPart ws d g.Statement i statement_derivation r
+pub from_inside : (ws : List Token) (d i : ℕ) → one_of begins (kind_at ws i) ≡ true → d < 200 → (r : Result (Stmt × ℕ) Stop) → GivesInside ws (d + 1) i r → GivesPart ws d g.Statement i statement_derivation r
 from_inside ws d i b lt (Ok x) h = record {
   right = h.right;
   begins = h.begins;
@@ -149,19 +149,19 @@ from_inside ws d i b lt (Ok x) h = record {
   ahead = h.all.ahead;
   within = h.all.within;
 }
-from_inside ws d i b lt (Err x) h = let r = begun_row (terminal_at ws i) b in stops_inside ws d i r lt x (h r.right r.row)
+from_inside ws d i b lt (Err x) h = let r = begun_row (kind_at ws i) b in stops_inside ws d i r lt x (h r.right r.row)
 
 -- a statement too deep
-pub too_deep : (ws : List Token) (d i : ℕ) → one_of begins (terminal_at ws i) ≡ true → 200 ≤ d → Fails limit ws d (one g.Statement) i (TooDeep i)
+pub too_deep : (ws : List Token) (d i : ℕ) → one_of begins (kind_at ws i) ≡ true → 200 ≤ d → Fails limit ws d (one g.Statement) i (TooDeep i)
 too_deep ws d i b le =
-    let r = begun_row (terminal_at ws i) b in
+    let r = begun_row (kind_at ws i) b in
     fails-deep r.row (ap (λ x. x && not (is_empty r.right)) (le-leb 200 d le) ∙ ap not r.some)
 
 -- a statement that no token begins
-pub nothing_read : (ws : List Token) (d i : ℕ) → one_of begins (terminal_at ws i) ≡ false → i < length ws → ReadsPart ws d g.Statement i (place i done) i
+pub nothing_read : (ws : List Token) (d i : ℕ) → one_of begins (kind_at ws i) ≡ false → i < length ws → ReadsPart ws d g.Statement i (place i done) i
 nothing_read ws d i none within = record {
   right = Here ∷ [];
-  begins = empty_row (terminal_at ws i) none;
+  begins = empty_row (kind_at ws i) none;
   shallow = not_deep (nat_le 200 d);
   inside = reads-here reads-done;
   ahead = omega arith;
@@ -169,21 +169,21 @@ nothing_read ws d i none within = record {
 }
 
 -- Branches.
-pub branch_row : (b : Branch) (a : Terminal) (v : Bool) → is a (branch_word b) ≡ v → right_side (branch_part b) a ≡ (if v then Some (Mark (branch_word b) ∷ Of Once g.Statement ∷ []) else None)
-branch_row branch.Else a v h = one_row g.ElseBranch (just t.Else) (Mark t.Else ∷ Of Once g.Statement ∷ []) a v refl (just_is _ _ _ h)
-branch_row branch.Otherwise a v h = one_row g.OtherwiseBranch (just t.Otherwise) (Mark t.Otherwise ∷ Of Once g.Statement ∷ []) a v refl (just_is _ _ _ h)
+pub branch_row : (b : Branch) (a : TokenKind) (v : Bool) → is a (branch_word b) ≡ v → right_side (branch_part b) a ≡ (if v then Some (Mark (branch_word b) ∷ Of Once g.Statement ∷ []) else None)
+branch_row branch.Else a v h = one_row g.ElseBranch (just k.Else) (Mark k.Else ∷ Of Once g.Statement ∷ []) a v refl (just_is _ _ _ h)
+branch_row branch.Otherwise a v h = one_row g.OtherwiseBranch (just k.Otherwise) (Mark k.Otherwise ∷ Of Once g.Statement ∷ []) a v refl (just_is _ _ _ h)
 
 pub branch_uncounted : (b : Branch) → is_counted (branch_part b) ≡ false
 branch_uncounted branch.Else = refl
 branch_uncounted branch.Otherwise = refl
 
-pub branch_no_end : (b : Branch) → is t.EndOfSource (branch_word b) ≡ false
+pub branch_no_end : (b : Branch) → is k.EndOfSource (branch_word b) ≡ false
 unfolding is
 branch_no_end branch.Else = refl
 branch_no_end branch.Otherwise = refl
 
 -- what stands behind an identifier that begins a statement
-pub after_head : (a : Terminal) (v : Bool) → is a t.Begin ≡ v → right_side g.AfterFirstOperand a ≡ Some (if v then Of Once g.Compound ∷ [] else Of Many g.Selection ∷ Of Many g.Assigned ∷ [])
+pub after_head : (a : TokenKind) (v : Bool) → is a k.Begin ≡ v → right_side g.AfterFirstOperand a ≡ Some (if v then Of Once g.Compound ∷ [] else Of Many g.Selection ∷ Of Many g.Assigned ∷ [])
 unfolding right_side
 after_head a true h = ap (λ x. if x || false then Some (Of Once g.Compound ∷ []) else Some (Of Many g.Selection ∷ Of Many g.Assigned ∷ [])) h
 after_head a false h = ap (λ x. if x || false then Some (Of Once g.Compound ∷ []) else Some (Of Many g.Selection ∷ Of Many g.Assigned ∷ [])) h

@@ -5,6 +5,7 @@ use Rattle.std.specs.declared.boxed.Box.{Box}
 use Rattle.std.specs.declared.vec.Vec.{Vec}
 use Rattle.sim_base.specs.declared.numbering.TokenNo.{TokenNo}
 use Rattle.sim_base.specs.declared.token.TokenKind.TheVariants as k
+use Rattle.sim_base.specs.declared.token.TokenValue.TheVariants as token_value
 use Rattle.sim_tree.specs.declared.expr.Expr.{Expr}
 use Rattle.sim_tree.specs.declared.expr.Identifier.{Identifier}
 use Rattle.sim_tree.specs.declared.stmt.ForElement.{ForElement}
@@ -13,7 +14,7 @@ use Rattle.sim_tree.specs.declared.stmt.Stmt.{Stmt}
 use Rattle.sim_tree.specs.declared.stmt.Stmt.TheVariants as s
 use Rattle.sim_tree.specs.Grammar as g
 use Rattle.sim_tree.specs.Grammar.{Part}
-use Rattle.sim_tree.specs.Reading.{Forest, done, leaf, node}
+use Rattle.sim_tree.specs.Reading.{Forest, done, leaf, node, bare_leaf}
 use Rattle.sim_tree.specs.Derivation.{Derivation, arguments, identifier, row}
 use Rattle.sim_tree.specs.ProgramDerivation.{acted, expr, for_elements, joined, reference_elements, statement_derivation}
 use Rattle.sim_tree.proofs.StatementLemmas.{derivation-If, derivation-If-two, derivation-While, derivation-For, derivation-ForReference}
@@ -21,23 +22,23 @@ use Rattle.sim_parser.specs.declared.statement.Branch.TheVariants as branch
 use Rattle.sim_parser.specs.Parsing.{branch_derivation}
 
 pub if_derivation : (n : TokenNo) (e : Expr) (x : Stmt) (a : Box Stmt Global) (o : Option (Box Stmt Global)) → a.value ≡ x
-    → leaf n.0 k.If (expr e (node g.Statement (statement_derivation x) (branch_derivation branch.Else o))) ≡ statement_derivation (s.If n e a o)
-if_derivation n e x a None h = ap (λ z. leaf n.0 k.If (expr e (node g.Statement (statement_derivation z) done))) (sym h) ∙ sym (derivation-If n e a)
+    → bare_leaf n.0 k.If (expr e (node g.Statement (statement_derivation x) (branch_derivation branch.Else o))) ≡ statement_derivation (s.If n e a o)
+if_derivation n e x a None h = ap (λ z. bare_leaf n.0 k.If (expr e (node g.Statement (statement_derivation z) done))) (sym h) ∙ sym (derivation-If n e a)
 if_derivation n e x a (Some o) h =
-    ap (λ z. leaf n.0 k.If (expr e (node g.Statement (statement_derivation z) (node g.ElseBranch (node g.Statement (statement_derivation o.value) done) done)))) (sym h) ∙ sym (derivation-If-two n e a o)
+    ap (λ z. bare_leaf n.0 k.If (expr e (node g.Statement (statement_derivation z) (node g.ElseBranch (node g.Statement (statement_derivation o.value) done) done)))) (sym h) ∙ sym (derivation-If-two n e a o)
 
-pub while_derivation : (n : TokenNo) (e : Expr) (x : Stmt) (a : Box Stmt Global) → a.value ≡ x → leaf n.0 k.While (expr e (node g.Statement (statement_derivation x) done)) ≡ statement_derivation (s.While n e a)
-while_derivation n e x a h = ap (λ z. leaf n.0 k.While (expr e (node g.Statement (statement_derivation z) done))) (sym h) ∙ sym (derivation-While n e a)
+pub while_derivation : (n : TokenNo) (e : Expr) (x : Stmt) (a : Box Stmt Global) → a.value ≡ x → bare_leaf n.0 k.While (expr e (node g.Statement (statement_derivation x) done)) ≡ statement_derivation (s.While n e a)
+while_derivation n e x a h = ap (λ z. bare_leaf n.0 k.While (expr e (node g.Statement (statement_derivation z) done))) (sym h) ∙ sym (derivation-While n e a)
 
 pub for_derivation : (n : TokenNo) (x : Identifier) (m : TokenNo) (l : Vec ForElement Global) (b : Stmt) (a : Box Stmt Global) → a.value ≡ b
-    → leaf n.0 k.For (identifier x (node g.ForList (leaf m.0 k.Assign (for_elements l.items)) (node g.Statement (statement_derivation b) done))) ≡ statement_derivation (s.For n x m l a)
+    → bare_leaf n.0 k.For (identifier x (node g.ForList (bare_leaf m.0 k.Assign (for_elements l.items)) (node g.Statement (statement_derivation b) done))) ≡ statement_derivation (s.For n x m l a)
 for_derivation n x m l b a h =
-    ap (λ z. leaf n.0 k.For (identifier x (node g.ForList (leaf m.0 k.Assign (for_elements l.items)) (node g.Statement (statement_derivation z) done)))) (sym h) ∙ sym (derivation-For n x m l a)
+    ap (λ z. bare_leaf n.0 k.For (identifier x (node g.ForList (bare_leaf m.0 k.Assign (for_elements l.items)) (node g.Statement (statement_derivation z) done)))) (sym h) ∙ sym (derivation-For n x m l a)
 
 pub for_reference_derivation : (n : TokenNo) (x : Identifier) (m : TokenNo) (l : Vec ReferenceElement Global) (b : Stmt) (a : Box Stmt Global) → a.value ≡ b
-    → leaf n.0 k.For (identifier x (node g.ForList (leaf m.0 k.AssignReference (reference_elements l.items)) (node g.Statement (statement_derivation b) done))) ≡ statement_derivation (s.ForReference n x m l a)
+    → bare_leaf n.0 k.For (identifier x (node g.ForList (bare_leaf m.0 k.AssignReference (reference_elements l.items)) (node g.Statement (statement_derivation b) done))) ≡ statement_derivation (s.ForReference n x m l a)
 for_reference_derivation n x m l b a h =
-    ap (λ z. leaf n.0 k.For (identifier x (node g.ForList (leaf m.0 k.AssignReference (reference_elements l.items)) (node g.Statement (statement_derivation z) done)))) (sym h)
+    ap (λ z. bare_leaf n.0 k.For (identifier x (node g.ForList (bare_leaf m.0 k.AssignReference (reference_elements l.items)) (node g.Statement (statement_derivation z) done)))) (sym h)
     ∙ sym (derivation-ForReference n x m l a)
 
 -- one row in front of what follows it
@@ -53,5 +54,5 @@ joined_arguments (x ∷ xs) rest = refl
 pub acted_named : (x : Identifier) (l : List Derivation) (fs : List Forest) (rest : Forest)
     → acted (node g.Primary (identifier x (arguments l done)) (row g.Selection fs done)) rest ≡ identifier x (arguments l (node g.AfterFirstOperand (row g.Selection fs rest) done))
 acted_named x l fs rest =
-    ap (λ z. leaf x.token.0 (k.Identifier x.name) (joined (arguments l done) (node g.AfterFirstOperand z done))) (joined_row g.Selection fs rest)
-    ∙ ap (leaf x.token.0 (k.Identifier x.name)) (joined_arguments l (node g.AfterFirstOperand (row g.Selection fs rest) done))
+    ap (λ z. leaf x.token.0 k.Identifier (token_value.Bytes x.name) (joined (arguments l done) (node g.AfterFirstOperand z done))) (joined_row g.Selection fs rest)
+    ∙ ap (leaf x.token.0 k.Identifier (token_value.Bytes x.name)) (joined_arguments l (node g.AfterFirstOperand (row g.Selection fs rest) done))

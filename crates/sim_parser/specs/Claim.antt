@@ -4,9 +4,9 @@ use Rattle.std.specs.Prelude.{◌≡◌, ◌<◌, ℕ, ◌+◌, List, length, Re
 use Rattle.sim_base.specs.declared.token.Token.{Token}
 use Rattle.sim_base.specs.declared.rule.Rule.TheVariants as rule
 use Rattle.sim_tree.specs.declared.program.Program.{Program}
-use Rattle.sim_tree.specs.declared.terminal.Terminal.TheVariants as t
+use Rattle.sim_base.specs.declared.token.TokenKind.TheVariants as k
 use Rattle.sim_tree.specs.Grammar as g
-use Rattle.sim_tree.specs.Reading.{terminal_at, Fails, Unexpected, TooDeep}
+use Rattle.sim_tree.specs.Reading.{kind_at, Fails, Unexpected, TooDeep}
 use Rattle.sim_tree.specs.Claim.{Begins, IsFirstBad, one}
 use Rattle.sim_tree.specs.Tree.{limit, IsTree}
 use Rattle.sim_expr_parser.specs.declared.refusal.SyntaxRefusal.{SyntaxRefusal}
@@ -16,7 +16,7 @@ use Rattle.sim_expr_parser.specs.Parsing.{IsSource}
 -- the tokens of a source, of which the last one alone ends it
 pub record IsWholeSource (tokens : List Token) : Type 0 where
   pub source : IsSource tokens
-  pub only : (at : ℕ) → at < length tokens → terminal_at tokens at ≡ t.EndOfSource → at + 1 ≡ length tokens
+  pub only : (at : ℕ) → at < length tokens → kind_at tokens at ≡ k.EndOfSource → at + 1 ≡ length tokens
 
 -- What `parse` answers: the tree that the grammar gives; or the first token with which the tokens begin no program; or the first that
 -- would begin a part nested too deeply, before which none is bad.

@@ -3,7 +3,7 @@ use Rattle.std.specs.Prelude.{◌≡◌, ◌≤◌, ◌<◌, ℕ, false, List, [
 use Rattle.std.specs.declared.alloc.Global.{Global}
 use Rattle.std.specs.declared.vec.Vec.{Vec}
 use Rattle.sim_base.specs.declared.token.Token.{Token}
-use Rattle.sim_tree.specs.declared.terminal.Terminal.TheVariants as t
+use Rattle.sim_base.specs.declared.token.TokenKind.TheVariants as k
 use Rattle.sim_tree.specs.Grammar.{Part, Symbol, At, Mark, Of, Many, just, rows, is_counted}
 use Rattle.sim_tree.specs.Reading.{Forest, done, Reads, Fails, Fault}
 use Rattle.sim_tree.specs.Derivation.{row}
@@ -12,11 +12,11 @@ use Rattle.sim_expr_parser.specs.declared.refusal.Stop.{Stop}
 use Rattle.sim_expr_parser.specs.Parsing.{Stops, GivesTo}
 
 abbrev pub further : Symbol → List Symbol
-further item = Mark t.Comma ∷ item ∷ []
+further item = Mark k.Comma ∷ item ∷ []
 
 -- the part of a further item
 abbrev pub IsFurther : Symbol → Part → Type 0
-IsFurther item next = (rows next ≡ At (just t.Comma) (further item) ∷ []) × (is_counted next ≡ false)
+IsFurther item next = (rows next ≡ At (just k.Comma) (further item) ∷ []) × (is_counted next ≡ false)
 
 abbrev pub listed_with : {A : Type 0} → (A → Forest → Forest) → Part → List A → Forest → Forest
 listed_with view next [] rest = rest

@@ -8,11 +8,10 @@ use Rattle.sim_base.specs.declared.token.TokenKind.TheVariants as k
 use Rattle.sim_tree.specs.declared.stmt.Decl.{Decl}
 use Rattle.sim_tree.specs.declared.stmt.Stmt.{Stmt}
 use Rattle.sim_tree.specs.declared.stmt.TypeName.{TypeName}
-use Rattle.sim_tree.specs.declared.terminal.Terminal.{Terminal}
-use Rattle.sim_tree.specs.declared.terminal.Terminal.TheVariants as t
+use Rattle.sim_base.specs.declared.token.TokenKind.{TokenKind}
 use Rattle.sim_tree.specs.Grammar as g
 use Rattle.sim_tree.specs.Grammar.{Part, Symbol, Of, Once, Maybe, Many, Kept, Mark, Any, Here, is, one_of, just, types, begins_statement}
-use Rattle.sim_tree.specs.Reading.{Forest, done, leaf, place, node, terminal_at, Reads, Fails, Fault}
+use Rattle.sim_tree.specs.Reading.{Forest, done, place, node, kind_at, Reads, Fails, Fault, bare_leaf}
 use Rattle.sim_tree.specs.Claim.{one}
 use Rattle.sim_tree.specs.ProgramDerivation.{Declared, Plain, Prefixed, declaration_derivation, next_statement, statement_derivation, type_derivation}
 use Rattle.sim_tree.specs.Derivation.{identifier, row}
@@ -44,61 +43,61 @@ GivesAll tokens depth s start view (Err e) = Stops tokens depth s start e
 
 -- the rows of statements, behind what chooses them
 abbrev pub identified_row : List Symbol
-identified_row = Kept (just t.Identifier) ∷ Of Maybe g.Arguments ∷ Of Once g.AfterFirstOperand ∷ []
+identified_row = Kept (just k.Identifier) ∷ Of Maybe g.Arguments ∷ Of Once g.AfterFirstOperand ∷ []
 
 abbrev pub operation_row : List Symbol
 operation_row = Of Once g.Postfix ∷ Of Many g.Assigned ∷ []
 
 abbrev pub if_row : List Symbol
-if_row = Kept (just t.If) ∷ Of Once g.Expression ∷ Mark t.Then ∷ Of Once g.Statement ∷ Of Maybe g.ElseBranch ∷ []
+if_row = Kept (just k.If) ∷ Of Once g.Expression ∷ Mark k.Then ∷ Of Once g.Statement ∷ Of Maybe g.ElseBranch ∷ []
 
 abbrev pub body_row : List Symbol
-body_row = Mark t.Do ∷ Of Once g.Statement ∷ []
+body_row = Mark k.Do ∷ Of Once g.Statement ∷ []
 
 -- a connection, from `do` on
 abbrev pub connection_row : List Symbol
-connection_row = Kept (just t.Do) ∷ Of Once g.Statement ∷ Here ∷ []
+connection_row = Kept (just k.Do) ∷ Of Once g.Statement ∷ Here ∷ []
 
 abbrev pub connection_derivation : Connection → Forest
-connection_derivation c = leaf c.opening.0 k.Do (node g.Statement (statement_derivation c.body) (place c.end.0 done))
+connection_derivation c = bare_leaf c.opening.0 k.Do (node g.Statement (statement_derivation c.body) (place c.end.0 done))
 
 abbrev pub while_row : List Symbol
-while_row = Kept (just t.While) ∷ Of Once g.Expression ∷ body_row
+while_row = Kept (just k.While) ∷ Of Once g.Expression ∷ body_row
 
 abbrev pub for_row : List Symbol
-for_row = Kept (just t.For) ∷ Kept (just t.Identifier) ∷ Of Once g.ForList ∷ body_row
+for_row = Kept (just k.For) ∷ Kept (just k.Identifier) ∷ Of Once g.ForList ∷ body_row
 
 abbrev pub inspect_row : List Symbol
-inspect_row = Kept (just t.Inspect) ∷ Of Once g.Expression ∷ Of Once g.Arms ∷ Of Maybe g.OtherwiseBranch ∷ []
+inspect_row = Kept (just k.Inspect) ∷ Of Once g.Expression ∷ Of Once g.Arms ∷ Of Maybe g.OtherwiseBranch ∷ []
 
-abbrev pub activation_words : List Terminal
-activation_words = t.Activate ∷ t.Reactivate ∷ []
+abbrev pub activation_words : List TokenKind
+activation_words = k.Activate ∷ k.Reactivate ∷ []
 
 abbrev pub activation_row : List Symbol
 activation_row = Kept activation_words ∷ Of Once g.Expression ∷ Of Maybe g.Timing ∷ []
 
 -- what begins a statement that is not empty
-abbrev pub begins : List Terminal
-begins = t.Identifier ∷ begins_statement
+abbrev pub begins : List TokenKind
+begins = k.Identifier ∷ begins_statement
 
 -- what begins a declaration, a prefix of a class apart
-abbrev pub begins_declaration : List Terminal
-begins_declaration = t.Procedure ∷ t.Class ∷ types
+abbrev pub begins_declaration : List TokenKind
+begins_declaration = k.Procedure ∷ k.Class ∷ types
 
 -- the inside of a statement that its next token begins
 pub record ReadsInside (tokens : List Token) (depth : ℕ) (start : ℕ) (f : Forest) (end : ℕ) : Type 0 where
   pub right : List Symbol
-  pub begins : g.right_side g.Statement (terminal_at tokens start) ≡ Some right
+  pub begins : g.right_side g.Statement (kind_at tokens start) ≡ Some right
   pub all : ReadsAll tokens depth right start f end
 
 abbrev pub GivesInside : List Token → ℕ → ℕ → Result (Stmt × ℕ) Stop → Type 0
 GivesInside tokens depth start (Ok r) = ReadsInside tokens depth start (statement_derivation r.0) r.1
-GivesInside tokens depth start (Err e) = (right : List Symbol) → g.right_side g.Statement (terminal_at tokens start) ≡ Some right → Stops tokens depth right start e
+GivesInside tokens depth start (Err e) = (right : List Symbol) → g.right_side g.Statement (kind_at tokens start) ≡ Some right → Stops tokens depth right start e
 
 -- A branch of a statement that may be left out: its word, its part, what it stands for.
-abbrev pub branch_word : Branch → Terminal
-branch_word branch.Else = t.Else
-branch_word branch.Otherwise = t.Otherwise
+abbrev pub branch_word : Branch → TokenKind
+branch_word branch.Else = k.Else
+branch_word branch.Otherwise = k.Otherwise
 
 abbrev pub branch_part : Branch → Part
 branch_part branch.Else = g.ElseBranch
@@ -126,7 +125,7 @@ GivesTyped name tokens depth start (Err e) = Stops tokens depth (one g.TypedDecl
 abbrev pub declared : List Declared → Forest → Forest
 declared [] rest = rest
 declared (Plain f ∷ ds) rest = node g.Declaration f (node g.AfterDeclaration done (node g.Block (declared ds rest) done))
-declared (Prefixed x word f ∷ ds) rest = identifier x (node g.AfterIdentifier (leaf word k.Class (node g.Class f (node g.AfterDeclaration done (node g.Block (declared ds rest) done)))) done)
+declared (Prefixed x word f ∷ ds) rest = identifier x (node g.AfterIdentifier (bare_leaf word k.Class (node g.Class f (node g.AfterDeclaration done (node g.Block (declared ds rest) done)))) done)
 
 -- the block from start on is these declarations and then the block from end on
 pub record ReadsDeclarations (tokens : List Token) (depth : ℕ) (start : ℕ) (ds : List Declared) (end : ℕ) : Type 0 where
@@ -137,8 +136,8 @@ pub record ReadsDeclarations (tokens : List Token) (depth : ℕ) (start : ℕ) (
 
 -- no declaration begins here
 pub record NoDeclaration (tokens : List Token) (start : ℕ) : Type 0 where
-  pub plain : one_of begins_declaration (terminal_at tokens start) ≡ false
-  pub prefixed : is (terminal_at tokens start) t.Identifier ≡ true → is (terminal_at tokens (start + 1)) t.Class ≡ false
+  pub plain : one_of begins_declaration (kind_at tokens start) ≡ false
+  pub prefixed : is (kind_at tokens start) k.Identifier ≡ true → is (kind_at tokens (start + 1)) k.Class ≡ false
 
 abbrev pub GivesDeclaration : List Token → ℕ → ℕ → Result (Option (Decl × ℕ)) Stop → Type 0
 GivesDeclaration tokens depth start (Ok None) = NoDeclaration tokens start
@@ -169,6 +168,6 @@ GivesStatements tokens depth start (Err e) = (s : List Symbol) → Stops tokens 
 
 -- what ends a declaration, and the semicolons behind it
 abbrev pub Closes : List Token → ℕ → ℕ → Result ℕ Stop → Type 0
-Closes tokens depth start (Ok end) = (start ≤ end) × (end < length tokens) × ((s : List Symbol) (f : Forest) (m : ℕ) → Reads limit tokens depth s end f m → Reads limit tokens depth (Of Once g.AfterDeclaration ∷ Any t.Semicolon ∷ s) start (node g.AfterDeclaration done f) m)
-    × ((s : List Symbol) (e : Stop) → Stops tokens depth s end e → Stops tokens depth (Of Once g.AfterDeclaration ∷ Any t.Semicolon ∷ s) start e)
+Closes tokens depth start (Ok end) = (start ≤ end) × (end < length tokens) × ((s : List Symbol) (f : Forest) (m : ℕ) → Reads limit tokens depth s end f m → Reads limit tokens depth (Of Once g.AfterDeclaration ∷ Any k.Semicolon ∷ s) start (node g.AfterDeclaration done f) m)
+    × ((s : List Symbol) (e : Stop) → Stops tokens depth s end e → Stops tokens depth (Of Once g.AfterDeclaration ∷ Any k.Semicolon ∷ s) start e)
 Closes tokens depth start (Err e) = (s : List Symbol) → Stops tokens depth (Of Once g.AfterDeclaration ∷ s) start e

@@ -3,7 +3,7 @@ use Rattle.std.specs.Prelude.{◌<◌, ℕ, List, [], ◌∷◌, length, Option,
 use Rattle.sim_base.specs.declared.token.Token.{Token}
 use Rattle.sim_tree.specs.declared.program.BlockPrefix.{BlockPrefix}
 use Rattle.sim_tree.specs.declared.program.Program.{Program}
-use Rattle.sim_tree.specs.declared.terminal.Terminal.TheVariants as t
+use Rattle.sim_base.specs.declared.token.TokenKind.TheVariants as k
 use Rattle.sim_tree.specs.Grammar as g
 use Rattle.sim_tree.specs.Grammar.{Symbol, Of, Once, Mark, Any}
 use Rattle.sim_tree.specs.Reading.{Forest, done, node, Reads, Fails, Fault}
@@ -16,7 +16,7 @@ use Rattle.sim_expr_parser.specs.Parsing.{Stops}
 
 -- a program behind the prefix of its block
 abbrev pub program_rest : List Symbol
-program_rest = Of Once g.Compound ∷ Any t.Semicolon ∷ Mark t.EndOfSource ∷ []
+program_rest = Of Once g.Compound ∷ Any k.Semicolon ∷ Mark k.EndOfSource ∷ []
 
 -- the prefix is read up to end, and the program is what stands there then
 pub record ReadsPrefix (tokens : List Token) (prefix : Option BlockPrefix) (end : ℕ) : Type 0 where

@@ -13,8 +13,8 @@ ghost use Rattle.sim_parser.specs.Parsing.{GivesAll, GivesPart, PartAt};
 use crate::lists::comma_list;
 use crate::names::identifiers;
 use sim_base::TokenKind;
-use sim_expr_parser::{LIMIT, Source, Stop, expression, leading_sign};
-use sim_tree::{ArraySegment, Bounds, Constant, Terminal, Variable};
+use sim_expr_parser::{LIMIT, Source, Stop, expression, kind_at_token, leading_sign};
+use sim_tree::{ArraySegment, Bounds, Constant, Variable};
 
 /// The variables and constants of a type, at least one, with commas between them, and the index after them.
 pub fn variables(source: &Source, start: usize) -> Result<(Vec<Variable>, usize), Stop>
@@ -37,7 +37,7 @@ fn variable(source: &Source, at: usize) -> Result<(Variable, usize), Stop>
     ensures { (d : ℕ) → GivesPart source.now d g.Variable at variable_derivation result }
 {
     let (name, next) = source.identifier_at(at)?;
-    let Some(next) = source.eat(next, Terminal::Equal) else {
+    let Some(next) = source.eat(next, TokenKind::Equal) else {
         return Ok((Variable { name, value: None }, next));
     };
     let (constant, end) = constant(source, next)?;
@@ -52,22 +52,22 @@ fn constant(source: &Source, at: usize) -> Result<(Constant, usize), Stop>
 {
     let (sign, next) = leading_sign(source, at);
     let token = source.token_no(next);
-    let tokens = source.tokens();
-    if let TokenKind::Integer(value) = &tokens[next].kind {
-        let value = *value;
+    let kind = kind_at_token(source.tokens(), next);
+    if kind == TokenKind::Integer {
+        let value = source.integer_at(next);
         return Ok((Constant::Integer { sign, token, value }, next + 1));
     }
     if sign.is_some() {
         return Err(Stop::Unexpected(next));
     }
-    let constant = match &tokens[next].kind {
-        TokenKind::Character(value) => Constant::Character {
+    let constant = match kind {
+        TokenKind::Character => Constant::Character {
             token,
-            value: *value,
+            value: source.character_at(next),
         },
-        TokenKind::Text(value) => Constant::Text {
+        TokenKind::Text => Constant::Text {
             token,
-            value: value.copy(source.allocator())?,
+            value: source.bytes_at(next)?,
         },
         TokenKind::True => Constant::True { token },
         TokenKind::False => Constant::False { token },
@@ -96,9 +96,9 @@ fn segment(source: &Source, at: usize, depth: u32) -> Result<(ArraySegment, usiz
     ensures { GivesPart source.now depth g.ArraySegment at segment_derivation result }
 {
     let (names, next) = identifiers(source, at)?;
-    let next = source.expect(next, Terminal::Open)?;
+    let next = source.expect(next, TokenKind::Open)?;
     let (bounds, next) = bounds_list(source, next, depth)?;
-    let end = source.expect(next, Terminal::Close)?;
+    let end = source.expect(next, TokenKind::Close)?;
     Ok((ArraySegment { names, bounds }, end))
 }
 
@@ -118,7 +118,7 @@ fn bounds(source: &Source, at: usize, depth: u32) -> Result<(Bounds, usize), Sto
     ensures { GivesPart source.now depth g.Bounds at bounds_derivation result }
 {
     let (lower, next) = expression(source, at, depth)?;
-    let next = source.expect(next, Terminal::Colon)?;
+    let next = source.expect(next, TokenKind::Colon)?;
     let (upper, end) = expression(source, next, depth)?;
     Ok((Bounds { lower, upper }, end))
 }

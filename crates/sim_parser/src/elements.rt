@@ -9,9 +9,9 @@ ghost use Rattle.sim_parser.specs.Parsing.{GivesAll, GivesPart};
 ghost use Rattle.sim_parser.specs.Elements.{for_list_derivation};
 
 use crate::lists::comma_list;
-use sim_base::TokenNo;
+use sim_base::{TokenKind, TokenNo};
 use sim_expr_parser::{LIMIT, Source, Stop, expression};
-use sim_tree::{ForElement, ReferenceElement, Terminal};
+use sim_tree::{ForElement, ReferenceElement};
 
 /// The sign and the elements of a `for` list.
 #[derive(Drop)]
@@ -35,11 +35,11 @@ pub fn for_list(source: &Source, at: usize, depth: u32) -> Result<(ForList, usiz
     ensures { GivesPart source.now depth g.ForList at for_list_derivation result }
 {
     let sign = source.token_no(at);
-    if let Some(next) = source.eat(at, Terminal::Assign) {
+    if let Some(next) = source.eat(at, TokenKind::Assign) {
         let (elements, end) = for_elements(source, next, depth)?;
         return Ok((ForList::Values { sign, elements }, end));
     }
-    let next = source.expect(at, Terminal::AssignReference)?;
+    let next = source.expect(at, TokenKind::AssignReference)?;
     let (elements, end) = reference_elements(source, next, depth)?;
     Ok((ForList::References { sign, elements }, end))
 }
@@ -61,9 +61,9 @@ fn for_element(source: &Source, at: usize, depth: u32) -> Result<(ForElement, us
 {
     let (value, next) = expression(source, at, depth)?;
     let token = source.token_no(next);
-    if let Some(next) = source.eat(next, Terminal::Step) {
+    if let Some(next) = source.eat(next, TokenKind::Step) {
         let (step, next) = expression(source, next, depth)?;
-        let next = source.expect(next, Terminal::Until)?;
+        let next = source.expect(next, TokenKind::Until)?;
         let (limit, end) = expression(source, next, depth)?;
         let start = value;
         return Ok((
@@ -76,7 +76,7 @@ fn for_element(source: &Source, at: usize, depth: u32) -> Result<(ForElement, us
             end,
         ));
     }
-    let Some(next) = source.eat(next, Terminal::While) else {
+    let Some(next) = source.eat(next, TokenKind::While) else {
         return Ok((ForElement::Value { value }, next));
     };
     let (condition, end) = expression(source, next, depth)?;
@@ -115,7 +115,7 @@ fn reference_element(
 {
     let (value, next) = expression(source, at, depth)?;
     let token = source.token_no(next);
-    let Some(next) = source.eat(next, Terminal::While) else {
+    let Some(next) = source.eat(next, TokenKind::While) else {
         return Ok((ReferenceElement::Value { value }, next));
     };
     let (condition, end) = expression(source, next, depth)?;

@@ -2,22 +2,22 @@
 #![tactic(auto, unfolding(sim_tree::specs::Grammar::is))]
 
 ghost use Rattle.std.specs.Prelude.{◌≡◌, ◌<◌, ◌∷◌, ℕ, None, Ok, false, map, length, IfOk, MatchOption};
-ghost use Rattle.sim_tree.specs.declared.terminal.Terminal.TheVariants as t;
+ghost use Rattle.sim_base.specs.declared.token.TokenKind.TheVariants as k;
 ghost use Rattle.sim_tree.specs.Grammar as g;
 ghost use Rattle.sim_tree.specs.Grammar.{Kept, Maybe, Of, Part, is, just, one_of, right_side};
-ghost use Rattle.sim_tree.specs.Reading.{Forest, terminal_at};
+ghost use Rattle.sim_tree.specs.Reading.{Forest, kind_at};
 ghost use Rattle.sim_tree.specs.ProgramDerivation.{heading_derivation, mode_kind, mode_derivation, protecting, protection_derivation, specification_derivation, specifier_derivation, typed, virtual_derivation, virtuals_derivation};
-ghost use Rattle.sim_expr_parser.specs.Parsing.{GivesRow, GivesTo, Took};
+ghost use Rattle.sim_expr_parser.specs.Parsing.{GivesRow, GivesTo, TookBare};
 ghost use Rattle.sim_parser.specs.CommaLists.{IsReader};
 ghost use Rattle.sim_parser.specs.Fronts.{BeginsSpecified, GivesFront, GivesSome, GivesWord, PartEach, ReadsFront, begins_specification as specification_spec, modes, names_row};
 ghost use Rattle.sim_parser.specs.Parsing.{GivesPart, PartAt};
 
 use crate::names::{identifiers, type_name};
 use crate::words::begins_type;
-use sim_base::TokenNo;
+use sim_base::{TokenKind, TokenNo};
 use sim_expr_parser::{Source, Stop};
 use sim_tree::{
-    Identifier, Mode, ModePart, Protection, Specification, Specifier, Terminal, TypeName,
+    Identifier, Mode, ModePart, Protection, Specification, Specifier, TypeName,
     VirtualSpecification,
 };
 
@@ -37,7 +37,7 @@ pub fn heading_at(source: &Source, at: usize) -> Result<(Heading, usize), Stop>
     requires within { at < length source.now }
     ensures { (d : ℕ) → GivesPart source.now d g.Heading at (λ h. heading_derivation h.parameters.items h.modes.items h.specifications.items) result }
 {
-    if let Some(end) = source.eat(at, Terminal::Semicolon) {
+    if let Some(end) = source.eat(at, TokenKind::Semicolon) {
         return Ok((
             Heading {
                 parameters: Vec::new(source.allocator()),
@@ -47,10 +47,10 @@ pub fn heading_at(source: &Source, at: usize) -> Result<(Heading, usize), Stop>
             end,
         ));
     }
-    let next = source.expect(at, Terminal::Open)?;
+    let next = source.expect(at, TokenKind::Open)?;
     let (parameters, next) = identifiers(source, next)?;
-    let next = source.expect(next, Terminal::Close)?;
-    let next = source.expect(next, Terminal::Semicolon)?;
+    let next = source.expect(next, TokenKind::Close)?;
+    let next = source.expect(next, TokenKind::Semicolon)?;
     let (modes, next) = mode_parts(source, next)?;
     let (specifications, end) = specifications(source, next)?;
     Ok((
@@ -66,12 +66,12 @@ pub fn heading_at(source: &Source, at: usize) -> Result<(Heading, usize), Stop>
 // The mode at a token, if one stands there, and the index after it.
 fn mode_at(source: &Source, at: usize) -> Option<(Mode, usize)>
     requires within { at < length source.now }
-    ensures { MatchOption result (one_of modes (terminal_at source.now at) ≡ false) (λ r. Took source.now at modes (mode_kind r.0) r.1) }
+    ensures { MatchOption result (one_of modes (kind_at source.now at) ≡ false) (λ r. TookBare source.now at modes (mode_kind r.0) r.1) }
 {
-    if let Some(next) = source.eat(at, Terminal::Value) {
+    if let Some(next) = source.eat(at, TokenKind::Value) {
         return Some((Mode::Value, next));
     }
-    let next = source.eat(at, Terminal::Name)?;
+    let next = source.eat(at, TokenKind::Name)?;
     Some((Mode::Name, next))
 }
 
@@ -84,7 +84,7 @@ fn mode_parts(source: &Source, start: usize) -> Result<(Vec<ModePart>, usize), S
     let mut parts = Vec::new(source.allocator());
     while let Some((mode, next)) = mode_at(source, at) {
         let (names, next) = identifiers(source, next)?;
-        let end = source.expect(next, Terminal::Semicolon)?;
+        let end = source.expect(next, TokenKind::Semicolon)?;
         let token = source.token_no(at);
         parts.push(ModePart { token, mode, names })?;
         at = end;
@@ -92,11 +92,11 @@ fn mode_parts(source: &Source, start: usize) -> Result<(Vec<ModePart>, usize), S
     Ok((parts, at))
 }
 
-// Whether a terminal begins a specification, or virtual procedures of one type.
-fn begins_specification(terminal: Terminal) -> bool
-    ensures { result ≡ one_of specification_spec terminal }
+// Whether a kind begins a specification, or virtual procedures of one type.
+fn begins_specification(kind: TokenKind) -> bool
+    ensures { result ≡ one_of specification_spec kind }
 {
-    terminal == Terminal::Procedure || begins_type(terminal)
+    kind == TokenKind::Procedure || begins_type(kind)
 }
 
 // Specifications, or virtual procedures, at a token, at least one, and the index after them.
@@ -113,7 +113,7 @@ fn specified_list<T: Drop, F: Fn(usize) -> Result<(T, usize), Stop>>(
     let mut list = Vec::new(source.allocator());
     let (first, mut at) = item_at(start)?;
     list.push(first)?;
-    while begins_specification(source.terminal_at(at)) {
+    while begins_specification(source.kind_at(at)) {
         let (next, end) = item_at(at)?;
         list.push(next)?;
         at = end;
@@ -144,7 +144,7 @@ fn specification(source: &Source, at: usize) -> Result<(Specification, usize), S
 {
     let (specifier, next) = specifier(source, at)?;
     let (names, next) = identifiers(source, next)?;
-    let end = source.expect(next, Terminal::Semicolon)?;
+    let end = source.expect(next, TokenKind::Semicolon)?;
     Ok((Specification { specifier, names }, end))
 }
 
@@ -154,7 +154,7 @@ fn specifier(source: &Source, at: usize) -> Result<(Specifier, usize), Stop>
     ensures { (d : ℕ) → GivesFront source.now d g.Specification at specifier_derivation names_row result }
 {
     let token = source.token_no(at);
-    if let Some(next) = source.eat(at, Terminal::Procedure) {
+    if let Some(next) = source.eat(at, TokenKind::Procedure) {
         return Ok((
             Specifier::Procedure {
                 result: None,
@@ -165,10 +165,10 @@ fn specifier(source: &Source, at: usize) -> Result<(Specifier, usize), Stop>
     }
     let (element, next) = type_name(source, at)?;
     let token = source.token_no(next);
-    if let Some(end) = source.eat(next, Terminal::Array) {
+    if let Some(end) = source.eat(next, TokenKind::Array) {
         return Ok((Specifier::Array { element, token }, end));
     }
-    if let Some(end) = source.eat(next, Terminal::Procedure) {
+    if let Some(end) = source.eat(next, TokenKind::Procedure) {
         let result = Some(element);
         return Ok((Specifier::Procedure { result, token }, end));
     }
@@ -184,7 +184,7 @@ pub fn protections(source: &Source, start: usize) -> Result<(Vec<Protection>, us
     let mut list = Vec::new(source.allocator());
     while let Some((words, next)) = protecting_words(source, at) {
         let (names, next) = identifiers(source, next)?;
-        let end = source.expect(next, Terminal::Semicolon)?;
+        let end = source.expect(next, TokenKind::Semicolon)?;
         list.push(Protection {
             hidden: words.hidden,
             protected: words.protected,
@@ -205,26 +205,26 @@ struct ProtectingWords {
 // `hidden`, `protected`, or both in either order, if one of them stands at a token, and the index after them.
 fn protecting_words(source: &Source, at: usize) -> Option<(ProtectingWords, usize)>
     requires within { at < length source.now }
-    ensures { MatchOption result (right_side g.Protection (terminal_at source.now at) ≡ None)
+    ensures { MatchOption result (right_side g.Protection (kind_at source.now at) ≡ None)
         (λ r. (d : ℕ) → ReadsFront source.now d g.Protection at (protecting r.0.hidden r.0.protected) names_row r.1) }
 {
-    let (hidden, next) = word(source, at, Terminal::Hidden);
-    let (protected, end) = word(source, next, Terminal::Protected);
+    let (hidden, next) = word(source, at, TokenKind::Hidden);
+    let (protected, end) = word(source, next, TokenKind::Protected);
     if hidden.is_some() {
         return Some((ProtectingWords { hidden, protected }, end));
     }
     protected?;
-    let (hidden, end) = word(source, end, Terminal::Hidden);
+    let (hidden, end) = word(source, end, TokenKind::Hidden);
     Some((ProtectingWords { hidden, protected }, end))
 }
 
 // The token of a word, if it stands there, and the index after it.
-fn word(source: &Source, at: usize, terminal: Terminal) -> (Option<TokenNo>, usize)
+fn word(source: &Source, at: usize, kind: TokenKind) -> (Option<TokenNo>, usize)
     requires within { at < length source.now }
-    requires no_end { is t.EndOfSource terminal ≡ false }
-    ensures { GivesWord source.now at terminal result.0 result.1 }
+    requires no_end { is k.EndOfSource kind ≡ false }
+    ensures { GivesWord source.now at kind result.0 result.1 }
 {
-    match source.eat(at, terminal) {
+    match source.eat(at, kind) {
         Some(next) => (Some(source.token_no(at)), next),
         None => (None, at),
     }
@@ -235,10 +235,10 @@ pub fn virtuals(source: &Source, at: usize) -> Result<(Vec<VirtualSpecification>
     requires within { at < length source.now }
     ensures { (d : ℕ) → GivesTo source.now d (Of Maybe g.Virtuals) at (λ v. virtuals_derivation v.items) result }
 {
-    let Some(next) = source.eat(at, Terminal::Virtual) else {
+    let Some(next) = source.eat(at, TokenKind::Virtual) else {
         return Ok((Vec::new(source.allocator()), at));
     };
-    let next = source.expect(next, Terminal::Colon)?;
+    let next = source.expect(next, TokenKind::Colon)?;
     virtual_list(source, next)
 }
 
@@ -266,9 +266,9 @@ fn virtual_procedures(source: &Source, at: usize) -> Result<(VirtualSpecificatio
 {
     let (result, next) = result_type(source, at)?;
     let token = source.token_no(next);
-    let next = source.expect(next, Terminal::Procedure)?;
+    let next = source.expect(next, TokenKind::Procedure)?;
     let (names, next) = identifiers(source, next)?;
-    let end = source.expect(next, Terminal::Semicolon)?;
+    let end = source.expect(next, TokenKind::Semicolon)?;
     Ok((
         VirtualSpecification {
             result,
@@ -282,9 +282,9 @@ fn virtual_procedures(source: &Source, at: usize) -> Result<(VirtualSpecificatio
 // The type in front of `procedure`, if there is one.
 fn result_type(source: &Source, at: usize) -> Result<(Option<TypeName>, usize), Stop>
     requires within { at < length source.now }
-    ensures { (d : ℕ) → GivesFront source.now d g.VirtualSpecification at typed (Kept (just t.Procedure) ∷ names_row) result }
+    ensures { (d : ℕ) → GivesFront source.now d g.VirtualSpecification at typed (Kept (just k.Procedure) ∷ names_row) result }
 {
-    if source.terminal_at(at) == Terminal::Procedure {
+    if source.kind_at(at) == TokenKind::Procedure {
         return Ok((None, at));
     }
     let (result, next) = type_name(source, at)?;

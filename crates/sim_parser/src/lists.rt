@@ -6,8 +6,8 @@ ghost use Rattle.sim_tree.specs.Grammar.{Part, Symbol};
 ghost use Rattle.sim_tree.specs.Reading.{Forest};
 ghost use Rattle.sim_parser.specs.CommaLists.{GivesItems, IsFurther, IsReader, ReadsEach};
 
+use sim_base::TokenKind;
 use sim_expr_parser::{Source, Stop, add};
-use sim_tree::Terminal;
 
 /// The items at a token, at least one, with commas between them, and the index after them.
 pub fn comma_list<T: Drop, F: Fn(usize) -> Result<(T, usize), Stop>>(
@@ -22,7 +22,7 @@ pub fn comma_list<T: Drop, F: Fn(usize) -> Result<(T, usize), Stop>>(
     let mut list = Vec::new(source.allocator());
     let (first, mut at) = item_at(start)?;
     add(&mut list, first)?;
-    while let Some(next) = source.eat(at, Terminal::Comma) {
+    while let Some(next) = source.eat(at, TokenKind::Comma) {
         let (item, end) = item_at(next)?;
         add(&mut list, item)?;
         at = end;

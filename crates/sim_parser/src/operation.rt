@@ -2,18 +2,18 @@
 #![tactic(auto, unfolding(sim_tree::specs::Grammar::is))]
 
 ghost use Rattle.std.specs.Prelude.{◌≡◌, ◌≤◌, ◌<◌, ℕ, List, [], ◌∷◌, map, length, true, false, IfOk, MatchOption};
-ghost use Rattle.sim_tree.specs.declared.terminal.Terminal.TheVariants as t;
+ghost use Rattle.sim_base.specs.declared.token.TokenKind.TheVariants as k;
 ghost use Rattle.sim_tree.specs.Grammar as g;
 ghost use Rattle.sim_tree.specs.Grammar.{Kept, Of, Maybe, assignments, one_of};
-ghost use Rattle.sim_tree.specs.Reading.{done, leaf, node, terminal_at};
+ghost use Rattle.sim_tree.specs.Reading.{done, leaf, node, kind_at, bare_leaf};
 ghost use Rattle.sim_tree.specs.Derivation.{raise, row, selector_derivation, derivation_of};
 ghost use Rattle.sim_tree.specs.ProgramDerivation.{acted, activation_kind, assigned_derivation, assignment_kind, prior_derivation, statement_derivation, timing_derivation};
-ghost use Rattle.sim_expr_parser.specs.Parsing.{GivesRow, GivesTo, IsSource, Took};
+ghost use Rattle.sim_expr_parser.specs.Parsing.{GivesRow, GivesTo, IsSource, TookBare};
 ghost use Rattle.sim_parser.specs.Parsing.{GivesAll, ReadsAll, activation_row, activation_words, operation_row};
 
-use sim_base::TokenNo;
+use sim_base::{TokenKind, TokenNo};
 use sim_expr_parser::{LIMIT, Source, Stop, add, expression, postfix};
-use sim_tree::{Activation, Assigned, Assignment, Expr, Selector, Stmt, Terminal, Timing};
+use sim_tree::{Activation, Assigned, Assignment, Expr, Selector, Stmt, Timing};
 use std::alloc::{AllocError, Global};
 
 /// Each assignment sign at a token with what stands on its right, and the index after them.
@@ -36,12 +36,12 @@ pub fn assigned(source: &Source, start: usize, depth: u32) -> Result<(Vec<Assign
 // The assignment sign at a token, if one stands there, and the index after it.
 fn assignment_at(source: &Source, at: usize) -> Option<(Assignment, usize)>
     requires within { at < length source.now }
-    ensures { MatchOption result (one_of assignments (terminal_at source.now at) ≡ false) (λ r. Took source.now at assignments (assignment_kind r.0) r.1) }
+    ensures { MatchOption result (one_of assignments (kind_at source.now at) ≡ false) (λ r. TookBare source.now at assignments (assignment_kind r.0) r.1) }
 {
-    if let Some(next) = source.eat(at, Terminal::Assign) {
+    if let Some(next) = source.eat(at, TokenKind::Assign) {
         return Some((Assignment::Value, next));
     }
-    let next = source.eat(at, Terminal::AssignReference)?;
+    let next = source.eat(at, TokenKind::AssignReference)?;
     Some((Assignment::Reference, next))
 }
 
@@ -75,7 +75,7 @@ pub fn operation(left: Expr, rest: Vec<Assigned>) -> Stmt
 pub fn operation_statement(source: &Source, at: usize, depth: u32) -> Result<(Stmt, usize), Stop>
     requires within { at < length source.now }
     requires shallow { depth ≤ LIMIT }
-    requires begins { one_of (t.This ∷ t.New ∷ t.Open ∷ []) (terminal_at source.now at) ≡ true }
+    requires begins { one_of (k.This ∷ k.New ∷ k.Open ∷ []) (kind_at source.now at) ≡ true }
     ensures { GivesAll source.now depth operation_row at statement_derivation result }
 {
     let (left, next) = postfix(source, at, depth)?;
@@ -108,12 +108,12 @@ pub fn activation_statement(source: &Source, at: usize, depth: u32) -> Result<(S
 // The word of an activation, and the index after it.
 fn activation_at(source: &Source, at: usize) -> Result<(Activation, usize), Stop>
     requires within { at < length source.now }
-    ensures { (d : ℕ) → GivesTo source.now d (Kept activation_words) at (λ a f. leaf at (activation_kind a) f) result }
+    ensures { (d : ℕ) → GivesTo source.now d (Kept activation_words) at (λ a f. bare_leaf at (activation_kind a) f) result }
 {
-    if let Some(next) = source.eat(at, Terminal::Activate) {
+    if let Some(next) = source.eat(at, TokenKind::Activate) {
         return Ok((Activation::Activate, next));
     }
-    let next = source.expect(at, Terminal::Reactivate)?;
+    let next = source.expect(at, TokenKind::Reactivate)?;
     Ok((Activation::Reactivate, next))
 }
 
@@ -124,21 +124,21 @@ fn timing(source: &Source, at: usize, depth: u32) -> Result<(Option<Timing>, usi
     ensures { GivesAll source.now depth (Of Maybe g.Timing ∷ []) at timing_derivation result }
 {
     let token = source.token_no(at);
-    if let Some(next) = source.eat(at, Terminal::At) {
+    if let Some(next) = source.eat(at, TokenKind::At) {
         let (time, next) = expression(source, next, depth)?;
         let (prior, end) = prior(source, next);
         return Ok((Some(Timing::At { token, time, prior }), end));
     }
-    if let Some(next) = source.eat(at, Terminal::Delay) {
+    if let Some(next) = source.eat(at, TokenKind::Delay) {
         let (time, next) = expression(source, next, depth)?;
         let (prior, end) = prior(source, next);
         return Ok((Some(Timing::Delay { token, time, prior }), end));
     }
-    if let Some(next) = source.eat(at, Terminal::Before) {
+    if let Some(next) = source.eat(at, TokenKind::Before) {
         let (process, end) = expression(source, next, depth)?;
         return Ok((Some(Timing::Before { token, process }), end));
     }
-    let Some(next) = source.eat(at, Terminal::After) else {
+    let Some(next) = source.eat(at, TokenKind::After) else {
         return Ok((None, at));
     };
     let (process, end) = expression(source, next, depth)?;
@@ -150,7 +150,7 @@ fn prior(source: &Source, at: usize) -> (Option<TokenNo>, usize)
     requires within { at < length source.now }
     ensures { (d : ℕ) → ReadsAll source.now d (Of Maybe g.PriorMark ∷ []) at (prior_derivation result.0) result.1 }
 {
-    match source.eat(at, Terminal::Prior) {
+    match source.eat(at, TokenKind::Prior) {
         Some(next) => (Some(source.token_no(at)), next),
         None => (None, at),
     }

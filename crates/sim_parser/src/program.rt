@@ -11,9 +11,9 @@ ghost use Rattle.sim_parser.specs.Program.{GivesPrefix, GivesProgram};
 
 use crate::statement::compound;
 use crate::words::past_semicolons;
-use sim_base::{Line, Rule, Token};
+use sim_base::{Line, Rule, Token, TokenKind};
 use sim_expr_parser::{Source, Stop, SyntaxRefusal, arguments};
-use sim_tree::{BlockPrefix, Program, Terminal};
+use sim_tree::{BlockPrefix, Program};
 use std::alloc::{AllocError, Global};
 
 /// The tree of a whole program, or by Y1 the first token with which the tokens begin no program, or by Y2 the first token
@@ -46,7 +46,7 @@ fn program(source: &Source) -> Result<Program, Stop>
     let (prefix, at) = block_prefix(source)?;
     let (block, next) = compound(source, at, 0)?;
     let end = past_semicolons(source, next);
-    if source.terminal_at(end) != Terminal::EndOfSource {
+    if source.kind_at(end) != TokenKind::EndOfSource {
         return Err(Stop::Unexpected(end));
     }
     let lines = lines(source.allocator(), source.tokens())?;
@@ -62,8 +62,8 @@ fn block_prefix(source: &Source) -> Result<(Option<BlockPrefix>, usize), Stop>
     requires source { IsWholeSource source.now }
     ensures { GivesPrefix source.now result }
 {
-    if source.terminal_at(0) != Terminal::Identifier {
-        source.expect(0, Terminal::Begin)?;
+    if source.kind_at(0) != TokenKind::Identifier {
+        source.expect(0, TokenKind::Begin)?;
         return Ok((None, 0));
     }
     let (class, next) = source.identifier_at(0)?;

@@ -4,8 +4,8 @@
 ghost use Rattle.std.specs.Prelude.{◌≡◌, ◌≤◌, ◌<◌, ◌+◌, ℕ, List, [], ◌∷◌, map, length, true};
 ghost use Rattle.sim_tree.specs.Grammar as g;
 ghost use Rattle.sim_tree.specs.Grammar.{Kept, Of, Once, Maybe, Many, just, one_of};
-ghost use Rattle.sim_tree.specs.declared.terminal.Terminal.TheVariants as t;
-ghost use Rattle.sim_tree.specs.Reading.{Forest, done, node, terminal_at};
+ghost use Rattle.sim_base.specs.declared.token.TokenKind.TheVariants as k;
+ghost use Rattle.sim_tree.specs.Reading.{Forest, done, node, kind_at};
 ghost use Rattle.sim_tree.specs.Derivation.{row};
 ghost use Rattle.sim_tree.specs.ProgramDerivation.{block_derivation, class_derivation, procedure_derivation, statements as statements_derivation, statement_derivation, when_derivation};
 ghost use Rattle.sim_parser.specs.Parsing.{GivesAll, GivesDecl, GivesDeclaration, GivesDeclarations, GivesInside, GivesPart, GivesStatements, GivesTyped, NoDeclaration, begins as begins_spec, body_row, branch_part, branch_derivation, branch_word, connection_row, connection_derivation, for_row, identified_row, if_row, inspect_row, while_row};
@@ -18,9 +18,9 @@ use crate::operation::{activation_statement, assigned, operand, operation, opera
 use crate::words::{
     begins_declaration, begins_statement, past_closing, past_semicolons, prefixed_class_at,
 };
-use sim_base::TokenNo;
+use sim_base::{TokenKind, TokenNo};
 use sim_expr_parser::{LIMIT, Source, Stop, arguments, expression, selectors};
-use sim_tree::{Block, BlockPrefix, Class, Decl, Expr, Procedure, Stmt, Terminal, TypeName, When};
+use sim_tree::{Block, BlockPrefix, Class, Decl, Expr, Procedure, Stmt, TypeName, When};
 
 /// What a connection does, from its `do` on.
 #[derive(Drop)]
@@ -44,12 +44,12 @@ pub enum Branch {
 
 impl Branch {
     // Its word.
-    fn word(self) -> Terminal
+    fn word(self) -> TokenKind
         ensures { result ≡ branch_word self }
     {
         match self {
-            Branch::Else => Terminal::Else,
-            Branch::Otherwise => Terminal::Otherwise,
+            Branch::Else => TokenKind::Else,
+            Branch::Otherwise => TokenKind::Otherwise,
         }
     }
 }
@@ -69,7 +69,7 @@ pub fn statement(source: &Source, at: usize, depth: u32) -> Result<(Stmt, usize)
     requires shallow { depth ≤ LIMIT }
     ensures { GivesPart source.now depth g.Statement at statement_derivation result }
 {
-    if !begins_statement(source.terminal_at(at)) {
+    if !begins_statement(source.kind_at(at)) {
         let token = source.token_no(at);
         return Ok((Stmt::Empty { token }, at));
     }
@@ -84,18 +84,18 @@ pub fn statement(source: &Source, at: usize, depth: u32) -> Result<(Stmt, usize)
 fn begun_statement(source: &Source, at: usize, depth: u32) -> Result<(Stmt, usize), Stop>
     requires within { at < length source.now }
     requires shallow { depth ≤ LIMIT }
-    requires begins { one_of begins_spec (terminal_at source.now at) ≡ true }
+    requires begins { one_of begins_spec (kind_at source.now at) ≡ true }
     ensures { GivesInside source.now depth at result }
 {
-    match source.terminal_at(at) {
-        Terminal::Begin => block_statement(source, at, depth),
-        Terminal::Identifier => identified_statement(source, at, depth),
-        Terminal::Inner => inner_statement(source, at),
-        Terminal::If => if_statement(source, at, depth),
-        Terminal::While => while_statement(source, at, depth),
-        Terminal::For => for_statement(source, at, depth),
-        Terminal::Inspect => inspect_statement(source, at, depth),
-        Terminal::Activate | Terminal::Reactivate => { activation_statement(source, at, depth) }
+    match source.kind_at(at) {
+        TokenKind::Begin => block_statement(source, at, depth),
+        TokenKind::Identifier => identified_statement(source, at, depth),
+        TokenKind::Inner => inner_statement(source, at),
+        TokenKind::If => if_statement(source, at, depth),
+        TokenKind::While => while_statement(source, at, depth),
+        TokenKind::For => for_statement(source, at, depth),
+        TokenKind::Inspect => inspect_statement(source, at, depth),
+        TokenKind::Activate | TokenKind::Reactivate => { activation_statement(source, at, depth) }
         _ => operation_statement(source, at, depth),
     }
 }
@@ -103,10 +103,10 @@ fn begun_statement(source: &Source, at: usize, depth: u32) -> Result<(Stmt, usiz
 #[inline(never)]
 fn inner_statement(source: &Source, at: usize) -> Result<(Stmt, usize), Stop>
     requires within { at < length source.now }
-    ensures { (d : ℕ) → GivesAll source.now d (Kept (just t.Inner) ∷ []) at statement_derivation result }
+    ensures { (d : ℕ) → GivesAll source.now d (Kept (just k.Inner) ∷ []) at statement_derivation result }
 {
     let token = source.token_no(at);
-    let end = source.expect(at, Terminal::Inner)?;
+    let end = source.expect(at, TokenKind::Inner)?;
     Ok((Stmt::Inner { token }, end))
 }
 
@@ -129,7 +129,7 @@ fn identified_statement(source: &Source, at: usize, depth: u32) -> Result<(Stmt,
 {
     let (name, next) = source.identifier_at(at)?;
     let (arguments, next) = arguments(source, next, depth)?;
-    if source.terminal_at(next) == Terminal::Begin {
+    if source.kind_at(next) == TokenKind::Begin {
         let (block, end) = compound(source, next, depth)?;
         let prefix = BlockPrefix {
             class: name,
@@ -154,9 +154,9 @@ fn if_statement(source: &Source, at: usize, depth: u32) -> Result<(Stmt, usize),
     ensures { GivesAll source.now depth if_row at statement_derivation result }
 {
     let token = source.token_no(at);
-    let next = source.expect(at, Terminal::If)?;
+    let next = source.expect(at, TokenKind::If)?;
     let (condition, next) = expression(source, next, depth)?;
-    let next = source.expect(next, Terminal::Then)?;
+    let next = source.expect(next, TokenKind::Then)?;
     let (first, next) = statement(source, next, depth)?;
     let then_branch = Box::new(source.allocator(), first)?;
     let (else_branch, end) = optional_branch(source, next, depth, Branch::Else)?;
@@ -198,7 +198,7 @@ fn while_statement(source: &Source, at: usize, depth: u32) -> Result<(Stmt, usiz
     ensures { GivesAll source.now depth while_row at statement_derivation result }
 {
     let token = source.token_no(at);
-    let next = source.expect(at, Terminal::While)?;
+    let next = source.expect(at, TokenKind::While)?;
     let (condition, next) = expression(source, next, depth)?;
     let (body, end) = body(source, next, depth)?;
     let body = Box::new(source.allocator(), body)?;
@@ -219,7 +219,7 @@ fn body(source: &Source, at: usize, depth: u32) -> Result<(Stmt, usize), Stop>
     requires shallow { depth ≤ LIMIT }
     ensures { GivesAll source.now depth body_row at (λ s. node g.Statement (statement_derivation s) done) result }
 {
-    let next = source.expect(at, Terminal::Do)?;
+    let next = source.expect(at, TokenKind::Do)?;
     statement(source, next, depth)
 }
 
@@ -230,7 +230,7 @@ fn for_statement(source: &Source, at: usize, depth: u32) -> Result<(Stmt, usize)
     ensures { GivesAll source.now depth for_row at statement_derivation result }
 {
     let token = source.token_no(at);
-    let next = source.expect(at, Terminal::For)?;
+    let next = source.expect(at, TokenKind::For)?;
     let (variable, next) = source.identifier_at(next)?;
     let (list, next) = for_list(source, next, depth)?;
     let (body, end) = body(source, next, depth)?;
@@ -261,9 +261,9 @@ fn inspect_statement(source: &Source, at: usize, depth: u32) -> Result<(Stmt, us
     ensures { GivesAll source.now depth inspect_row at statement_derivation result }
 {
     let token = source.token_no(at);
-    let next = source.expect(at, Terminal::Inspect)?;
+    let next = source.expect(at, TokenKind::Inspect)?;
     let (object, next) = expression(source, next, depth)?;
-    if source.terminal_at(next) == Terminal::Do {
+    if source.kind_at(next) == TokenKind::Do {
         let (connection, next) = connected_at(source, next, depth)?;
         let Connection { opening, body, end } = connection;
         let body = Box::new(source.allocator(), body)?;
@@ -299,13 +299,13 @@ fn inspect_statement(source: &Source, at: usize, depth: u32) -> Result<(Stmt, us
 fn when_arms(source: &Source, start: usize, depth: u32) -> Result<(Vec<When>, usize), Stop>
     requires within { start < length source.now }
     requires shallow { depth ≤ LIMIT }
-    requires no_do { terminal_at source.now start ≡ t.Do → ⊥ }
+    requires no_do { kind_at source.now start ≡ k.Do → ⊥ }
     ensures { GivesPart source.now depth g.Arms start (λ v. row g.WhenArm (map when_derivation v.items) done) result }
 {
-    source.expect(start, Terminal::When)?;
+    source.expect(start, TokenKind::When)?;
     let mut at = start;
     let mut arms = Vec::new(source.allocator());
-    while source.terminal_at(at) == Terminal::When {
+    while source.kind_at(at) == TokenKind::When {
         let (arm, next) = when_arm(source, at, depth)?;
         arms.push(arm)?;
         at = next;
@@ -321,7 +321,7 @@ fn when_arm(source: &Source, at: usize, depth: u32) -> Result<(When, usize), Sto
     ensures { GivesPart source.now depth g.WhenArm at when_derivation result }
 {
     let token = source.token_no(at);
-    let next = source.expect(at, Terminal::When)?;
+    let next = source.expect(at, TokenKind::When)?;
     let (class, next) = source.identifier_at(next)?;
     let (connection, next) = connected_at(source, next, depth)?;
     let Connection { opening, body, end } = connection;
@@ -346,7 +346,7 @@ fn connected_at(source: &Source, at: usize, depth: u32) -> Result<(Connection, u
     ensures { GivesAll source.now depth connection_row at connection_derivation result }
 {
     let opening = source.token_no(at);
-    let next = source.expect(at, Terminal::Do)?;
+    let next = source.expect(at, TokenKind::Do)?;
     let (body, next) = statement(source, next, depth)?;
     let end = source.token_no(next);
     Ok((Connection { opening, body, end }, next))
@@ -360,7 +360,7 @@ pub fn compound(source: &Source, at: usize, depth: u32) -> Result<(Block, usize)
     ensures { GivesPart source.now depth g.Compound at block_derivation result }
 {
     let token = source.token_no(at);
-    let next = source.expect(at, Terminal::Begin)?;
+    let next = source.expect(at, TokenKind::Begin)?;
     let next = past_semicolons(source, next);
     let (declarations, next) = declarations(source, next, depth)?;
     let (sequence, end) = sequence_at(source, next, depth)?;
@@ -403,7 +403,7 @@ fn declaration(source: &Source, at: usize, depth: u32) -> Result<Option<(Decl, u
     if let Some(word) = prefixed_class_at(source, at) {
         let (prefix, _) = source.identifier_at(at)?;
         let token = source.token_no(word);
-        let next = source.expect(word, Terminal::Class)?;
+        let next = source.expect(word, TokenKind::Class)?;
         let (class, next) = class(source, next, depth)?;
         let end = past_closing(source, next)?;
         let prefix = Some(prefix);
@@ -416,7 +416,7 @@ fn declaration(source: &Source, at: usize, depth: u32) -> Result<Option<(Decl, u
             end,
         )));
     }
-    if !begins_declaration(source.terminal_at(at)) {
+    if !begins_declaration(source.kind_at(at)) {
         return Ok(None);
     }
     let (declared, next) = plain_declaration(source, at, depth)?;
@@ -433,7 +433,7 @@ fn plain_declaration(source: &Source, at: usize, depth: u32) -> Result<(Decl, us
     ensures { GivesDecl source.now depth at result }
 {
     let token = source.token_no(at);
-    if let Some(next) = source.eat(at, Terminal::Procedure) {
+    if let Some(next) = source.eat(at, TokenKind::Procedure) {
         let (procedure, end) = procedure(source, next, depth)?;
         return Ok((
             Decl::Procedure {
@@ -444,7 +444,7 @@ fn plain_declaration(source: &Source, at: usize, depth: u32) -> Result<(Decl, us
             end,
         ));
     }
-    if let Some(next) = source.eat(at, Terminal::Class) {
+    if let Some(next) = source.eat(at, TokenKind::Class) {
         let (class, end) = class(source, next, depth)?;
         return Ok((
             Decl::Class {
@@ -473,7 +473,7 @@ fn typed_declaration(
     ensures { GivesTyped type_name source.now depth at result }
 {
     let token = source.token_no(at);
-    if let Some(next) = source.eat(at, Terminal::Procedure) {
+    if let Some(next) = source.eat(at, TokenKind::Procedure) {
         let (procedure, end) = procedure(source, next, depth)?;
         let result = Some(type_name);
         return Ok((
@@ -485,7 +485,7 @@ fn typed_declaration(
             end,
         ));
     }
-    if let Some(next) = source.eat(at, Terminal::Array) {
+    if let Some(next) = source.eat(at, TokenKind::Array) {
         let (segments, end) = segments(source, next, depth)?;
         return Ok((
             Decl::Arrays {
@@ -496,7 +496,7 @@ fn typed_declaration(
             end,
         ));
     }
-    source.expect(at, Terminal::Identifier)?;
+    source.expect(at, TokenKind::Identifier)?;
     let (variables, end) = variables(source, at)?;
     Ok((
         Decl::Variables {
@@ -581,16 +581,16 @@ fn sequence_at(source: &Source, at: usize, depth: u32) -> Result<(Sequence, usiz
     ensures { GivesPart source.now depth g.Block at (λ s. statements_derivation (map statement_derivation s.statements.items) s.end.0) result }
 {
     let end = source.token_no(at);
-    if let Some(next) = source.eat(at, Terminal::End) {
+    if let Some(next) = source.eat(at, TokenKind::End) {
         let statements = Vec::new(source.allocator());
         return Ok((Sequence { statements, end }, next));
     }
-    if !begins_statement(source.terminal_at(at)) {
+    if !begins_statement(source.kind_at(at)) {
         return Err(Stop::Unexpected(at));
     }
     let (statements, next) = statements(source, at, depth)?;
     let end = source.token_no(next);
-    let next = source.expect(next, Terminal::End)?;
+    let next = source.expect(next, TokenKind::End)?;
     Ok((Sequence { statements, end }, next))
 }
 
@@ -605,7 +605,7 @@ fn statements(source: &Source, start: usize, depth: u32) -> Result<(Vec<Stmt>, u
     let mut list = Vec::new(source.allocator());
     let (first, mut at) = statement(source, start, depth)?;
     list.push(first)?;
-    while let Some(next) = source.eat(at, Terminal::Semicolon) {
+    while let Some(next) = source.eat(at, TokenKind::Semicolon) {
         let (following, end) = statement(source, next, depth)?;
         list.push(following)?;
         at = end;

@@ -1,5 +1,5 @@
 -- An expression of a derivation without words of classes has none of their forms.
-use Rattle.std.proofs.Common.{◌≡◌, ◌≤◌, ◌<◌, ℕ, Bool, true, false, zero, suc, List, [], ◌∷◌, Option, Some, None, map, refl, sym, ap, ◌∙◌, arith, subst, if◌then◌else◌}
+use Rattle.std.proofs.Common.{◌≡◌, ◌≤◌, ◌<◌, ℕ, Bool, true, false, zero, suc, List, [], ◌∷◌, Option, Some, None, map, sym, ap, ◌∙◌, arith, subst, if◌then◌else◌}
 use Rattle.std.proofs.lemmas.Bool.{false≢true}
 use Rattle.std.specs.Prelude.{not, nat_eq}
 use Rattle.sim_base.specs.declared.numbering.TokenNo.{TokenNo}
@@ -19,7 +19,7 @@ use Rattle.sim_tree.specs.declared.operator.Operator.{Operator}
 use Rattle.sim_tree.specs.declared.operator.Operator.TheVariants as o
 use Rattle.sim_tree.specs.Grammar as g
 use Rattle.sim_tree.specs.Grammar.{Part}
-use Rattle.sim_tree.specs.Reading.{Forest, done, leaf, place, node}
+use Rattle.sim_tree.specs.Reading.{Forest, done, node}
 use Rattle.sim_tree.specs.Tree.{is_bare}
 use Rattle.sim_tree.specs.Nesting.{has_token}
 use Rattle.sim_tree.specs.Derivation as d

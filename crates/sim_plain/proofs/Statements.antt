@@ -1,10 +1,9 @@
 -- A program of a derivation without words of classes, without prefixes and without parameters that are code, is plain.
-use Rattle.std.proofs.Common.{◌≡◌, ℕ, Bool, true, false, ◌||◌, List, [], ◌∷◌, ◌++◌, Option, Some, None, map, refl, sym, ap, ◌∙◌, subst}
+use Rattle.std.proofs.Common.{◌≡◌, ℕ, Bool, true, false, ◌||◌, List, [], ◌∷◌, ◌++◌, Option, Some, None, map, refl, sym, ap}
 use Rattle.std.proofs.lemmas.Bool.{false≢true}
 use Rattle.std.specs.List.{list_any}
 use Rattle.std.specs.Prelude.{not, option_map}
 use Rattle.sim_base.specs.declared.token.Token.{Token}
-use Rattle.sim_base.specs.declared.token.TokenKind.{TokenKind}
 use Rattle.sim_base.specs.declared.token.TokenKind.TheVariants as k
 use Rattle.sim_tree.specs.declared.expr.Expr.{Expr}
 use Rattle.sim_tree.specs.declared.expr.Identifier.{Identifier}
@@ -32,15 +31,14 @@ use Rattle.sim_tree.specs.declared.stmt.Specifier.TheVariants as specifier
 use Rattle.sim_tree.specs.declared.stmt.Stmt.{Stmt}
 use Rattle.sim_tree.specs.declared.stmt.TypeName.{TypeName}
 use Rattle.sim_tree.specs.declared.stmt.TypeName.TheVariants as type_name
-use Rattle.sim_tree.specs.declared.stmt.When.{When}
 use Rattle.sim_tree.specs.Grammar as g
 use Rattle.sim_tree.specs.Nesting.{has_token}
-use Rattle.sim_tree.specs.Reading.{Forest, done, leaf, place, node}
+use Rattle.sim_tree.specs.Reading.{Forest, done, leaf, place, node, bare_leaf}
 use Rattle.sim_tree.specs.Derivation.{derivation_of, raise, row, expression}
 use Rattle.sim_tree.specs.ProgramDerivation as d
-use Rattle.sim_tree.specs.ProgramDerivation.{Declared, Prefixed, acted, assigned_derivation, begun, block_derivation, class_derivation, contents, declaration_derivation, joined, next_statement, procedure_derivation, program_derivation, statement_derivation, when_derivation}
+use Rattle.sim_tree.specs.ProgramDerivation.{Declared, Prefixed, acted, assigned_derivation, begun, block_derivation, contents, declaration_derivation, joined, next_statement, program_derivation, statement_derivation}
 use Rattle.sim_tree.specs.Syntax as s
-use Rattle.sim_tree.specs.Syntax.{Declaration, Declarations, Statement, Statements, declarations, statements}
+use Rattle.sim_tree.specs.Syntax.{Declaration, Declarations, Statement, declarations, statements}
 use Rattle.sim_tree.specs.Syntax.{Block as BlockSyntax}
 use Rattle.sim_tree.specs.SyntaxOf.{syntax_of}
 use Rattle.sim_tree.specs.SyntaxOfProgram as t
@@ -127,23 +125,23 @@ EachDeclaration = induction.EachDeclaration Says Declares Blocks Classes Procedu
 
 clean_joined : (dotted : Bool) (f h : Forest) → CleanBehind dotted (joined f h) → CleanBehind dotted f × ((behind : Bool) × CleanBehind behind h)
 clean_joined dotted done h c = (tt, (dotted, c))
-clean_joined dotted (leaf i kind f) h c = let r = clean_joined (is_dot kind) f h c.1 in ((c.0, r.0), r.1)
+clean_joined dotted (leaf i kind value f) h c = let r = clean_joined (is_dot kind) f h c.1 in ((c.0, r.0), r.1)
 clean_joined dotted (place i f) h c = clean_joined dotted f h c
 clean_joined dotted (node n inside f) h c = let r = clean_joined false f h c.1 in ((c.0, r.0), r.1)
 
 clean_acted : (f rest : Forest) → Clean (acted f rest) → Clean f × ((behind : Bool) × CleanBehind behind rest)
-clean_acted (node g.Primary (leaf i (k.Identifier name) act) sel) rest c =
+clean_acted (node g.Primary (leaf i k.Identifier value act) sel) rest c =
     let one = clean_joined false act (node g.AfterFirstOperand (joined sel rest) done) c.1 in
     let two = clean_joined false sel rest one.1.1.0 in
     (((c.0, one.0), two.0), two.1)
 clean_acted f rest c = (c.0, (false, c.1))
 
 clean_begun : (f rest : Forest) → Clean (begun f rest) → Clean f × Clean rest
-clean_begun (leaf i (k.Identifier name) f) rest c = ((c.0, c.1.0.0), c.1.0.1)
+clean_begun (leaf i k.Identifier value f) rest c = ((c.0, c.1.0.0), c.1.0.1)
 clean_begun f rest c = c
 
 begun_full : (f rest : Forest) → Full (begun f rest) → (has_token g.Statement f ≡ true) × Full f × Full rest
-begun_full (leaf i (k.Identifier name) f) rest full = (refl, full.1.1, full.1.2)
+begun_full (leaf i k.Identifier value f) rest full = (refl, full.1.1, full.1.2)
 begun_full f rest full = full
 
 clean_behind_row : (n : g.Part) (fs : List Forest) (f : Forest) → Clean (row n fs f) → Clean f
@@ -243,7 +241,7 @@ plain_heading name ps ms xs h c =
 
 -- ---- blocks
 
-more_statements : (fs : List Forest) (es : List Statement) (end : ℕ) → EachStatement fs es → Full (row g.NextStatement (map next_statement fs) (leaf end k.End done)) → Clean (row g.NextStatement (map next_statement fs) (leaf end k.End done))
+more_statements : (fs : List Forest) (es : List Statement) (end : ℕ) → EachStatement fs es → Full (row g.NextStatement (map next_statement fs) (bare_leaf end k.End done)) → Clean (row g.NextStatement (map next_statement fs) (bare_leaf end k.End done))
     → Free (statements_events forms Inside (statements es)) → PlainStatements (statements es)
 more_statements [] [] end each full c free = tt
 more_statements [] (e ∷ es) end each full c free = absurd each
@@ -257,7 +255,7 @@ statements_plain [] [] end each full c free = tt
 statements_plain [] (e ∷ es) end each full c free = absurd each
 statements_plain (f ∷ fs) [] end each full c free = absurd each
 statements_plain (f ∷ fs) (e ∷ es) end each full c free =
-    let rest = row g.NextStatement (map next_statement fs) (leaf end k.End done) in
+    let rest = row g.NextStatement (map next_statement fs) (bare_leaf end k.End done) in
     let parts = begun_full f rest full in
     let clean = clean_begun f rest c in
     let both = free_both (statement_events forms Inside e) (statements_events forms Inside (statements es)) free in

@@ -5,12 +5,11 @@ use Rattle.std.specs.Prelude.{not}
 use Rattle.sim_base.specs.declared.token.Token.{Token}
 use Rattle.sim_base.specs.declared.token.TokenKind.{TokenKind}
 use Rattle.sim_base.specs.declared.token.TokenKind.TheVariants as k
-use Rattle.sim_tree.specs.declared.terminal.Terminal.{Terminal}
-use Rattle.sim_tree.specs.declared.terminal.Terminal.TheVariants as t
+use Rattle.sim_base.specs.declared.token.TokenValue.{TokenValue}
+use Rattle.sim_base.specs.Lexeme.{value_for}
 use Rattle.sim_tree.specs.Grammar as g
 use Rattle.sim_tree.specs.Grammar.{Part, Times, Once, Maybe, Many, Symbol, Kept, Mark, Any, Here, Of, is, one_of, rows, right_side}
-use Rattle.sim_tree.specs.Reading.{Forest, Reads, reads-done, reads-kept, reads-mark, reads-any, reads-none, reads-here, reads-part, reads-skip, after, kind_at, terminal_at}
-use Rattle.sim_tree.specs.Terminal.{terminal_of}
+use Rattle.sim_tree.specs.Reading.{Forest, Reads, reads-done, reads-kept, reads-mark, reads-any, reads-none, reads-here, reads-part, reads-skip, after, kind_at, value_at}
 use Rattle.sim_tree.proofs.Follow.{each_row}
 use Rattle.sim_tree.proofs.Completion.{left_true, right_true, row_get}
 use Rattle.sim_static.specs.NeedsClasses.{ends_prefix, is_begin, is_dot, needs, needs_from, needs_here}
@@ -25,19 +24,26 @@ abbrev dotted_at : Bool → List Token → ℕ → Bool
 dotted_at dotted ws zero = dotted
 dotted_at dotted ws (suc i) = is_dot (kind_at ws i)
 
-parted : (dotted before : Bool) (w : Token) (ws : List Token) → needs_from dotted before (w ∷ ws) ≡ false → (needs dotted w.kind ≡ false) × (needs_from (is_dot w.kind) (ends_prefix w.kind) ws ≡ false)
+parted : (dotted before : Bool) (w : Token) (ws : List Token) → needs_from dotted before (w ∷ ws) ≡ false
+    → (needs dotted w.lexeme.kind w.lexeme.value ≡ false) × (needs_from (is_dot w.lexeme.kind) (ends_prefix w.lexeme.kind) ws ≡ false)
 unfolding needs_from needs_here
 parted dotted before w ws h =
-    let both = either (needs dotted w.kind || before && is_begin w.kind) (needs_from (is_dot w.kind) (ends_prefix w.kind) ws) h in
-    ((either (needs dotted w.kind) (before && is_begin w.kind) both.0).0, both.1)
+    let here = needs dotted w.lexeme.kind w.lexeme.value in
+    let both = either (here || before && is_begin w.lexeme.kind) (needs_from (is_dot w.lexeme.kind) (ends_prefix w.lexeme.kind) ws) h in
+    ((either here (before && is_begin w.lexeme.kind) both.0).0, both.1)
 
-pub none_needs : (dotted before : Bool) (ws : List Token) → needs_from dotted before ws ≡ false → (i : ℕ) → needs (dotted_at dotted ws i) (kind_at ws i) ≡ false
-unfolding kind_at
+-- what its value says is what stands beside the kind
+said : (dotted : Bool) (kind : TokenKind) (value : TokenValue) → needs dotted kind (value_for kind value) ≡ needs dotted kind value
+said dotted k.Identifier value = refl
+said dotted _ value = refl
+
+pub none_needs : (dotted before : Bool) (ws : List Token) → needs_from dotted before ws ≡ false → (i : ℕ) → needs (dotted_at dotted ws i) (kind_at ws i) (value_at ws i) ≡ false
+unfolding kind_at value_at
 none_needs dotted before [] h zero = refl
 none_needs dotted before [] h (suc i) = refl
-none_needs dotted before (w ∷ ws) h zero = (parted dotted before w ws h).0
-none_needs dotted before (w ∷ ws) h (suc zero) = none_needs (is_dot w.kind) (ends_prefix w.kind) ws (parted dotted before w ws h).1 zero
-none_needs dotted before (w ∷ ws) h (suc (suc i)) = none_needs (is_dot w.kind) (ends_prefix w.kind) ws (parted dotted before w ws h).1 (suc i)
+none_needs dotted before (w ∷ ws) h zero = said dotted w.lexeme.kind w.lexeme.value ∙ (parted dotted before w ws h).0
+none_needs dotted before (w ∷ ws) h (suc zero) = none_needs (is_dot w.lexeme.kind) (ends_prefix w.lexeme.kind) ws (parted dotted before w ws h).1 zero
+none_needs dotted before (w ∷ ws) h (suc (suc i)) = none_needs (is_dot w.lexeme.kind) (ends_prefix w.lexeme.kind) ws (parted dotted before w ws h).1 (suc i)
 
 -- In the grammar a token follows each dot.
 abbrev starts_kept : List Symbol → Bool
@@ -49,9 +55,9 @@ ready dotted s = if dotted then starts_kept s else true
 
 abbrev steady : List Symbol → Bool
 steady [] = true
-steady (Kept any ∷ s) = ready (one_of any t.Dot) s && steady s
-steady (Mark a ∷ s) = not (is t.Dot a) && steady s
-steady (Any a ∷ s) = not (is t.Dot a) && steady s
+steady (Kept any ∷ s) = ready (one_of any k.Dot) s && steady s
+steady (Mark a ∷ s) = not (is k.Dot a) && steady s
+steady (Any a ∷ s) = not (is k.Dot a) && steady s
 steady (Here ∷ s) = steady s
 steady (Of times n ∷ s) = steady s
 
@@ -60,16 +66,16 @@ unfolding is
 rows_steady g.Program = refl
 rows_steady _ = refl
 
-right_steady : (n : Part) (ws : List Token) (i : ℕ) (right : List Symbol) → right_side n (terminal_at ws i) ≡ Some right → steady right ≡ true
+right_steady : (n : Part) (ws : List Token) (i : ℕ) (right : List Symbol) → right_side n (kind_at ws i) ≡ Some right → steady right ≡ true
 unfolding right_side
-right_steady n ws i right e = row_get (rows n) steady (terminal_at ws i) right (rows_steady n) e
+right_steady n ws i right e = row_get (rows n) steady (kind_at ws i) right (rows_steady n) e
 
 after_steady : (times : Times) (n : Part) (s : List Symbol) → steady s ≡ true → steady (after times n s) ≡ true
 after_steady Once n s h = h
 after_steady Maybe n s h = h
 after_steady Many n s h = h
 
-behind_kept : (kind : TokenKind) (any : List Terminal) (s : List Symbol) → one_of any (terminal_of kind) ≡ true → ready (one_of any t.Dot) s ≡ true → ready (is_dot kind) s ≡ true
+behind_kept : (kind : TokenKind) (any : List TokenKind) (s : List Symbol) → one_of any kind ≡ true → ready (one_of any k.Dot) s ≡ true → ready (is_dot kind) s ≡ true
 behind_kept k.Dot any s h r = ap (λ z. ready z s) (sym h) ∙ r
 behind_kept _ any s h r = refl
 
@@ -77,8 +83,8 @@ no_dot : (b : Bool) → b ≡ true → not b ≡ true → true ≡ false
 no_dot true h n = sym n
 no_dot false h n = sym h
 
-behind_mark : (kind : TokenKind) (a : Terminal) → is (terminal_of kind) a ≡ true → not (is t.Dot a) ≡ true → is_dot kind ≡ false
-behind_mark k.Dot a h n = no_dot (is t.Dot a) h n
+behind_mark : (kind : TokenKind) (a : TokenKind) → is kind a ≡ true → not (is k.Dot a) ≡ true → is_dot kind ≡ false
+behind_mark k.Dot a h n = no_dot (is k.Dot a) h n
 behind_mark _ a h n = refl
 
 behind : (ws : List Token) (i : ℕ) → dotted_at false ws (i + 1) ≡ is_dot (kind_at ws i)
@@ -91,21 +97,20 @@ behind ws i = ap (dotted_at false ws) next
 abbrev CleanTo : List Token → Bool → Forest → ℕ → Type 0
 CleanTo ws dotted f j = CleanBehind dotted f × (dotted_at false ws j ≡ false)
 
-module _ {most : ℕ} {ws : List Token} (free : (i : ℕ) → needs (dotted_at false ws i) (kind_at ws i) ≡ false) where
+module _ {most : ℕ} {ws : List Token} (free : (i : ℕ) → needs (dotted_at false ws i) (kind_at ws i) (value_at ws i) ≡ false) where
   clean : {d i j : ℕ} {s : List Symbol} {f : Forest} → Reads most ws d s i f j → (dotted : Bool) → dotted_at false ws i ≡ dotted → ready dotted s ≡ true → steady s ≡ true → CleanTo ws dotted f j
-  unfolding terminal_at
   clean reads-done true is r st = absurd (false≢true r)
   clean reads-done false is r st = (tt, is)
   clean (reads-kept {start = i} {any = any} {s = s} h q) dotted is r st =
-      let rest = clean q (is_dot (kind_at ws i)) (behind ws i) (behind_kept (kind_at ws i) any s h (left_true (ready (one_of any t.Dot) s) (steady s) st)) (right_true (ready (one_of any t.Dot) s) (steady s) st) in
-      ((subst (λ z. needs z (kind_at ws i) ≡ false) is (free i), rest.0), rest.1)
+      let rest = clean q (is_dot (kind_at ws i)) (behind ws i) (behind_kept (kind_at ws i) any s h (left_true (ready (one_of any k.Dot) s) (steady s) st)) (right_true (ready (one_of any k.Dot) s) (steady s) st) in
+      ((subst (λ z. needs z (kind_at ws i) (value_at ws i) ≡ false) is (free i), rest.0), rest.1)
   clean (reads-mark h q) true is r st = absurd (false≢true r)
   clean (reads-mark {start = i} {a = a} {s = s} h q) false is r st =
-      clean q false (behind ws i ∙ behind_mark (kind_at ws i) a h (left_true (not (g.is t.Dot a)) (steady s) st)) refl (right_true (not (g.is t.Dot a)) (steady s) st)
+      clean q false (behind ws i ∙ behind_mark (kind_at ws i) a h (left_true (not (g.is k.Dot a)) (steady s) st)) refl (right_true (not (g.is k.Dot a)) (steady s) st)
   clean (reads-any h q) true is r st = absurd (false≢true r)
-  clean (reads-any {start = i} {a = a} {s = s} h q) false is r st = clean q false (behind ws i ∙ behind_mark (kind_at ws i) a h (left_true (not (g.is t.Dot a)) (steady s) st)) refl st
+  clean (reads-any {start = i} {a = a} {s = s} h q) false is r st = clean q false (behind ws i ∙ behind_mark (kind_at ws i) a h (left_true (not (g.is k.Dot a)) (steady s) st)) refl st
   clean (reads-none h q) true is r st = absurd (false≢true r)
-  clean (reads-none {a = a} {s = s} h q) false is r st = clean q false is refl (right_true (not (g.is t.Dot a)) (steady s) st)
+  clean (reads-none {a = a} {s = s} h q) false is r st = clean q false is refl (right_true (not (g.is k.Dot a)) (steady s) st)
   clean (reads-here q) true is r st = absurd (false≢true r)
   clean (reads-here q) false is r st = clean q false is refl st
   clean (reads-part b sh q p) true is r st = absurd (false≢true r)

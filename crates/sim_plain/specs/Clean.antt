@@ -5,7 +5,7 @@ use Rattle.sim_static.specs.NeedsClasses.{is_dot, needs}
 
 abbrev pub CleanBehind : (dotted : Bool) → Forest → Type 0
 CleanBehind dotted done = Unit {0}
-CleanBehind dotted (leaf i kind f) = (needs dotted kind ≡ false) × CleanBehind (is_dot kind) f
+CleanBehind dotted (leaf i kind value f) = (needs dotted kind value ≡ false) × CleanBehind (is_dot kind) f
 CleanBehind dotted (place i f) = CleanBehind dotted f
 CleanBehind dotted (node n inside f) = CleanBehind false inside × CleanBehind false f
 

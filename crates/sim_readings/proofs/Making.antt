@@ -1,7 +1,7 @@
--- Boxes and vectors as values, the tokens that stand for a terminal, and the steps by which a derivation is that of a tree.
+-- Boxes and vectors as values, the tokens of a kind, and the steps by which a derivation is that of a tree.
 use Rattle.std.proofs.Common.{◌≡◌, ◌≤◌, ◌<◌, ℕ, ℤ, suc, Bool, true, false, List, [], ◌∷◌, length, map, refl, sym, ◌∙◌, ap, arith}
 use Rattle.std.proofs.lemmas.Bool.{false≢true}
-use Rattle.std.specs.Prelude.{◌^◌, ◌||◌}
+use Rattle.std.specs.Prelude.{◌^◌, ◌||◌, slice_index_or}
 use denote.RawPtr.{null_ptr}
 use Rattle.std.specs.declared.alloc.Global.{Global}
 use Rattle.std.specs.declared.boxed.Box.{Box}
@@ -10,16 +10,17 @@ use Rattle.sim_base.specs.declared.numbering.TokenNo.{TokenNo}
 use Rattle.sim_base.specs.declared.token.Token.{Token}
 use Rattle.sim_base.specs.declared.token.TokenKind.{TokenKind}
 use Rattle.sim_base.specs.declared.token.TokenKind.TheVariants as k
+use Rattle.sim_base.specs.declared.token.TokenValue.{TokenValue}
+use Rattle.sim_base.specs.declared.token.TokenValue.TheVariants as token_value
+use Rattle.sim_base.specs.Lexeme.{bytes_of, integer_of, value_for}
 use Rattle.sim_tree.specs.declared.expr.Expr.{Expr}
 use Rattle.sim_tree.specs.declared.expr.Identifier.{Identifier}
-use Rattle.sim_tree.specs.declared.terminal.Terminal.{Terminal}
-use Rattle.sim_tree.specs.declared.terminal.Terminal.TheVariants as t
-use Rattle.sim_tree.specs.Terminal.{terminal_of}
 use Rattle.sim_tree.specs.Grammar.{Part, is, just, one_of}
-use Rattle.sim_tree.specs.Reading.{Forest, leaf, node}
+use Rattle.sim_tree.specs.Reading.{Forest, bare_leaf, finish, kind_at, leaf, node, value_at}
 use Rattle.sim_tree.specs.Derivation.{row, derivation_of}
 use Rattle.sim_tree.proofs.DerivationLemmas.{raise-same}
-use Rattle.sim_expr_parser.proofs.Terminals.{is_bare, kind_from}
+use Rattle.sim_tree.proofs.Completion.{is_same}
+use Rattle.sim_expr_parser.proofs.Tokens.{bare_value, is_bare}
 use Rattle.sim_readings.proofs.Parts.{Good, Items, Levelled, Made}
 
 abbrev pub boxed : {X : Type 0} → X → Box X Global
@@ -37,32 +38,41 @@ at i = record { 0 = i }
 abbrev pub named : ℕ → List ℕ → Identifier
 named i name = record { token = record { 0 = i }; name = name }
 
--- ---- the token of a terminal, as the grammar takes it
+-- ---- the token of a kind, as the grammar takes it
+
+-- what stands beside the kind of a token, where its kind may have no value
+abbrev pub beside : List Token → ℕ → TokenValue
+beside ws i = (slice_index_or ws i finish).lexeme.value
 
 alone : (b : Bool) → (b || false) ≡ true → b ≡ true
 alone true h = refl
 alone false h = absurd (false≢true h)
 
-pub word : (x kind : TokenKind) → is_bare (terminal_of kind) ≡ true → one_of (just (terminal_of kind)) (terminal_of x) ≡ true → x ≡ kind
-word x kind b h = kind_from x kind b (alone (is (terminal_of x) (terminal_of kind)) h)
+pub word : (x kind : TokenKind) → one_of (just kind) x ≡ true → x ≡ kind
+word x kind h = is_same x kind (alone (is x kind) h)
 
-pub name_of : (x : TokenKind) → one_of (just t.Identifier) (terminal_of x) ≡ true → (v : List ℕ) × (x ≡ k.Identifier v)
-unfolding is
-name_of (k.Identifier v) h = (v, refl)
-name_of _ h = absurd (false≢true h)
+pub name_of : (ws : List Token) (i : ℕ) → one_of (just k.Identifier) (kind_at ws i) ≡ true → (v : List ℕ) × (kind_at ws i ≡ k.Identifier) × (value_at ws i ≡ token_value.Bytes v)
+unfolding value_at
+name_of ws i h = let same = word (kind_at ws i) k.Identifier h in (bytes_of (beside ws i), same, ap (λ x. value_for x (beside ws i)) same)
 
-pub value_of : (x : TokenKind) → one_of (just t.Integer) (terminal_of x) ≡ true → (v : ℤ) × (x ≡ k.Integer v)
-unfolding is
-value_of (k.Integer v) h = (v, refl)
-value_of _ h = absurd (false≢true h)
+pub value_of : (ws : List Token) (i : ℕ) → one_of (just k.Integer) (kind_at ws i) ≡ true → (v : ℤ) × (kind_at ws i ≡ k.Integer) × (value_at ws i ≡ token_value.Integer v)
+unfolding value_at
+value_of ws i h = let same = word (kind_at ws i) k.Integer h in (integer_of (beside ws i), same, ap (λ x. value_for x (beside ws i)) same)
 
 -- ---- equal derivations
 
 pub node-is : (n : Part) {x y f h : Forest} → x ≡ y → f ≡ h → node n x f ≡ node n y h
 node-is n {y = y} {f = f} p q = ap (λ z. node n z f) p ∙ ap (node n y) q
 
-pub leaf-is : {i : ℕ} {a b : TokenKind} {f h : Forest} → a ≡ b → f ≡ h → leaf i a f ≡ leaf i b h
-leaf-is {i = i} {b = b} {f = f} p q = ap (λ z. leaf i z f) p ∙ ap (leaf i b) q
+pub leaf-is : {i : ℕ} {a b : TokenKind} {v w : TokenValue} {f h : Forest} → a ≡ b → v ≡ w → f ≡ h → leaf i a v f ≡ leaf i b w h
+leaf-is {i = i} {a = a} {b = b} {v = v} {w = w} {f = f} p q r = ap (λ z. leaf i z v f) p ∙ ap (λ z. leaf i b z f) q ∙ ap (leaf i b w) r
+
+-- a kept token of a kind that has no value
+pub bare-is : (ws : List Token) (i : ℕ) {kind : TokenKind} {f h : Forest} → kind_at ws i ≡ kind → is_bare kind ≡ true → f ≡ h → bare_leaf i kind f ≡ leaf i (kind_at ws i) (value_at ws i) h
+bare-is ws i {kind = kind} same bare p = leaf-is (sym same) (sym (bare_value ws i kind bare same)) p
+
+pub word-is : (ws : List Token) (i : ℕ) (kind : TokenKind) {f h : Forest} → is_bare kind ≡ true → one_of (just kind) (kind_at ws i) ≡ true → f ≡ h → bare_leaf i kind f ≡ leaf i (kind_at ws i) (value_at ws i) h
+word-is ws i kind bare taken p = bare-is ws i (word (kind_at ws i) kind taken) bare p
 
 pub row-is : (n : Part) {xs ys : List Forest} {f h : Forest} → xs ≡ ys → f ≡ h → row n xs f ≡ row n ys h
 row-is n {ys = ys} {f = f} p q = ap (λ z. row n z f) p ∙ ap (row n ys) q

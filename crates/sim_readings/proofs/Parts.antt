@@ -22,11 +22,9 @@ use Rattle.sim_tree.specs.declared.stmt.Stmt.{Stmt}
 use Rattle.sim_tree.specs.declared.stmt.TypeName.{TypeName}
 use Rattle.sim_tree.specs.declared.stmt.VirtualSpecification.{VirtualSpecification}
 use Rattle.sim_tree.specs.declared.stmt.When.{When}
-use Rattle.sim_tree.specs.declared.terminal.Terminal.{Terminal}
-use Rattle.sim_tree.specs.Terminal.{terminal_of}
 use Rattle.sim_tree.specs.Grammar as g
 use Rattle.sim_tree.specs.Grammar.{Any, Here, Kept, Many, Mark, Maybe, Of, Once, Part, Symbol, one_of}
-use Rattle.sim_tree.specs.Reading.{Forest, done, kind_at, leaf, node, place}
+use Rattle.sim_tree.specs.Reading.{Forest, done, kind_at, leaf, node, place, bare_leaf, value_at}
 use Rattle.sim_tree.specs.Derivation.{argument, arguments, identifier, item, membership_kind, not_mark, operand_derivation, raise, relation_kind, row, selector_derivation, derivation_of, sign_kind, term_derivation, factor_derivation, whole}
 use Rattle.sim_tree.specs.ProgramDerivation.{Plain, assigned_derivation, block_derivation, bounds_derivation, class_derivation, constant_derivation, contents, declaration_derivation, expr, for_element_derivation, for_elements, heading_derivation, ids, mode_derivation, next_bounds, next_for_element, next_id, next_reference_element, next_segment, next_statement, next_variable, prefixed, procedure_derivation, protection_derivation, reference_element_derivation, reference_elements, segment_derivation, specification_derivation, statement_derivation, timing_inside, type_derivation, variable_derivation, virtual_derivation, virtuals_derivation, when_derivation}
 use Rattle.sim_readings.proofs.Table.{takes}
@@ -46,7 +44,7 @@ Tailed m kind f = (x : Operand) × (item m kind (operand_derivation x) ≡ f)
 
 -- the token that the derivation of a statement begins with is that of its place
 abbrev pub Begun : List Token → ℕ → Forest → Type 0
-Begun ws i (leaf j kind rest) = kind ≡ kind_at ws i
+Begun ws i (leaf j kind value rest) = kind ≡ kind_at ws i
 Begun ws i _ = Unit {0}
 
 abbrev pub Contents : List Token → ℕ → Forest → Type 0
@@ -79,11 +77,11 @@ Good ws g.Heading i f =
     (ps : List Identifier) × (ms : List ModePart) × (ss : List Specification) × (length ps ≤ length ws + 1) × (length ms ≤ length ws + 1) × (length ss ≤ length ws + 1) × (heading_derivation ps ms ss ≡ f)
 Good ws g.Mode i f = Made mode_derivation f
 Good ws g.Specification i f = Made specification_derivation f
-Good ws g.SpecifiedKind i f = (leaf i k.Array done ≡ f) ⊎ (leaf i k.Procedure done ≡ f)
+Good ws g.SpecifiedKind i f = (bare_leaf i k.Array done ≡ f) ⊎ (bare_leaf i k.Procedure done ≡ f)
 Good ws g.Class i f = Made class_derivation f
 Good ws g.Protection i f = Made protection_derivation f
-Good ws g.AndProtected i f = leaf i k.Protected done ≡ f
-Good ws g.AndHidden i f = leaf i k.Hidden done ≡ f
+Good ws g.AndProtected i f = bare_leaf i k.Protected done ≡ f
+Good ws g.AndHidden i f = bare_leaf i k.Hidden done ≡ f
 Good ws g.Virtuals i f = (vs : List VirtualSpecification) × (length vs ≤ length ws + 1) × ((rest : Forest) → virtuals_derivation vs rest ≡ node g.Virtuals f rest)
 Good ws g.VirtualSpecification i f = Made virtual_derivation f
 Good ws g.NextStatement i f = (s : Stmt) × (next_statement (statement_derivation s) ≡ f)
@@ -94,12 +92,12 @@ Good ws g.AfterFirstOperand i f =
 Good ws g.Assigned i f = Made assigned_derivation f
 Good ws g.ElseBranch i f = Branch f
 Good ws g.ForList i f =
-    ((n : TokenNo) × (es : List ForElement) × (length es ≤ length ws + 1) × (leaf n.0 k.Assign (for_elements es) ≡ f))
-    ⊎ ((n : TokenNo) × (es : List ReferenceElement) × (length es ≤ length ws + 1) × (leaf n.0 k.AssignReference (reference_elements es) ≡ f))
+    ((n : TokenNo) × (es : List ForElement) × (length es ≤ length ws + 1) × (bare_leaf n.0 k.Assign (for_elements es) ≡ f))
+    ⊎ ((n : TokenNo) × (es : List ReferenceElement) × (length es ≤ length ws + 1) × (bare_leaf n.0 k.AssignReference (reference_elements es) ≡ f))
 Good ws g.NextForElement i f = Made next_for_element f
 Good ws g.NextReferenceElement i f = Made next_reference_element f
 Good ws g.Arms i f =
-    ((n : TokenNo) × (s : Stmt) × (end : TokenNo) × (leaf n.0 k.Do (node g.Statement (statement_derivation s) (place end.0 done)) ≡ f))
+    ((n : TokenNo) × (s : Stmt) × (end : TokenNo) × (bare_leaf n.0 k.Do (node g.Statement (statement_derivation s) (place end.0 done)) ≡ f))
     ⊎ ((arms : List When) × (length arms ≤ length ws + 1) × (row g.WhenArm (map when_derivation arms) done ≡ f))
 Good ws g.OtherwiseBranch i f = Branch f
 Good ws g.ForElement i f = Made for_element_derivation f
@@ -108,7 +106,7 @@ Good ws g.ReferenceElement i f = Made reference_element_derivation f
 Good ws g.ReferenceElementTail i f = (v : Expr) → (x : ReferenceElement) × (reference_element_derivation x ≡ expr v (node g.ReferenceElementTail f done))
 Good ws g.WhenArm i f = Made when_derivation f
 Good ws g.Timing i f = Made timing_inside f
-Good ws g.PriorMark i f = (n : TokenNo) × (leaf n.0 k.Prior done ≡ f)
+Good ws g.PriorMark i f = (n : TokenNo) × (bare_leaf n.0 k.Prior done ≡ f)
 Good ws g.Expression i f = Levelled 14 f
 Good ws g.SimpleExpression i f = Levelled 13 f
 Good ws g.NextOrElse i f = Tailed 12 k.OrElse f
@@ -126,20 +124,20 @@ Good ws g.Negation i f = Levelled 7 f
 Good ws g.NotSign i f = Made not_mark f
 Good ws g.Relation i f = Levelled 6 f
 Good ws g.RelationTail i f =
-    ((r : Relation) × (n : TokenNo) × (x : Expr) × (leaf n.0 (relation_kind r) (node g.Concatenation (raise 5 (derivation_of x)) done) ≡ f))
-    ⊎ ((r : Membership) × (n : TokenNo) × (x : Identifier) × (leaf n.0 (membership_kind r) (identifier x done) ≡ f))
+    ((r : Relation) × (n : TokenNo) × (x : Expr) × (bare_leaf n.0 (relation_kind r) (node g.Concatenation (raise 5 (derivation_of x)) done) ≡ f))
+    ⊎ ((r : Membership) × (n : TokenNo) × (x : Identifier) × (bare_leaf n.0 (membership_kind r) (identifier x done) ≡ f))
 Good ws g.Concatenation i f = Levelled 5 f
 Good ws g.NextConcatenated i f = Tailed 4 k.Ampersand f
 Good ws g.Sum i f = Levelled 4 f
-Good ws g.LeadingSign i f = (s : LeadingSign) × (leaf s.token.0 (sign_kind s.sign) done ≡ f)
+Good ws g.LeadingSign i f = (s : LeadingSign) × (bare_leaf s.token.0 (sign_kind s.sign) done ≡ f)
 Good ws g.NextTerm i f = Made term_derivation f
 Good ws g.Term i f = Levelled 3 f
 Good ws g.NextFactor i f = Made factor_derivation f
 Good ws g.Factor i f = Levelled 2 f
 Good ws g.NextPower i f = Tailed 1 k.Power f
-Good ws g.Postfix i f = (x : Expr) × ((derivation_of x).level ≤ 1) × (raise 1 (derivation_of x) ≡ f) × (rest : Forest) × (selected : Forest) × (f ≡ node g.Primary (leaf i (kind_at ws i) rest) selected)
+Good ws g.Postfix i f = (x : Expr) × ((derivation_of x).level ≤ 1) × (raise 1 (derivation_of x) ≡ f) × (rest : Forest) × (selected : Forest) × (f ≡ node g.Primary (leaf i (kind_at ws i) (value_at ws i) rest) selected)
 Good ws g.Selection i f = Made selector_derivation f
-Good ws g.Primary i f = (x : Expr) × ((derivation_of x).level ≡ 0) × (raise 0 (derivation_of x) ≡ f) × (rest : Forest) × (f ≡ leaf i (kind_at ws i) rest)
+Good ws g.Primary i f = (x : Expr) × ((derivation_of x).level ≡ 0) × (raise 0 (derivation_of x) ≡ f) × (rest : Forest) × (f ≡ leaf i (kind_at ws i) (value_at ws i) rest)
 Good ws g.Arguments i f = (x : Expr) × (xs : List Expr) × (length xs ≤ length ws) × (node g.Expression (whole (derivation_of x)) (row g.NextArgument (map argument (map derivation_of xs)) done) ≡ f)
 Good ws g.NextArgument i f = (x : Expr) × (argument (derivation_of x) ≡ f)
 
@@ -151,9 +149,9 @@ Items ws n (f ∷ fs) = ((i : ℕ) × Good ws n i f) × Items ws n fs
 -- The derivation of symbols from a token on, whose parts are those of trees.
 pub data Row (ws : List Token) : List Symbol → ℕ → Forest → Type 0 where
   nil : {i : ℕ} → Row ws [] i done
-  kept : {i : ℕ} {any : List Terminal} {s : List Symbol} {f : Forest} → one_of any (terminal_of (kind_at ws i)) ≡ true → Row ws s (i + 1) f → Row ws (Kept any ∷ s) i (leaf i (kind_at ws i) f)
-  mark : {i : ℕ} {a : Terminal} {s : List Symbol} {f : Forest} → Row ws s (i + 1) f → Row ws (Mark a ∷ s) i f
-  passed : {i j : ℕ} {a : Terminal} {s : List Symbol} {f : Forest} → i ≤ j → Row ws s j f → Row ws (Any a ∷ s) i f
+  kept : {i : ℕ} {any : List TokenKind} {s : List Symbol} {f : Forest} → one_of any (kind_at ws i) ≡ true → Row ws s (i + 1) f → Row ws (Kept any ∷ s) i (leaf i (kind_at ws i) (value_at ws i) f)
+  mark : {i : ℕ} {a : TokenKind} {s : List Symbol} {f : Forest} → Row ws s (i + 1) f → Row ws (Mark a ∷ s) i f
+  passed : {i j : ℕ} {a : TokenKind} {s : List Symbol} {f : Forest} → i ≤ j → Row ws s j f → Row ws (Any a ∷ s) i f
   here : {i : ℕ} {s : List Symbol} {f : Forest} → Row ws s i f → Row ws (Here ∷ s) i (place i f)
   once : {i m : ℕ} {n : Part} {s : List Symbol} {x f : Forest} → Good ws n i x → i ≤ m → (takes n ≡ true → (i < length ws) × (i < m)) → Row ws s m f → Row ws (Of Once n ∷ s) i (node n x f)
   there : {i m : ℕ} {n : Part} {s : List Symbol} {x f : Forest} → Good ws n i x → Row ws s m f → Row ws (Of Maybe n ∷ s) i (node n x f)

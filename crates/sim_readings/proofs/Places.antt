@@ -1,10 +1,11 @@
 -- The tokens of a source stand one behind the other.
 use Rattle.std.proofs.Common.{◌≡◌, ◌≤◌, ◌<◌, ◌+◌, ℕ, List, [], ◌∷◌, ◌++◌, Option, Some, None, map, length, length-append, refl, subst, arith}
 use Rattle.std.specs.List.{AllByRecursion, fold}
+use Rattle.sim_base.specs.Lexeme.{bare}
+use Rattle.sim_base.specs.declared.token.Lexeme.{Lexeme}
 use Rattle.sim_base.specs.declared.token.Token.{Token}
-use Rattle.sim_base.specs.declared.token.TokenKind.{TokenKind}
 use Rattle.sim_base.specs.declared.token.TokenKind.TheVariants as k
-use Rattle.sim_lexer.specs.Spelling.{Broken, Lexed, Reads, Spelled, Spells, begins_line, breaks, ends, gives, joined, joined_kind, neighbours, passes, reads, token, too_long, with_joined, with_next, with_token}
+use Rattle.sim_lexer.specs.Spelling.{Broken, Lexed, Reads, Spelled, Spells, begins_line, breaks, ends, gives, joined, joined_lexeme, neighbours, passes, reads, token, too_long, with_joined, with_next, with_token}
 use Rattle.sim_lexer.proofs.PiecesWithin.{lexeme-some}
 use Rattle.sim_tree.specs.Named.{IsAscending}
 use Rattle.sim_readings.specs.Readable.{place_of}
@@ -24,28 +25,28 @@ at_tokens : {ws vs : List Token} (p : ℕ) → Spelled vs ≡ Spelled ws → Fro
 at_tokens {ws = ws} {vs = vs} p e from = let same : vs ≡ ws = cc in subst (λ l. From p l) same from
 
 spelt : {before all : List ℕ} {answer : Lexed} → Spells before all answer → (ws : List Token) → answer ≡ Spelled ws → From (length before) ws
-spelt (ends {before = before}) ws e = at_tokens {vs = token before k.EndOfSource ∷ []} (length before) e (omega arith, tt)
+spelt (ends {before = before}) ws e = at_tokens {vs = token before (bare k.EndOfSource) ∷ []} (length before) e (omega arith, tt)
 spelt {before = before} (passes separator rest split is next) ws e =
     later (length (before ++ separator)) (length before) ws (omega (arith, length-append before separator)) (spelt next ws e)
-spelt {before = before} {all = all} (gives {answer = answer} kind lexeme rest split writes next) ws e = by_answer answer e (λ vs same. spelt next vs same) refl
+spelt {before = before} {all = all} (gives {answer = answer} lexeme written rest split writes next) ws e = by_answer answer e (λ vs same. spelt next vs same) refl
   where
-    by_answer : (a : Lexed) → with_token (token before kind) a ≡ Spelled ws → ((vs : List Token) → answer ≡ Spelled vs → From (length (before ++ lexeme)) vs) → answer ≡ a → From (length before) ws
+    by_answer : (a : Lexed) → with_token (token before lexeme) a ≡ Spelled ws → ((vs : List Token) → answer ≡ Spelled vs → From (length (before ++ written)) vs) → answer ≡ a → From (length before) ws
     by_answer (Spelled vs) h rec same =
-        let some = lexeme-some (begins_line before) all lexeme rest writes in
-        at_tokens {vs = token before kind ∷ vs} (length before) h
-        (omega arith, later (length (before ++ lexeme)) (length before + 1) vs (omega (arith, length-append before lexeme, some)) (rec vs same))
+        let some = lexeme-some (begins_line before) all written rest writes in
+        at_tokens {vs = token before lexeme ∷ vs} (length before) h
+        (omega arith, later (length (before ++ written)) (length before + 1) vs (omega (arith, length-append before written, some)) (rec vs same))
     by_answer (Broken rule place) h rec same = absurd (cc)
 spelt (breaks rule is) ws e = absurd (cc)
 
 -- ---- neighbours joined
 
-beside : (made : Option TokenKind) (p : ℕ) (last next : Token) (rest : List Token) → From p (last ∷ next ∷ rest) → From p (neighbours made last next ++ rest)
+beside : (made : Option Lexeme) (p : ℕ) (last next : Token) (rest : List Token) → From p (last ∷ next ∷ rest) → From p (neighbours made last next ++ rest)
 beside None p last next rest from = from
-beside (Some kind) p last next rest from = (from.0, later (next.place + 1) (last.place + 1) rest (omega (arith, from.1.0)) from.1.1)
+beside (Some lexeme) p last next rest from = (from.0, later (next.place + 1) (last.place + 1) rest (omega (arith, from.1.0)) from.1.1)
 
 one_more : (p : ℕ) (now : List Token) (next : Token) (rest : List Token) → From p (now ++ next ∷ rest) → From p (with_next now next ++ rest)
 one_more p [] next rest from = from
-one_more p (last ∷ []) next rest from = beside (joined_kind last.kind next.kind) p last next rest from
+one_more p (last ∷ []) next rest from = beside (joined_lexeme last.lexeme next.lexeme) p last next rest from
 one_more p (first ∷ second ∷ now) next rest from = (from.0, one_more (first.place + 1) (second ∷ now) next rest from.1)
 
 none_behind : (p : ℕ) (now : List Token) → From p (now ++ []) → From p now

@@ -7,13 +7,12 @@ use Rattle.std.specs.declared.vec.Vec.{Vec}
 use Rattle.sim_base.specs.declared.numbering.Line.{Line}
 use Rattle.sim_base.specs.declared.token.Token.{Token}
 use Rattle.sim_tree.specs.declared.program.Program.{Program}
-use Rattle.sim_tree.specs.declared.terminal.Terminal.{Terminal}
-use Rattle.sim_tree.specs.declared.terminal.Terminal.TheVariants as t
+use Rattle.sim_base.specs.declared.token.TokenKind.{TokenKind}
+use Rattle.sim_base.specs.declared.token.TokenKind.TheVariants as k
 use Rattle.sim_tree.specs.Claim.{one}
-use Rattle.sim_tree.specs.Terminal.{terminal_of}
 use Rattle.sim_tree.specs.Grammar as g
 use Rattle.sim_tree.specs.Grammar.{Any, At, Else, Here, Kept, Many, Mark, Maybe, Of, Once, Part, Symbol, chosen, is, just, one_of, right_side, rows}
-use Rattle.sim_tree.specs.Reading.{Forest, Reads, done, kind_at, node, reads-any, reads-done, reads-here, reads-kept, reads-mark, reads-none, reads-part, reads-skip, terminal_at}
+use Rattle.sim_tree.specs.Reading.{Forest, Reads, done, kind_at, node, reads-any, reads-done, reads-here, reads-kept, reads-mark, reads-none, reads-part, reads-skip}
 use Rattle.sim_tree.specs.Tree.{limit, line}
 use Rattle.sim_tree.proofs.Completion.{is_same}
 use Rattle.sim_tree.proofs.Laws.{reads_ahead}
@@ -30,16 +29,16 @@ use Rattle.sim_readings.proofs.Table.{advances, at_end, right_fine, takes}
 
 abbrev Handles : List Token → Part → List g.Row → Type 0
 Handles ws n [] = Unit {0}
-Handles ws n (At next right ∷ rest) = ((i : ℕ) (f : Forest) → chosen (rows n) (terminal_of (kind_at ws i)) ≡ Some right → Row ws right i f → Good ws n i f) × Handles ws n rest
-Handles ws n (Else right ∷ rest) = (i : ℕ) (f : Forest) → chosen (rows n) (terminal_of (kind_at ws i)) ≡ Some right → Row ws right i f → Good ws n i f
+Handles ws n (At next right ∷ rest) = ((i : ℕ) (f : Forest) → chosen (rows n) (kind_at ws i) ≡ Some right → Row ws right i f → Good ws n i f) × Handles ws n rest
+Handles ws n (Else right ∷ rest) = (i : ℕ) (f : Forest) → chosen (rows n) (kind_at ws i) ≡ Some right → Row ws right i f → Good ws n i f
 
-handled : (ws : List Token) (n : Part) (rs : List g.Row) (i : ℕ) (right : List Symbol) (f : Forest) → Handles ws n rs → chosen rs (terminal_of (kind_at ws i)) ≡ Some right → chosen (rows n) (terminal_of (kind_at ws i)) ≡ Some right
+handled : (ws : List Token) (n : Part) (rs : List g.Row) (i : ℕ) (right : List Symbol) (f : Forest) → Handles ws n rs → chosen rs (kind_at ws i) ≡ Some right → chosen (rows n) (kind_at ws i) ≡ Some right
     → Row ws right i f → Good ws n i f
 handled ws n [] i right f hs e all r = absurd (cc)
 handled ws n (Else y ∷ rest) i right f hs e all r = let same : right ≡ y = cc in hs i f (all ∙ ap Some same) (subst (λ z. Row ws z i f) same r)
-handled ws n (At next y ∷ rest) i right f hs e all r = by_test (one_of next (terminal_of (kind_at ws i))) e (λ h. handled ws n rest i right f hs.1 h all r)
+handled ws n (At next y ∷ rest) i right f hs e all r = by_test (one_of next (kind_at ws i)) e (λ h. handled ws n rest i right f hs.1 h all r)
   where
-    by_test : (b : Bool) → (if b then Some y else chosen rest (terminal_of (kind_at ws i))) ≡ Some right → (chosen rest (terminal_of (kind_at ws i)) ≡ Some right → Good ws n i f) → Good ws n i f
+    by_test : (b : Bool) → (if b then Some y else chosen rest (kind_at ws i)) ≡ Some right → (chosen rest (kind_at ws i) ≡ Some right → Good ws n i f) → Good ws n i f
     by_test true h later = let same : right ≡ y = cc in hs.0 i f (all ∙ ap Some same) (subst (λ z. Row ws z i f) same r)
     by_test false h later = later h
 
@@ -125,27 +124,27 @@ module _ (ws : List Token) (room : (n : ℕ) → n ≤ length ws + 1 → n < 2 ^
   handles g.NextArgument = ((λ i f e r. x.next_argument ws room r), tt)
 
   -- one more token that is passed, one more part of a list
-  pass : {i : ℕ} {a : Terminal} {s : List Symbol} {f : Forest} → Row ws (Any a ∷ s) (i + 1) f → Row ws (Any a ∷ s) i f
+  pass : {i : ℕ} {a : TokenKind} {s : List Symbol} {f : Forest} → Row ws (Any a ∷ s) (i + 1) f → Row ws (Any a ∷ s) i f
   pass (passed ahead r) = passed (omega (arith, ahead)) r
 
   add : {i m : ℕ} {n : Part} {s : List Symbol} {y f : Forest} → Good ws n i y → (i < length ws) × (i < m) → Row ws (Of Many n ∷ s) m f → Row ws (Of Many n ∷ s) i (node n y f)
   add {i = i} {y = y} a some (many xs its small r) = many (y ∷ xs) ((i, a), its) (omega (arith, some.0, some.1, small)) r
 
   all_rows : {most d i j : ℕ} {s : List Symbol} {f : Forest} → Reads most ws d s i f j → advances s ≡ true → Row ws s i f
-  unfolding terminal_at right_side
+  unfolding right_side
   all_rows reads-done a = nil
   all_rows (reads-kept h r) a = kept h (all_rows r a)
   all_rows (reads-mark h r) a = mark (all_rows r a)
   all_rows (reads-any h r) a = pass (all_rows r a)
-  all_rows (reads-none {a = x} {s = s} h r) a = passed (omega arith) (all_rows r (both_true (not (is t.EndOfSource x)) (advances s) a).1)
+  all_rows (reads-none {a = x} {s = s} h r) a = passed (omega arith) (all_rows r (both_true (not (is k.EndOfSource x)) (advances s) a).1)
   all_rows (reads-here r) a = here (all_rows r a)
   all_rows {most = most} {i = i} (reads-part {t = Once} {n = n} {right = right} {f = f} b shallow r q) a =
-      let fine = right_fine n (terminal_at ws i) right b in
+      let fine = right_fine n (kind_at ws i) right b in
       once (handled ws n (rows n) i right f (handles n) b b (all_rows r fine.advancing)) (reads_ahead most ws r) (λ some. taken most ws r (fine.taking some)) (all_rows q a)
   all_rows {i = i} (reads-part {t = Maybe} {n = n} {right = right} {f = f} b shallow r q) a =
-      let fine = right_fine n (terminal_at ws i) right b in there (handled ws n (rows n) i right f (handles n) b b (all_rows r fine.advancing)) (all_rows q a)
+      let fine = right_fine n (kind_at ws i) right b in there (handled ws n (rows n) i right f (handles n) b b (all_rows r fine.advancing)) (all_rows q a)
   all_rows {most = most} {i = i} (reads-part {t = Many} {n = n} {right = right} {s = s} {f = f} b shallow r q) a =
-      let fine = right_fine n (terminal_at ws i) right b in
+      let fine = right_fine n (kind_at ws i) right b in
       add (handled ws n (rows n) i right f (handles n) b b (all_rows r fine.advancing)) (taken most ws r (fine.taking (both_true (takes n) (advances s) a).0)) (all_rows q a)
   all_rows (reads-skip {t = Once} b skip r) a = absurd (false≢true skip)
   all_rows (reads-skip {t = Maybe} b skip r) a = absent (all_rows r a)
@@ -161,8 +160,8 @@ is_program _ = false
 abbrev endless : List Symbol → Bool
 endless [] = true
 endless (Kept any ∷ s) = not (at_end any) && endless s
-endless (Mark a ∷ s) = not (is t.EndOfSource a) && endless s
-endless (Any a ∷ s) = not (is t.EndOfSource a) && endless s
+endless (Mark a ∷ s) = not (is k.EndOfSource a) && endless s
+endless (Any a ∷ s) = not (is k.EndOfSource a) && endless s
 endless (Here ∷ s) = endless s
 endless (Of times n ∷ s) = not (is_program n) && endless s
 
@@ -252,7 +251,7 @@ rows_endless g.Primary h = refl
 rows_endless g.Arguments h = refl
 rows_endless g.NextArgument h = refl
 
-row_endless : (rs : List g.Row) (a : Terminal) (right : List Symbol) → all_endless rs ≡ true → chosen rs a ≡ Some right → endless right ≡ true
+row_endless : (rs : List g.Row) (a : TokenKind) (right : List Symbol) → all_endless rs ≡ true → chosen rs a ≡ Some right → endless right ≡ true
 row_endless [] a right e h = absurd (cc)
 row_endless (Else y ∷ rest) a right e h = let same : y ≡ right = cc in ap endless (sym same) ∙ (both_true (endless y) (all_endless rest) e).0
 row_endless (At next y ∷ rest) a right e h = by_test (one_of next a) h (λ later. row_endless rest a right (both_true (endless y) (all_endless rest) e).1 later)
@@ -261,7 +260,7 @@ row_endless (At next y ∷ rest) a right e h = by_test (one_of next a) h (λ lat
     by_test true h later = let same : y ≡ right = cc in ap endless (sym same) ∙ (both_true (endless y) (all_endless rest) e).0
     by_test false h later = later h
 
-right_endless : (n : Part) (a : Terminal) (right : List Symbol) → is_program n ≡ false → right_side n a ≡ Some right → endless right ≡ true
+right_endless : (n : Part) (a : TokenKind) (right : List Symbol) → is_program n ≡ false → right_side n a ≡ Some right → endless right ≡ true
 unfolding right_side
 right_endless n a right other h = row_endless (rows n) a right (rows_endless n other) h
 
@@ -271,65 +270,65 @@ is_not false e = refl
 
 module _ (ws : List Token) (source : EndsOnce ws) where
   -- a token that does not end the source has one after it
-  goes_on : (i : ℕ) → i < length ws → (terminal_at ws i ≡ t.EndOfSource → ⊥) → i + 1 < length ws
+  goes_on : (i : ℕ) → i < length ws → (kind_at ws i ≡ k.EndOfSource → ⊥) → i + 1 < length ws
   goes_on i within not_end = by_place (split (i + 1) (length ws))
     where
       by_place : (i + 1 < length ws) ⊎ (length ws ≤ i + 1) → i + 1 < length ws
       by_place (inl h) = h
-      by_place (inr h) = let last : length ws - 1 ≡ i = omega (arith, within, h) in absurd (not_end (ap (terminal_at ws) (sym last) ∙ source.ended.last))
+      by_place (inr h) = let last : length ws - 1 ≡ i = omega (arith, within, h) in absurd (not_end (ap (kind_at ws) (sym last) ∙ source.ended.last))
 
-  kept_goes_on : (any : List Terminal) (i : ℕ) → one_of any (terminal_at ws i) ≡ true → not (at_end any) ≡ true → i < length ws → i + 1 < length ws
+  kept_goes_on : (any : List TokenKind) (i : ℕ) → one_of any (kind_at ws i) ≡ true → not (at_end any) ≡ true → i < length ws → i + 1 < length ws
   kept_goes_on any i h e within = goes_on i within (λ end. false≢true (sym (is_not (at_end any) e) ∙ ap (one_of any) (sym end) ∙ h))
 
-  mark_goes_on : (a : Terminal) (i : ℕ) → is (terminal_at ws i) a ≡ true → not (is t.EndOfSource a) ≡ true → i < length ws → i + 1 < length ws
-  mark_goes_on a i h e within = goes_on i within (λ end. false≢true (sym (is_not (is t.EndOfSource a) e) ∙ ap (λ z. is z a) (sym end) ∙ h))
+  mark_goes_on : (a : TokenKind) (i : ℕ) → is (kind_at ws i) a ≡ true → not (is k.EndOfSource a) ≡ true → i < length ws → i + 1 < length ws
+  mark_goes_on a i h e within = goes_on i within (λ end. false≢true (sym (is_not (is k.EndOfSource a) e) ∙ ap (λ z. is z a) (sym end) ∙ h))
 
   in_front : {most d i j : ℕ} {s : List Symbol} {f : Forest} → Reads most ws d s i f j → endless s ≡ true → i < length ws → j < length ws
   in_front reads-done e w = w
   in_front {i = i} (reads-kept {any = any} {s = s} h r) e w = let both = both_true (not (at_end any)) (endless s) e in in_front r both.1 (kept_goes_on any i h both.0 w)
-  in_front {i = i} (reads-mark {a = a} {s = s} h r) e w = let both = both_true (not (is t.EndOfSource a)) (endless s) e in in_front r both.1 (mark_goes_on a i h both.0 w)
-  in_front {i = i} (reads-any {a = a} {s = s} h r) e w = let both = both_true (not (is t.EndOfSource a)) (endless s) e in in_front r e (mark_goes_on a i h both.0 w)
-  in_front (reads-none {a = a} {s = s} h r) e w = in_front r (both_true (not (is t.EndOfSource a)) (endless s) e).1 w
+  in_front {i = i} (reads-mark {a = a} {s = s} h r) e w = let both = both_true (not (is k.EndOfSource a)) (endless s) e in in_front r both.1 (mark_goes_on a i h both.0 w)
+  in_front {i = i} (reads-any {a = a} {s = s} h r) e w = let both = both_true (not (is k.EndOfSource a)) (endless s) e in in_front r e (mark_goes_on a i h both.0 w)
+  in_front (reads-none {a = a} {s = s} h r) e w = in_front r (both_true (not (is k.EndOfSource a)) (endless s) e).1 w
   in_front (reads-here r) e w = in_front r e w
   in_front {i = i} (reads-part {t = Once} {n = n} {right = right} {s = s} b shallow r q) e w =
-      let both = both_true (not (is_program n)) (endless s) e in in_front q both.1 (in_front r (right_endless n (terminal_at ws i) right (is_not (is_program n) both.0) b) w)
+      let both = both_true (not (is_program n)) (endless s) e in in_front q both.1 (in_front r (right_endless n (kind_at ws i) right (is_not (is_program n) both.0) b) w)
   in_front {i = i} (reads-part {t = Maybe} {n = n} {right = right} {s = s} b shallow r q) e w =
-      let both = both_true (not (is_program n)) (endless s) e in in_front q both.1 (in_front r (right_endless n (terminal_at ws i) right (is_not (is_program n) both.0) b) w)
+      let both = both_true (not (is_program n)) (endless s) e in in_front q both.1 (in_front r (right_endless n (kind_at ws i) right (is_not (is_program n) both.0) b) w)
   in_front {i = i} (reads-part {t = Many} {n = n} {right = right} {s = s} b shallow r q) e w =
-      let both = both_true (not (is_program n)) (endless s) e in in_front q e (in_front r (right_endless n (terminal_at ws i) right (is_not (is_program n) both.0) b) w)
+      let both = both_true (not (is_program n)) (endless s) e in in_front q e (in_front r (right_endless n (kind_at ws i) right (is_not (is_program n) both.0) b) w)
   in_front (reads-skip {n = n} {s = s} b skip r) e w = in_front r (both_true (not (is_program n)) (endless s) e).1 w
 
   abbrev closing : List Symbol
-  closing = Any t.Semicolon ∷ Mark t.EndOfSource ∷ []
+  closing = Any k.Semicolon ∷ Mark k.EndOfSource ∷ []
 
   at_closing : {most d i j : ℕ} {f : Forest} → Reads most ws d closing i f j → i < length ws → j ≡ length ws
   unfolding is
-  at_closing {i = i} (reads-any h r) w = at_closing r (mark_goes_on t.Semicolon i h refl w)
-  at_closing {i = i} (reads-none h (reads-mark e reads-done)) w = source.only i w (is_same (terminal_at ws i) t.EndOfSource e)
+  at_closing {i = i} (reads-any h r) w = at_closing r (mark_goes_on k.Semicolon i h refl w)
+  at_closing {i = i} (reads-none h (reads-mark e reads-done)) w = source.only i w (is_same (kind_at ws i) k.EndOfSource e)
 
   at_block : {most d i j : ℕ} {f : Forest} → Reads most ws d (Of Once g.Compound ∷ closing) i f j → i < length ws → j ≡ length ws
-  at_block {i = i} (reads-part {right = right} b shallow r q) w = at_closing q (in_front r (right_endless g.Compound (terminal_at ws i) right refl b) w)
+  at_block {i = i} (reads-part {right = right} b shallow r q) w = at_closing q (in_front r (right_endless g.Compound (kind_at ws i) right refl b) w)
   at_block (reads-skip b skip r) w = absurd (false≢true skip)
 
   at_prefix : {most d i j : ℕ} {f : Forest} → Reads most ws d (Of Maybe g.Arguments ∷ Of Once g.Compound ∷ closing) i f j → i < length ws → j ≡ length ws
-  at_prefix {i = i} (reads-part {right = right} b shallow r q) w = at_block q (in_front r (right_endless g.Arguments (terminal_at ws i) right refl b) w)
+  at_prefix {i = i} (reads-part {right = right} b shallow r q) w = at_block q (in_front r (right_endless g.Arguments (kind_at ws i) right refl b) w)
   at_prefix (reads-skip b skip r) w = at_block r w
 
-  at_identifier : {most d i j : ℕ} {f : Forest} → Reads most ws d (Kept (just t.Identifier) ∷ Of Maybe g.Arguments ∷ Of Once g.Compound ∷ closing) i f j → i < length ws → j ≡ length ws
+  at_identifier : {most d i j : ℕ} {f : Forest} → Reads most ws d (Kept (just k.Identifier) ∷ Of Maybe g.Arguments ∷ Of Once g.Compound ∷ closing) i f j → i < length ws → j ≡ length ws
   unfolding is
-  at_identifier {i = i} (reads-kept h r) w = at_prefix r (kept_goes_on (just t.Identifier) i h refl w)
+  at_identifier {i = i} (reads-kept h r) w = at_prefix r (kept_goes_on (just k.Identifier) i h refl w)
 
   two_rows : (b c : Bool) (y z right : List Symbol) → (if b then Some y else (if c then Some z else None)) ≡ Some right → (right ≡ y) ⊎ (right ≡ z)
   two_rows true c y z right e = inl (cc)
   two_rows false true y z right e = inr (cc)
   two_rows false false y z right e = absurd (cc)
 
-  at_program : {most d i j : ℕ} (right : List Symbol) {f : Forest} → right_side g.Program (terminal_at ws i) ≡ Some right → Reads most ws d right i f j → i < length ws → j ≡ length ws
+  at_program : {most d i j : ℕ} (right : List Symbol) {f : Forest} → right_side g.Program (kind_at ws i) ≡ Some right → Reads most ws d right i f j → i < length ws → j ≡ length ws
   unfolding right_side
   at_program {most = most} {d = d} {i = i} {j = j} right {f = f} b r w =
-      by_row (two_rows (one_of (just t.Begin) (terminal_at ws i)) (one_of (just t.Identifier) (terminal_at ws i)) (Of Once g.Compound ∷ closing) (Kept (just t.Identifier) ∷ Of Maybe g.Arguments ∷ Of Once g.Compound ∷ closing) right b)
+      by_row (two_rows (one_of (just k.Begin) (kind_at ws i)) (one_of (just k.Identifier) (kind_at ws i)) (Of Once g.Compound ∷ closing) (Kept (just k.Identifier) ∷ Of Maybe g.Arguments ∷ Of Once g.Compound ∷ closing) right b)
     where
-      by_row : (right ≡ (Of Once g.Compound ∷ closing)) ⊎ (right ≡ (Kept (just t.Identifier) ∷ Of Maybe g.Arguments ∷ Of Once g.Compound ∷ closing)) → j ≡ length ws
+      by_row : (right ≡ (Of Once g.Compound ∷ closing)) ⊎ (right ≡ (Kept (just k.Identifier) ∷ Of Maybe g.Arguments ∷ Of Once g.Compound ∷ closing)) → j ≡ length ws
       by_row (inl same) = at_block (subst (λ z. Reads most ws d z i f j) same r) w
       by_row (inr same) = at_identifier (subst (λ z. Reads most ws d z i f j) same r) w
 

@@ -7,6 +7,7 @@ use Rattle.std.proofs.Math.Seq.{get_or-append_seam}
 use Rattle.std.specs.List.{All, fold}
 use Rattle.std.specs.Prelude.{◌^◌}
 use native.Mathlib.Decide.{dec_lt}
+use Rattle.sim_base.specs.Lexeme.{bare}
 use Rattle.sim_base.specs.declared.token.Token.{Token}
 use Rattle.sim_base.specs.declared.token.TokenKind.{TokenKind}
 use Rattle.sim_base.specs.declared.token.TokenKind.TheVariants as k
@@ -16,14 +17,12 @@ use Rattle.sim_lexer.proofs.JoiningLemmas.{end_behind, few}
 use Rattle.sim_lexer.proofs.NoEnd.{inside-next, no_end-written}
 use Rattle.sim_lexer.proofs.PiecesWithin.{lexeme-some}
 use Rattle.sim_tree.specs.Grammar.{is}
-use Rattle.sim_tree.specs.Reading.{finish, kind_at, terminal_at}
-use Rattle.sim_tree.specs.Terminal.{terminal_of}
-use Rattle.sim_tree.specs.declared.terminal.Terminal.TheVariants as t
+use Rattle.sim_tree.specs.Reading.{finish, kind_at}
 use Rattle.sim_readings.specs.Readable.{EndsOnce, SourceOutcome, TreeOrFault, fault, faulty, misspelt, program, tree}
 use Rattle.sim_readings.proofs.Programs.{tree_or_fault}
 
 abbrev IsInside : Token → Type 0
-IsInside x = IsNoEnd x.kind
+IsInside x = IsNoEnd x.lexeme.kind
 
 -- ---- the tokens before neighbours are joined
 
@@ -42,7 +41,7 @@ in_front x ws most inside e = (
   omega (arith, e.1),
 )
 
-alone : (x : Token) (most : ℕ) → x.kind ≡ k.EndOfSource → Ended (x ∷ []) most
+alone : (x : Token) (most : ℕ) → x.lexeme.kind ≡ k.EndOfSource → Ended (x ∷ []) most
 alone x most end = (record { before = []; last = x; split = refl; end = end; only = All-nil IsInside }, omega arith)
 
 more : (ws : List Token) (few_bytes bytes : ℕ) → few_bytes ≤ bytes → Ended ws few_bytes → Ended ws bytes
@@ -52,16 +51,16 @@ at_tokens : {ws vs : List Token} (most : ℕ) → Spelled vs ≡ Spelled ws → 
 at_tokens {ws = ws} {vs = vs} most e ended = let same : vs ≡ ws = cc in subst (λ l. Ended l most) same ended
 
 spelt : {before all : List ℕ} {answer : Lexed} → Spells before all answer → (ws : List Token) → answer ≡ Spelled ws → Ended ws (length all)
-spelt (ends {before = before}) ws e = at_tokens 0 e (alone (token before k.EndOfSource) 0 refl)
+spelt (ends {before = before}) ws e = at_tokens 0 e (alone (token before (bare k.EndOfSource)) 0 refl)
 spelt {all = all} (passes separator rest split is next) ws e =
     more ws (length rest) (length all) (omega (arith, ap length split, length-append separator rest)) (spelt next ws e)
-spelt {before = before} {all = all} (gives {answer = answer} kind lexeme rest split writes next) ws e = by_answer answer e (λ vs same. spelt next vs same) refl
+spelt {before = before} {all = all} (gives {answer = answer} lexeme written rest split writes next) ws e = by_answer answer e (λ vs same. spelt next vs same) refl
   where
-    by_answer : (a : Lexed) → with_token (token before kind) a ≡ Spelled ws → ((vs : List Token) → answer ≡ Spelled vs → Ended vs (length rest)) → answer ≡ a → Ended ws (length all)
+    by_answer : (a : Lexed) → with_token (token before lexeme) a ≡ Spelled ws → ((vs : List Token) → answer ≡ Spelled vs → Ended vs (length rest)) → answer ≡ a → Ended ws (length all)
     by_answer (Spelled vs) h rec same =
-        let inside : IsNoEnd kind = no_end-written (begins_line before) all writes in
-        let some = lexeme-some (begins_line before) all lexeme rest writes in
-        at_tokens (length all) h (more (token before kind ∷ vs) (length rest + 1) (length all) (omega (arith, some, ap length split, length-append lexeme rest)) (in_front (token before kind) vs (length rest) inside (rec vs same)))
+        let inside : IsNoEnd lexeme.kind = no_end-written (begins_line before) all writes in
+        let some = lexeme-some (begins_line before) all written rest writes in
+        at_tokens (length all) h (more (token before lexeme ∷ vs) (length rest + 1) (length all) (omega (arith, some, ap length split, length-append written rest)) (in_front (token before lexeme) vs (length rest) inside (rec vs same)))
     by_answer (Broken rule place) h rec same = absurd (cc)
 spelt (breaks rule is) ws e = absurd (cc)
 
@@ -102,33 +101,33 @@ read {source = source} (reads {answer = answer} short spelled) ws e = by_answer 
 
 -- ---- the same in the words of the grammar
 
-inside_terminal : (kind : TokenKind) → IsNoEnd kind → is t.EndOfSource (terminal_of kind) ≡ false
+inside_kind : (kind : TokenKind) → IsNoEnd kind → is k.EndOfSource kind ≡ false
 unfolding is
-inside_terminal k.EndOfSource inside = absurd inside
-inside_terminal _ inside = refl
+inside_kind k.EndOfSource inside = absurd inside
+inside_kind _ inside = refl
 
 module _ (tokens : List Token) (e : EndsSource tokens) where
   size : length tokens ≡ length e.before + 1
   size = ap length e.split ∙ length-append e.before (e.last ∷ [])
 
-  last : terminal_at tokens (length tokens - 1) ≡ t.EndOfSource
-  unfolding terminal_at kind_at
+  last : kind_at tokens (length tokens - 1) ≡ k.EndOfSource
+  unfolding kind_at
   last =
       let at : length tokens - 1 ≡ length e.before = omega (arith, size) in
-      ap (λ i. terminal_of (get_or tokens i finish).kind) at
-      ∙ ap (λ (l : List Token). terminal_of (get_or l (length e.before) finish).kind) e.split
-      ∙ ap (λ (x : Token). terminal_of x.kind) (get_or-append_seam e.before e.last [] finish)
-      ∙ ap terminal_of e.end
+      ap (λ i. (get_or tokens i finish).lexeme.kind) at
+      ∙ ap (λ (l : List Token). (get_or l (length e.before) finish).lexeme.kind) e.split
+      ∙ ap (λ (x : Token). x.lexeme.kind) (get_or-append_seam e.before e.last [] finish)
+      ∙ e.end
 
-  no_other : (i : ℕ) → i < length e.before → terminal_at tokens i ≡ t.EndOfSource → ⊥
-  unfolding terminal_at kind_at is
+  no_other : (i : ℕ) → i < length e.before → kind_at tokens i ≡ k.EndOfSource → ⊥
+  unfolding kind_at is
   no_other i within at =
       let same : get_or tokens i finish ≡ get_or e.before i finish = ap (λ (l : List Token). get_or l i finish) e.split ∙ get_or_append_left e.before (e.last ∷ []) finish i within in
       false≢true
-      (sym (inside_terminal (get_or e.before i finish).kind (e.only i finish within))
-      ∙ sym (ap (λ (x : Token). is t.EndOfSource (terminal_of x.kind)) same) ∙ ap (is t.EndOfSource) at)
+      (sym (inside_kind (get_or e.before i finish).lexeme.kind (e.only i finish within))
+      ∙ sym (ap (λ (x : Token). is k.EndOfSource x.lexeme.kind) same) ∙ ap (is k.EndOfSource) at)
 
-  only : (i : ℕ) → i < length tokens → terminal_at tokens i ≡ t.EndOfSource → i + 1 ≡ length tokens
+  only : (i : ℕ) → i < length tokens → kind_at tokens i ≡ k.EndOfSource → i + 1 ≡ length tokens
   only i within at = by_place (dec_lt i (length e.before))
     where
       by_place : Dec (i < length e.before) → i + 1 ≡ length tokens

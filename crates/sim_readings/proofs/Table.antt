@@ -2,10 +2,10 @@
 use Rattle.std.proofs.Common.{◌≡◌, ◌≤◌, ℕ, suc, ◌+◌, Bool, true, false, if◌then◌else◌, List, [], ◌∷◌, Option, Some, None, refl, subst, arith}
 use Rattle.std.proofs.lemmas.Bool.Decides.{nat_tests}
 use Rattle.std.specs.Prelude.{◌&&◌, ◌||◌, not, nat_le}
-use Rattle.sim_tree.specs.declared.terminal.Terminal.{Terminal}
-use Rattle.sim_tree.specs.declared.terminal.Terminal.TheVariants as t
+use Rattle.sim_base.specs.declared.token.TokenKind.{TokenKind}
+use Rattle.sim_base.specs.declared.token.TokenKind.TheVariants as k
 use Rattle.sim_tree.specs.Grammar as g
-use Rattle.sim_tree.specs.Grammar.{Part, Times, Once, Maybe, Many, Symbol, Kept, Mark, Any, Here, Of, Row, At, Else, is, one_of, rows, chosen, right_side}
+use Rattle.sim_tree.specs.Grammar.{Part, Once, Maybe, Many, Symbol, Kept, Mark, Any, Here, Of, Row, At, Else, is, one_of, rows, chosen, right_side}
 
 -- whether a token is taken wherever the part is read; the other parts may be empty
 abbrev pub takes : Part → Bool
@@ -49,14 +49,14 @@ rank g.Postfix = 2
 rank _ = 1
 
 -- a token that is there: the end of the source is none
-abbrev pub at_end : List Terminal → Bool
-at_end any = one_of any t.EndOfSource
+abbrev pub at_end : List TokenKind → Bool
+at_end any = one_of any k.EndOfSource
 
 -- a token is taken somewhere in these symbols
 abbrev pub surely : List Symbol → Bool
 surely [] = false
 surely (Kept any ∷ s) = not (at_end any) || surely s
-surely (Mark a ∷ s) = not (is t.EndOfSource a) || surely s
+surely (Mark a ∷ s) = not (is k.EndOfSource a) || surely s
 surely (Any a ∷ s) = surely s
 surely (Here ∷ s) = surely s
 surely (Of Once n ∷ s) = takes n || surely s
@@ -68,7 +68,7 @@ abbrev mutual
   pub weight : List Symbol → ℕ
   weight [] = 0
   weight (Kept any ∷ s) = suc (if at_end any then weight s else 0)
-  weight (Mark a ∷ s) = suc (if is t.EndOfSource a then weight s else 0)
+  weight (Mark a ∷ s) = suc (if is k.EndOfSource a then weight s else 0)
   weight (Any a ∷ s) = suc (weight s)
   weight (Here ∷ s) = suc (weight s)
   weight (Of Once n ∷ s) = suc (rank n + (if takes n then 0 else weight s))
@@ -80,7 +80,7 @@ abbrev pub advances : List Symbol → Bool
 advances [] = true
 advances (Kept any ∷ s) = advances s
 advances (Mark a ∷ s) = advances s
-advances (Any a ∷ s) = not (is t.EndOfSource a) && advances s
+advances (Any a ∷ s) = not (is k.EndOfSource a) && advances s
 advances (Here ∷ s) = advances s
 advances (Of Once n ∷ s) = advances s
 advances (Of Maybe n ∷ s) = advances s
@@ -187,7 +187,7 @@ fine_if : (n : Part) (b : Bool) (x right : List Symbol) (others : Option (List S
 fine_if n true x right others e more f = let same : x ≡ right = cc in subst (λ z. is_fine n z ≡ true) same e
 fine_if n false x right others e more f = more f
 
-row_fine : (n : Part) (rs : List Row) (a : Terminal) (right : List Symbol) → are_fine n rs ≡ true → chosen rs a ≡ Some right → is_fine n right ≡ true
+row_fine : (n : Part) (rs : List Row) (a : TokenKind) (right : List Symbol) → are_fine n rs ≡ true → chosen rs a ≡ Some right → is_fine n right ≡ true
 row_fine n [] a right e f = absurd (cc)
 row_fine n (At next x ∷ others) a right e f =
     let parts = both (is_fine n x) (are_fine n others) e in
@@ -204,7 +204,7 @@ pub record FineRight (n : Part) (right : List Symbol) : Type 0 where
   pub advancing : advances right ≡ true
   pub taking : takes n ≡ true → surely right ≡ true
 
-pub right_fine : (n : Part) (a : Terminal) (right : List Symbol) → right_side n a ≡ Some right → FineRight n right
+pub right_fine : (n : Part) (a : TokenKind) (right : List Symbol) → right_side n a ≡ Some right → FineRight n right
 unfolding right_side
 right_fine n a right e =
     let f = both (nat_le (weight right) (rank n)) (advances right && (not (takes n) || surely right)) (row_fine n (rows n) a right (rows_fine n) e) in

@@ -4,11 +4,11 @@ use Rattle.sim_base.specs.declared.rule.Rule.{Rule}
 use Rattle.sim_base.specs.declared.token.Token.{Token}
 use Rattle.sim_lexer.specs.Spelling.{Broken, Reads as Spells, Spelled}
 use Rattle.sim_tree.specs.declared.program.Program.{Program}
-use Rattle.sim_tree.specs.declared.terminal.Terminal.TheVariants as t
+use Rattle.sim_base.specs.declared.token.TokenKind.TheVariants as k
 use Rattle.sim_tree.specs.Claim.{one}
 use Rattle.sim_tree.specs.Grammar as g
 use Rattle.sim_tree.specs.Grammar.{Symbol}
-use Rattle.sim_tree.specs.Reading.{Fails, Fault, Forest, Reads, terminal_at}
+use Rattle.sim_tree.specs.Reading.{Fails, Fault, Forest, Reads, kind_at}
 use Rattle.sim_tree.specs.Tree.{IsEnded, IsTree, limit}
 
 -- symbols of the grammar have a derivation from a token on, or a fault
@@ -19,7 +19,7 @@ pub data ReadsOrFails (limit : ℕ) (tokens : List Token) (depth : ℕ) (s : Lis
 -- the last token ends the source, and no other does
 pub record EndsOnce (tokens : List Token) : Type 0 where
   pub ended : IsEnded tokens
-  pub only : (at : ℕ) → at < length tokens → terminal_at tokens at ≡ t.EndOfSource → at + 1 ≡ length tokens
+  pub only : (at : ℕ) → at < length tokens → kind_at tokens at ≡ k.EndOfSource → at + 1 ≡ length tokens
 
 -- the fault that tokens come to where they are read as a program
 abbrev pub ProgramFails : List Token → Fault → Type 0

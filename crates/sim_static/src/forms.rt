@@ -5,7 +5,7 @@ ghost use Rattle.std.specs.Str.{bytes_eq};
 ghost use Rattle.sim_scope.specs.ClassNames.{is_name_of_classes, names_of_classes, names_of_simulation};
 ghost use Rattle.sim_static.specs.NeedsClasses.{NeedsClasses, ends_prefix, is_begin, is_dot, needs, needs_here};
 
-use sim_base::{Token, TokenKind};
+use sim_base::{Token, TokenKind, TokenValue};
 
 /// The standard names of classes and of sets.
 static NAMES_OF_CLASSES: [&str; 19] = [
@@ -56,11 +56,11 @@ fn is_name_of_classes(name: &[u8]) -> bool
 }
 
 /// Whether only sources with classes have a token, which stands behind a dot or not.
-fn needs(dotted: bool, kind: &TokenKind) -> bool
-    ensures { result ≡ needs dotted kind.now }
+fn needs(dotted: bool, kind: TokenKind, value: &TokenValue) -> bool
+    ensures { result ≡ needs dotted kind value.now }
 {
     match kind {
-        TokenKind::Identifier(name) => !dotted && is_name_of_classes(name.as_bytes()),
+        TokenKind::Identifier => !dotted && is_name_of_classes(value.bytes()),
         TokenKind::Class => true,
         TokenKind::Ref => true,
         TokenKind::New => true,
@@ -77,8 +77,8 @@ fn needs(dotted: bool, kind: &TokenKind) -> bool
     }
 }
 
-fn is_dot(kind: &TokenKind) -> bool
-    ensures { result ≡ is_dot kind.now }
+fn is_dot(kind: TokenKind) -> bool
+    ensures { result ≡ is_dot kind }
 {
     match kind {
         TokenKind::Dot => true,
@@ -87,18 +87,18 @@ fn is_dot(kind: &TokenKind) -> bool
 }
 
 /// Whether a token may stand at the end of a block's prefix.
-fn ends_prefix(kind: &TokenKind) -> bool
-    ensures { result ≡ ends_prefix kind.now }
+fn ends_prefix(kind: TokenKind) -> bool
+    ensures { result ≡ ends_prefix kind }
 {
     match kind {
-        TokenKind::Identifier(_) => true,
+        TokenKind::Identifier => true,
         TokenKind::Close => true,
         _ => false,
     }
 }
 
-fn is_begin(kind: &TokenKind) -> bool
-    ensures { result ≡ is_begin kind.now }
+fn is_begin(kind: TokenKind) -> bool
+    ensures { result ≡ is_begin kind }
 {
     match kind {
         TokenKind::Begin => true,
@@ -110,7 +110,7 @@ fn is_begin(kind: &TokenKind) -> bool
 fn needs_here(dotted: bool, before: bool, token: &Token) -> bool
     ensures { result ≡ needs_here dotted before token.now }
 {
-    needs(dotted, &token.kind) || before && is_begin(&token.kind)
+    needs(dotted, token.lexeme.kind, &token.lexeme.value) || before && is_begin(token.lexeme.kind)
 }
 
 /// Whether the tokens of a source have a form of classes: a class, a prefixed block, a reference, a connection, an activation, or one of the
@@ -125,8 +125,8 @@ pub fn needs_classes(tokens: &[Token]) -> bool
         if needs_here(dotted, before, token) {
             return true;
         }
-        dotted = is_dot(&token.kind);
-        before = ends_prefix(&token.kind);
+        dotted = is_dot(token.lexeme.kind);
+        before = ends_prefix(token.lexeme.kind);
     }
     false
 }

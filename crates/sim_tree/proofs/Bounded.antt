@@ -7,7 +7,7 @@ use Rattle.std.specs.Prelude.{nat_le, ◌&&◌, ◌||◌, not}
 use Rattle.sim_base.specs.declared.token.Token.{Token}
 use Rattle.sim_tree.specs.Grammar as g
 use Rattle.sim_tree.specs.Grammar.{Part, Once, Maybe, Many, Symbol, Kept, Mark, Any, Here, Of, rows, right_side, is_counted}
-use Rattle.sim_tree.specs.Reading.{Forest, terminal_at, is_empty, inside_depth, is_too_deep, Reads, reads-done, reads-kept, reads-mark, reads-any, reads-none, reads-here, reads-part, reads-skip, Fails, TooDeep}
+use Rattle.sim_tree.specs.Reading.{Forest, kind_at, is_empty, inside_depth, is_too_deep, Reads, reads-done, reads-kept, reads-mark, reads-any, reads-none, reads-here, reads-part, reads-skip, Fails, TooDeep}
 use Rattle.sim_tree.specs.Claim.{SameBelow}
 use Rattle.sim_tree.specs.Tree.{is_bare, deepest}
 use Rattle.sim_tree.proofs.Completion.{row_get}
@@ -98,10 +98,10 @@ module _ {most : ℕ} {ws : List Token} where
   empty_reads other e (reads-part b sh r q) = absurd (false≢true e)
   empty_reads other e (reads-skip b k r) = absurd (false≢true e)
 
-part_solid : (ws : List Token) (n : Part) (i : ℕ) (right : List Symbol) → right_side n (terminal_at ws i) ≡ Some right → is_counted n ≡ true → is_empty right ≡ false → solid right ≡ true
+part_solid : (ws : List Token) (n : Part) (i : ℕ) (right : List Symbol) → right_side n (kind_at ws i) ≡ Some right → is_counted n ≡ true → is_empty right ≡ false → solid right ≡ true
 unfolding right_side
 part_solid ws n i right b c e =
-    sym (ap (λ z. z || solid right) e) ∙ row_get (rows n) (λ r. is_empty r || solid r) (terminal_at ws i) right
+    sym (ap (λ z. z || solid right) e) ∙ row_get (rows n) (λ r. is_empty r || solid r) (kind_at ws i) right
     (sym (ap (λ z. not z || each_row (rows n) (λ r. is_empty r || solid r)) c) ∙ rows_solid n) b
 
 shallow_empty : (most d : ℕ) (counts : Bool) (e : Bool) → e ≡ true → (counts && nat_le most d && not e) ≡ false

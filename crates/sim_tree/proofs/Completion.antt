@@ -1,5 +1,5 @@
 -- Each sequence that a fault leaves can be completed, with a word that the table knows.
-use Rattle.std.proofs.Common.{zero, suc, ◌≡◌, ℕ, ◌+◌, ◌<◌, ◌≤◌, Bool, true, false, if◌then◌else◌, List, [], ◌∷◌, ◌++◌, length, Option, Some, None, refl, sym, subst, ap, ◌∙◌, arith, rules, append_assoc, map, length-append, pos}
+use Rattle.std.proofs.Common.{zero, suc, ◌≡◌, ℕ, ◌+◌, ◌<◌, ◌≤◌, Bool, true, false, if◌then◌else◌, List, [], ◌∷◌, ◌++◌, length, Option, Some, None, refl, sym, subst, ap, ◌∙◌, arith, rules, append_assoc, map, length-append}
 use Rattle.std.proofs.lemmas.List.{length-map}
 use Rattle.std.proofs.Common.{◌⊎◌, inl, inr}
 use Rattle.std.proofs.lemmas.Bool.{false≢true}
@@ -10,12 +10,10 @@ use denote.Enum.Bare.{same_true}
 use Rattle.sim_base.specs.declared.token.Token.{Token}
 use Rattle.sim_base.specs.declared.token.TokenKind.{TokenKind}
 use Rattle.sim_base.specs.declared.token.TokenKind.TheVariants as k
-use Rattle.sim_tree.specs.contracts.terminal.Terminal.{the_type}
-use Rattle.sim_tree.specs.declared.terminal.Terminal.{Terminal}
-use Rattle.sim_tree.specs.declared.terminal.Terminal.TheVariants as t
-use Rattle.sim_tree.specs.Terminal.{terminal_of}
+use Rattle.sim_base.specs.Lexeme.{bare}
+use Rattle.sim_base.specs.contracts.token.TokenKind.{the_type}
 use Rattle.sim_tree.specs.Grammar.{Part, Times, Once, Maybe, Many, Symbol, Kept, Mark, Any, Here, Of, Row, At, Else, is, one_of, rows, chosen, right_side}
-use Rattle.sim_tree.specs.Reading.{Forest, done, finish, kind_at, terminal_at, after, may_skip, Reads, reads-done, reads-part, reads-skip, Fails, Fault, Unexpected}
+use Rattle.sim_tree.specs.Reading.{Forest, done, finish, kind_at, after, may_skip, Reads, reads-done, reads-part, reads-skip, Fails, Fault, Unexpected}
 use Rattle.sim_tree.specs.Claim.{SameBelow, Begins, IsFirstBad, one}
 use Rattle.sim_tree.proofs.Laws.{fault_at, not_begun}
 use Rattle.sim_tree.proofs.Prefix.{FreeTo, free_reading, free-done, free-kept, free-mark, free-none, free-here, free-part, free-skip, Pending, p-nothing, p-kept, p-mark, p-any, p-none, p-here, p-inside, p-after, p-skip, before_fault, filled}
@@ -36,20 +34,20 @@ not_true : (b : Bool) → not b ≡ true → b ≡ false
 not_true true h = absurd (false≢true h)
 not_true false h = refl
 
-pub is_same : (a b : Terminal) → is a b ≡ true → a ≡ b
+pub is_same : (a b : TokenKind) → is a b ≡ true → a ≡ b
 unfolding is
 is_same a b h = same_true the_type (search rules) a b h
 
-pub is_self : (a : Terminal) → is a a ≡ true
+pub is_self : (a : TokenKind) → is a a ≡ true
 unfolding is
-is_self t.Begin = refl
+is_self k.Begin = refl
 is_self _ = refl
 
-pub one_itself : (a : Terminal) (any : List Terminal) → one_of (a ∷ any) a ≡ true
+pub one_itself : (a : TokenKind) (any : List TokenKind) → one_of (a ∷ any) a ≡ true
 one_itself a any = ap (λ x. x || one_of any a) (is_self a)
 
 -- what holds of each holds of one
-each_get : (xs : List Terminal) (p : Terminal → Bool) (x : Terminal) → each xs p ≡ true → one_of xs x ≡ true → p x ≡ true
+each_get : (xs : List TokenKind) (p : TokenKind → Bool) (x : TokenKind) → each xs p ≡ true → one_of xs x ≡ true → p x ≡ true
 each_get [] p x h i = absurd (false≢true i)
 each_get (y ∷ ys) p x h i = go (is x y) refl (λ j. each_get ys p x (right_true (p y) (each ys p) h) j)
   where
@@ -57,7 +55,7 @@ each_get (y ∷ ys) p x h i = go (is x y) refl (λ j. each_get ys p x (right_tru
     go true e later = subst (λ z. p z ≡ true) (sym (is_same x y e)) (left_true (p y) (each ys p) h)
     go false e later = later (sym (ap (λ b. b || one_of ys x) e) ∙ i)
 
-pub row_get : (rs : List Row) (p : List Symbol → Bool) (a : Terminal) (right : List Symbol) → each_row rs p ≡ true → chosen rs a ≡ Some right → p right ≡ true
+pub row_get : (rs : List Row) (p : List Symbol → Bool) (a : TokenKind) (right : List Symbol) → each_row rs p ≡ true → chosen rs a ≡ Some right → p right ≡ true
 row_get [] p a right h e = absurd (none e)
   where
     none : {l : List Symbol} → None ≡ Some l → ⊥
@@ -75,8 +73,8 @@ row_get (Else here ∷ others) p a right h e = subst (λ z. p z ≡ true) (some 
     some : Some here ≡ Some right → here ≡ right
     some e = cc
 
--- inside a part that is followed by a terminal, all can be followed
-ok_inside : (t : Times) (n : Part) (x y : Terminal) (right : List Symbol) → fits t n x ≡ true → right_side n y ≡ Some right → ok right x ≡ true
+-- inside a part that is followed by a kind, all can be followed
+ok_inside : (t : Times) (n : Part) (x y : TokenKind) (right : List Symbol) → fits t n x ≡ true → right_side n y ≡ Some right → ok right x ≡ true
 unfolding right_side
 ok_inside t n x y right h e =
     row_get (rows n) (λ r. ok r x) y right (each_get (follow n) (λ z. each_row (rows n) (λ r. ok r z)) x (left_true _ _ (all_fit n)) (followed t h)) e
@@ -90,13 +88,13 @@ none_is : (o : Option (List Symbol)) → is_none o ≡ true → o ≡ None
 none_is None h = refl
 none_is (Some right) h = absurd (false≢true h)
 
-skips : (t : Times) (n : Part) (x : Terminal) → fits t n x ≡ true → may_skip t ≡ true → right_side n x ≡ None
+skips : (t : Times) (n : Part) (x : TokenKind) → fits t n x ≡ true → may_skip t ≡ true → right_side n x ≡ None
 unfolding right_side
 skips Once n x h may = absurd (false≢true may)
 skips Maybe n x h may = none_is (chosen (rows n) x) (right_true (one_of (follow n) x) (is_none (chosen (rows n) x)) h)
 skips Many n x h may = none_is (chosen (rows n) x) (right_true (one_of (follow n) x) (is_none (chosen (rows n) x)) h)
 
-head-append : (a b : List Terminal) (x : Terminal) → head_of (a ++ b) x ≡ head_of a (head_of b x)
+head-append : (a b : List TokenKind) (x : TokenKind) → head_of (a ++ b) x ≡ head_of a (head_of b x)
 head-append [] b x = refl
 head-append (y ∷ a) b x = refl
 
@@ -112,10 +110,10 @@ word-append (Of Maybe n ∷ a) b = word-append a b
 word-append (Of Many n ∷ a) b = word-append a b
 
 -- what stands behind a, in a sequence
-head_behind : (a c : List Symbol) (b : Terminal) → head_of (word (a ++ c)) b ≡ head_of (word a) (head_of (word c) b)
+head_behind : (a c : List Symbol) (b : TokenKind) → head_of (word (a ++ c)) b ≡ head_of (word a) (head_of (word c) b)
 head_behind a c b = ap (λ l. head_of l b) (word-append a c) ∙ head-append (word a) (word c) b
 
-ok-append : (a c : List Symbol) (b : Terminal) → ok a (head_of (word c) b) ≡ true → ok c b ≡ true → ok (a ++ c) b ≡ true
+ok-append : (a c : List Symbol) (b : TokenKind) → ok a (head_of (word c) b) ≡ true → ok c b ≡ true → ok (a ++ c) b ≡ true
 ok-append [] c b h i = i
 ok-append (Kept any ∷ a) c b h i = both (left_true (is_some any) _ h) (ok-append a c b (right_true (is_some any) _ h) i)
 ok-append (Mark x ∷ a) c b h i = ok-append a c b h i
@@ -127,15 +125,15 @@ ok-append (Of t n ∷ a) c b h i =
     let z = head_of (word a) (head_of (word c) b) in
     both (ap (fits t n) (head_behind a c b) ∙ left_true (fits t n z) _ h) (ok-append a c b (right_true (fits t n z) _ h) i)
 
-ok_part : (t : Times) (n : Part) (s : List Symbol) (b : Terminal) → ok (Of t n ∷ s) b ≡ true → (fits t n (head_of (word s) b) ≡ true) × (ok s b ≡ true)
+ok_part : (t : Times) (n : Part) (s : List Symbol) (b : TokenKind) → ok (Of t n ∷ s) b ≡ true → (fits t n (head_of (word s) b) ≡ true) × (ok s b ≡ true)
 ok_part t n s b h = (left_true (fits t n (head_of (word s) b)) (ok s b) h, right_true (fits t n (head_of (word s) b)) (ok s b) h)
 
-word-after : (t : Times) (n : Part) (s : List Symbol) (b : Terminal) → ok (Of t n ∷ s) b ≡ true → (head_of (word (after t n s)) b ≡ head_of (word s) b) × (ok (after t n s) b ≡ true)
+word-after : (t : Times) (n : Part) (s : List Symbol) (b : TokenKind) → ok (Of t n ∷ s) b ≡ true → (head_of (word (after t n s)) b ≡ head_of (word s) b) × (ok (after t n s) b ≡ true)
 word-after Once n s b h = (refl, (ok_part Once n s b h).1)
 word-after Maybe n s b h = (refl, (ok_part Maybe n s b h).1)
 word-after Many n s b h = (refl, h)
 
-ok_left : {ws : List Token} {s left : List Symbol} {i m : ℕ} → Pending ws s i m left → (b : Terminal) → ok s b ≡ true → ok left b ≡ true
+ok_left : {ws : List Token} {s left : List Symbol} {i m : ℕ} → Pending ws s i m left → (b : TokenKind) → ok s b ≡ true → ok left b ≡ true
 ok_left p-nothing b h = h
 ok_left (p-kept {any = any} {s = s} w lt p) b h = ok_left p b (right_true (is_some any) (ok s b) h)
 ok_left (p-mark w lt p) b h = ok_left p b h
@@ -149,26 +147,26 @@ ok_left (p-inside {t = t} {n = n} {right = right} {s = s} {inner = inner} w lt p
 ok_left (p-after {t = t} {n = n} {s = s} w le lt q p) b h = ok_left p b (word-after t n s b h).1
 ok_left (p-skip {t = t} {n = n} {s = s} w may lt p) b h = ok_left p b (ok_part t n s b h).1
 
--- the tokens from i on have these terminals
-abbrev pub Stand : List Token → ℕ → List Terminal → Type 0
+-- the tokens from i on have these kinds
+abbrev pub Stand : List Token → ℕ → List TokenKind → Type 0
 Stand us i [] = Unit {0}
-Stand us i (x ∷ xs) = (terminal_at us i ≡ x) × Stand us (i + 1) xs
+Stand us i (x ∷ xs) = (kind_at us i ≡ x) × Stand us (i + 1) xs
 
 -- the right side of which the word of a part is made
-record Made (n : Part) (x : Terminal) : Type 0 where
+record Made (n : Part) (x : TokenKind) : Type 0 where
   right : List Symbol
   begins : right_side n (head_of (sample n) x) ≡ Some right
   same : word right ≡ sample n
   lower : below (rank n) right ≡ true
 
-word_same : (xs ys : List Terminal) → same_word xs ys ≡ true → xs ≡ ys
+word_same : (xs ys : List TokenKind) → same_word xs ys ≡ true → xs ≡ ys
 word_same [] [] h = refl
 word_same (x ∷ xs) [] h = absurd (false≢true h)
 word_same [] (y ∷ ys) h = absurd (false≢true h)
 word_same (x ∷ xs) (y ∷ ys) h =
     ap (λ z. z ∷ xs) (is_same x y (left_true (is x y) (same_word xs ys) h)) ∙ ap (λ z. y ∷ z) (word_same xs ys (right_true (is x y) (same_word xs ys) h))
 
-made : (n : Part) (x : Terminal) → one_of (follow n) x ≡ true → Made n x
+made : (n : Part) (x : TokenKind) → one_of (follow n) x ≡ true → Made n x
 unfolding right_side
 made n x h = go (chosen (rows n) (head_of (sample n) x)) refl (each_get (follow n) (λ z. makes n (chosen (rows n) (head_of (sample n) z))) x (right_true _ _ (all_fit n)) h)
   where
@@ -189,20 +187,20 @@ below_part k n s h = (go (leb_tells k (rank n)), right_true (not (nat_le k (rank
     go (inr w) = w.1
 
 -- what stands behind a word
-rest_of : List Terminal → Terminal → List Terminal → List Terminal
+rest_of : List TokenKind → TokenKind → List TokenKind → List TokenKind
 rest_of [] b more = more
 rest_of (y ∷ ys) b more = ys ++ b ∷ more
 
-split_head : (w : List Terminal) (b : Terminal) (more : List Terminal) → w ++ b ∷ more ≡ head_of w b ∷ rest_of w b more
+split_head : (w : List TokenKind) (b : TokenKind) (more : List TokenKind) → w ++ b ∷ more ≡ head_of w b ∷ rest_of w b more
 unfolding rest_of
 split_head [] b more = refl
 split_head (y ∷ ys) b more = refl
 
 module _ (us : List Token) where
-  is_there : (i : ℕ) (a : Terminal) → terminal_at us i ≡ a → is (terminal_at us i) a ≡ true
+  is_there : (i : ℕ) (a : TokenKind) → kind_at us i ≡ a → is (kind_at us i) a ≡ true
   is_there i a e = subst (λ z. is z a ≡ true) (sym e) (is_self a)
 
-  stand_behind : (xs ys : List Terminal) (i : ℕ) → Stand us i (xs ++ ys) → Stand us (i + length xs) ys
+  stand_behind : (xs ys : List TokenKind) (i : ℕ) → Stand us i (xs ++ ys) → Stand us (i + length xs) ys
   stand_behind [] ys i h = subst (λ m. Stand us m ys) (let e : i ≡ i + 0 = omega arith in e) h
   stand_behind (x ∷ xs) ys i h =
       let e : i + 1 + length xs ≡ i + length (x ∷ xs) = omega arith in subst (λ m. Stand us m ys) e (stand_behind xs ys (i + 1) h.1)
@@ -218,16 +216,16 @@ module _ (us : List Token) where
       joined (reads-part c sh r reads-done) q = (_, free-part c (free_reading r) (free_reading q))
       joined (reads-skip c may r) q = absurd (false≢true may)
 
-  next_is : (w more : List Terminal) (b : Terminal) (i : ℕ) → Stand us i (w ++ b ∷ more) → terminal_at us i ≡ head_of w b
+  next_is : (w more : List TokenKind) (b : TokenKind) (i : ℕ) → Stand us i (w ++ b ∷ more) → kind_at us i ≡ head_of w b
   next_is [] more b i h = h.0
   next_is (x ∷ w) more b i h = h.0
 
   -- the words of the parts below a number are read
   abbrev Single : ℕ → Type 0
-  Single k = (n : Part) → rank n < k → (x : Terminal) → one_of (follow n) x ≡ true → (more : List Terminal) (i : ℕ)
+  Single k = (n : Part) → rank n < k → (x : TokenKind) → one_of (follow n) x ≡ true → (more : List TokenKind) (i : ℕ)
       → Stand us i (sample n ++ x ∷ more) → FreeTo us (one n) i (i + length (sample n))
 
-  completed : (k : ℕ) → Single k → (s : List Symbol) (b : Terminal) (more : List Terminal) (i : ℕ) → ok s b ≡ true → below k s ≡ true
+  completed : (k : ℕ) → Single k → (s : List Symbol) (b : TokenKind) (more : List TokenKind) (i : ℕ) → ok s b ≡ true → below k s ≡ true
       → Stand us i (word s ++ b ∷ more) → FreeTo us s i (i + length (word s))
   completed k single [] b more i h low w = let e : i ≡ i + 0 = omega arith in subst (λ m. FreeTo us [] i m) e (done, free-done)
   completed k single (Kept [] ∷ s) b more i h low w = absurd (false≢true h)
@@ -269,7 +267,7 @@ module _ (us : List Token) where
       let fine = ok_inside Once n x (head_of (sample n) x) m.right f m.begins in
       let lower : Single (rank n) = λ p less. each_single k p (omega (arith, less, lt)) in
       let r = completed (rank n) lower m.right x more i fine m.lower (subst (λ z. Stand us i (z ++ x ∷ more)) (sym m.same) w) in
-      let there : terminal_at us i ≡ head_of (sample n) x = next_is (sample n) more x i w in
+      let there : kind_at us i ≡ head_of (sample n) x = next_is (sample n) more x i w in
       subst (λ z. FreeTo us (one n) i (i + length z)) m.same (_, free-part (subst (λ z. right_side n z ≡ Some m.right) (sym there) m.begins) r.1 free-done)
 
 -- a number above that of each part that stands once
@@ -315,93 +313,9 @@ below_enough (Of Once n ∷ s) =
 below_enough (Of Maybe n ∷ s) = below_enough s
 below_enough (Of Many n ∷ s) = below_enough s
 
--- a token of a terminal
-abbrev kind_for : Terminal → TokenKind
-kind_for t.Activate = k.Activate
-kind_for t.After = k.After
-kind_for t.And = k.And
-kind_for t.Array = k.Array
-kind_for t.At = k.At
-kind_for t.Before = k.Before
-kind_for t.Begin = k.Begin
-kind_for t.Boolean = k.Boolean
-kind_for t.CharacterWord = k.CharacterWord
-kind_for t.Class = k.Class
-kind_for t.Delay = k.Delay
-kind_for t.Do = k.Do
-kind_for t.Else = k.Else
-kind_for t.End = k.End
-kind_for t.Eqv = k.Eqv
-kind_for t.False = k.False
-kind_for t.For = k.For
-kind_for t.Hidden = k.Hidden
-kind_for t.If = k.If
-kind_for t.Imp = k.Imp
-kind_for t.In = k.In
-kind_for t.Inner = k.Inner
-kind_for t.Inspect = k.Inspect
-kind_for t.IntegerWord = k.IntegerWord
-kind_for t.Is = k.Is
-kind_for t.Name = k.Name
-kind_for t.New = k.New
-kind_for t.None = k.None
-kind_for t.Not = k.Not
-kind_for t.Notext = k.Notext
-kind_for t.Or = k.Or
-kind_for t.Otherwise = k.Otherwise
-kind_for t.Prior = k.Prior
-kind_for t.Procedure = k.Procedure
-kind_for t.Protected = k.Protected
-kind_for t.Qua = k.Qua
-kind_for t.Reactivate = k.Reactivate
-kind_for t.Ref = k.Ref
-kind_for t.Step = k.Step
-kind_for t.TextWord = k.TextWord
-kind_for t.Then = k.Then
-kind_for t.This = k.This
-kind_for t.True = k.True
-kind_for t.Until = k.Until
-kind_for t.Value = k.Value
-kind_for t.Virtual = k.Virtual
-kind_for t.When = k.When
-kind_for t.While = k.While
-kind_for t.To = k.To
-kind_for t.AndThen = k.AndThen
-kind_for t.OrElse = k.OrElse
-kind_for t.Open = k.Open
-kind_for t.Close = k.Close
-kind_for t.Comma = k.Comma
-kind_for t.Semicolon = k.Semicolon
-kind_for t.Colon = k.Colon
-kind_for t.Dot = k.Dot
-kind_for t.Plus = k.Plus
-kind_for t.Minus = k.Minus
-kind_for t.Times = k.Times
-kind_for t.Power = k.Power
-kind_for t.Divide = k.Divide
-kind_for t.Ampersand = k.Ampersand
-kind_for t.Assign = k.Assign
-kind_for t.AssignReference = k.AssignReference
-kind_for t.Equal = k.Equal
-kind_for t.SameReference = k.SameReference
-kind_for t.OtherReference = k.OtherReference
-kind_for t.Less = k.Less
-kind_for t.LessEqual = k.LessEqual
-kind_for t.Greater = k.Greater
-kind_for t.GreaterEqual = k.GreaterEqual
-kind_for t.NotEqual = k.NotEqual
-kind_for t.Identifier = k.Identifier []
-kind_for t.Integer = k.Integer (pos 0)
-kind_for t.Character = k.Character 0
-kind_for t.Text = k.Text []
-kind_for t.EndOfSource = k.EndOfSource
-
-abbrev blank : Terminal → Token
-blank a = record { kind = kind_for a; place = 0; line = record { 0 = 0 } }
-
-blank-terminal : (a : Terminal) → terminal_of (blank a).kind ≡ a
-blank-terminal t.Begin = refl
-blank-terminal _ = refl
+-- a token of a kind
+abbrev blank : TokenKind → Token
+blank kind = record { lexeme = bare kind; place = 0; line = record { 0 = 0 } }
 
 -- the first m tokens, with ends where there are fewer
 abbrev front : List Token → ℕ → List Token
@@ -421,25 +335,25 @@ front-get [] (suc m) (suc o) l lt = front-get [] m o l (omega (arith, lt))
 front-get (w ∷ ws) (suc m) zero l lt = refl
 front-get (w ∷ ws) (suc m) (suc o) l lt = front-get ws m o l (omega (arith, lt))
 
--- the tokens below m, and then tokens of these terminals
-abbrev gone_on : List Token → ℕ → List Terminal → List Token
+-- the tokens below m, and then tokens of these kinds
+abbrev gone_on : List Token → ℕ → List TokenKind → List Token
 gone_on ws m xs = front ws m ++ map blank xs
 
 past_end : (us : List Token) → slice_index_or us (length us) finish ≡ finish
 past_end [] = refl
 past_end (u ∷ us) = past_end us
 
-stands : (pre : List Token) (xs : List Terminal) → Stand (pre ++ map blank xs) (length pre) (xs ++ t.EndOfSource ∷ [])
-unfolding kind_at terminal_at
+stands : (pre : List Token) (xs : List TokenKind) → Stand (pre ++ map blank xs) (length pre) (xs ++ k.EndOfSource ∷ [])
+unfolding kind_at
 stands pre [] =
     let nil : pre ++ [] ≡ pre = search rules in
-    (ap (λ l. terminal_of (slice_index_or l (length pre) finish).kind) nil ∙ ap (λ w. terminal_of w.kind) (past_end pre), tt)
+    (ap (λ l. (slice_index_or l (length pre) finish).lexeme.kind) nil ∙ ap (λ w. w.lexeme.kind) (past_end pre), tt)
 stands pre (x ∷ xs) =
-    let here = ap (λ w. terminal_of w.kind) (get_or-append_seam pre (blank x) (map blank xs) finish) ∙ blank-terminal x in
+    let here = ap (λ w. w.lexeme.kind) (get_or-append_seam pre (blank x) (map blank xs) finish) in
     let n : length (pre ++ blank x ∷ []) ≡ length pre + 1 = omega (arith, length-append pre (blank x ∷ [])) in
     let rest = stands (pre ++ blank x ∷ []) xs in
-    let rest' = subst (λ l. Stand l (length (pre ++ blank x ∷ [])) (xs ++ t.EndOfSource ∷ [])) (append_assoc pre (blank x ∷ []) (map blank xs)) rest in
-    (here, subst (λ m. Stand (pre ++ blank x ∷ map blank xs) m (xs ++ t.EndOfSource ∷ [])) n rest')
+    let rest' = subst (λ l. Stand l (length (pre ++ blank x ∷ [])) (xs ++ k.EndOfSource ∷ [])) (append_assoc pre (blank x ∷ []) (map blank xs)) rest in
+    (here, subst (λ m. Stand (pre ++ blank x ∷ map blank xs) m (xs ++ k.EndOfSource ∷ [])) n rest')
 
 -- the tokens before a fault begin the part
 pub begun : (limit d : ℕ) (ws : List Token) (n : Part) (i : ℕ) (e : Fault) → Fails limit ws d (one n) i e → Begins ws (one n) i (fault_at e)
@@ -449,9 +363,9 @@ begun limit d ws n i e h =
     let left = seen.left in
     let xs = word left.0 in
     let us = gone_on ws m xs in
-    let fine = ok_left left.1 t.EndOfSource (both (all_end n) refl) in
-    let there = subst (λ j. Stand us j (xs ++ t.EndOfSource ∷ [])) (length-front ws m) (stands (front ws m) xs) in
-    let rest = completed us (enough left.0) (each_single us (enough left.0)) left.0 t.EndOfSource [] m fine (below_enough left.0) there in
+    let fine = ok_left left.1 k.EndOfSource (both (all_end n) refl) in
+    let there = subst (λ j. Stand us j (xs ++ k.EndOfSource ∷ [])) (length-front ws m) (stands (front ws m) xs) in
+    let rest = completed us (enough left.0) (each_single us (enough left.0)) left.0 k.EndOfSource [] m fine (below_enough left.0) there in
     let same : SameBelow m ws us = λ o lt. front-get ws m o (map blank xs) lt in
     let all = filled ws us left.1 same (m + length xs) rest in
     let r = all.1.by 0 in

@@ -13,7 +13,7 @@ use Rattle.sim_tree.specs.declared.stmt.Stmt.{Stmt}
 use Rattle.sim_tree.specs.declared.stmt.TypeName.{TypeName}
 use Rattle.sim_tree.specs.declared.stmt.When.{When}
 use Rattle.sim_tree.specs.Grammar as g
-use Rattle.sim_tree.specs.Reading.{Forest, done, leaf, place, node}
+use Rattle.sim_tree.specs.Reading.{Forest, done, leaf, place, node, bare_leaf}
 use Rattle.sim_tree.specs.Tree.{IsTree}
 use Rattle.sim_tree.proofs.Induction as induction
 use Rattle.sim_tree.proofs.Full.{reads_full}
@@ -27,7 +27,7 @@ use Rattle.sim_tree.specs.SyntaxOfProgram.{Arm, arms, Classed, Headed, statement
 use Rattle.sim_base.specs.declared.token.Token.{Token}
 use Rattle.sim_tree.specs.declared.stmt.VirtualSpecification.{VirtualSpecification}
 use Rattle.sim_tree.specs.Grammar.{Symbol}
-use Rattle.sim_tree.specs.Reading.{Reads, reads-done, reads-kept, reads-mark, reads-any, reads-none, reads-here, reads-part, reads-skip}
+use Rattle.sim_tree.specs.Reading.{Reads, reads-done, reads-kept, reads-mark, reads-any, reads-none, reads-here, reads-part, reads-skip, bare_leaf}
 use Rattle.sim_tree.proofs.ReadStatements.{full_behind_row, full_behind_virtuals}
 use Rattle.sim_tree.proofs.ReadExpressions.{full_behind_arguments, Full, is_full-Full}
 use Rattle.sim_tree.specs.Ends.{InStatement, InStatements, InArms, InBlock, InDeclarations, InDeclaration, EndsBehind}
@@ -35,19 +35,19 @@ use Rattle.sim_tree.specs.Ends.{InStatement, InStatements, InArms, InBlock, InDe
 -- The tokens of a derivation ascend from a number on, up to another. A token that was not taken is at most the next one that is.
 abbrev Ordered : ℕ → Forest → ℕ → Type 0
 Ordered low done high = low ≤ high
-Ordered low (leaf i kind f) high = (low ≤ i) × Ordered (i + 1) f high
+Ordered low (leaf i kind value f) high = (low ≤ i) × Ordered (i + 1) f high
 Ordered low (place i f) high = (low ≤ i) × Ordered i f high
 Ordered low (node n inside f) high = (m : ℕ) × Ordered low inside m × Ordered m f high
 
 upward : (f : Forest) (low high : ℕ) → Ordered low f high → low ≤ high
 upward done low high o = o
-upward (leaf i kind f) low high o = let a = o.0 in let b = upward f (i + 1) high o.1 in omega (arith, a, b)
+upward (leaf i kind value f) low high o = let a = o.0 in let b = upward f (i + 1) high o.1 in omega (arith, a, b)
 upward (place i f) low high o = let a = o.0 in let b = upward f i high o.1 in omega (arith, a, b)
 upward (node n inside f) low high o = let a = upward inside low o.0 o.1 in let b = upward f o.0 high o.2 in omega (arith, a, b)
 
 from_below : (f : Forest) (less low high : ℕ) → less ≤ low → Ordered low f high → Ordered less f high
 from_below done less low high le o = omega (arith, le, o)
-from_below (leaf i kind f) less low high le o = (let a = o.0 in omega (arith, le, a), o.1)
+from_below (leaf i kind value f) less low high le o = (let a = o.0 in omega (arith, le, a), o.1)
 from_below (place i f) less low high le o = (let a = o.0 in omega (arith, le, a), o.1)
 from_below (node n inside f) less low high le o = (o.0, from_below inside less low o.0 le o.1, o.2)
 
@@ -89,11 +89,11 @@ abbrev EachDeclaration : List Declared → List Declaration → Type 0
 EachDeclaration = induction.EachDeclaration Says Declares Blocks Classes Procedures Arms
 
 begun_full : (f rest : Forest) → Full (begun f rest) → (has_token g.Statement f ≡ true) × Full f × Full rest
-begun_full (leaf i (k.Identifier name) f) rest full = (refl, full.1.1, full.1.2)
+begun_full (leaf i k.Identifier value f) rest full = (refl, full.1.1, full.1.2)
 begun_full f rest full = full
 
 begun_ordered : (f rest : Forest) (low high : ℕ) → Ordered low (begun f rest) high → (m : ℕ) × (n : ℕ) × Ordered low f m × Ordered m rest n
-begun_ordered (leaf i (k.Identifier name) f) rest low high o = (o.1.1.0, o.1.0, (o.0, o.1.1.1), o.1.1.2)
+begun_ordered (leaf i k.Identifier value f) rest low high o = (o.1.1.0, o.1.0, (o.0, o.1.1.1), o.1.1.2)
 begun_ordered f rest low high o = (o.0, high, o.1, o.2)
 
 -- what is behind actual parameters, and behind parts of one kind
@@ -111,8 +111,8 @@ behind_virtuals [] f low high o = (low, let z : low ≤ low = omega arith in z, 
 behind_virtuals (v ∷ vs) f low high o = (o.0, upward (row g.VirtualSpecification (map d.virtual_derivation (v ∷ vs)) done) low o.0 o.1, o.2)
 
 -- Blocks.
-more_statements : (fs : List Forest) (es : List Statement) (end : ℕ) → EachStatement fs es → (low high : ℕ) → Full (row g.NextStatement (map next_statement fs) (leaf end k.End done))
-    → Ordered low (row g.NextStatement (map next_statement fs) (leaf end k.End done)) high → (low ≤ end) × InStatements (statements es)
+more_statements : (fs : List Forest) (es : List Statement) (end : ℕ) → EachStatement fs es → (low high : ℕ) → Full (row g.NextStatement (map next_statement fs) (bare_leaf end k.End done))
+    → Ordered low (row g.NextStatement (map next_statement fs) (bare_leaf end k.End done)) high → (low ≤ end) × InStatements (statements es)
 more_statements [] [] end each low high full o = (o.0, tt)
 more_statements [] (e ∷ es) end each low high full o = absurd each
 more_statements (f ∷ fs) [] end each low high full o = absurd each
@@ -127,7 +127,7 @@ statements_end [] [] end each low high full o = (o.0, tt)
 statements_end [] (e ∷ es) end each low high full o = absurd each
 statements_end (f ∷ fs) [] end each low high full o = absurd each
 statements_end (f ∷ fs) (e ∷ es) end each low high full o =
-    let rest = row g.NextStatement (map next_statement fs) (leaf end k.End done) in
+    let rest = row g.NextStatement (map next_statement fs) (bare_leaf end k.End done) in
     let parts = begun_full f rest full in
     let p = begun_ordered f rest low high o in
     let h = more_statements fs es end each.1 p.0 p.1 parts.2 p.3 in
@@ -199,7 +199,7 @@ arms_end : (xs : List WhenPair) (low high : ℕ) → Full (row g.WhenArm (map wh
 arms_end [] low high full o = tt
 arms_end (x ∷ xs) low high full o = let h = x.1 full.1 low o.0 o.1 in (h.0, h.1, arms_end xs o.0 high full.2 o.2)
 
-connected : (f : Forest) (opening end low high : ℕ) → Ordered low (leaf opening k.Do (node g.Statement f (place end done))) high → opening < end
+connected : (f : Forest) (opening end low high : ℕ) → Ordered low (bare_leaf opening k.Do (node g.Statement f (place end done))) high → opening < end
 connected f opening end low high o = let a = upward f (opening + 1) o.1.0 o.1.1 in let b = o.1.2.0 in omega (arith, a, b)
 
 stmt_step : induction.StmtStep Says Declares Blocks Classes Procedures Arms

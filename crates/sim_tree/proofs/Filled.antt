@@ -19,7 +19,7 @@ use Rattle.sim_tree.specs.declared.stmt.TypeName.{TypeName}
 use Rattle.sim_tree.specs.Filled.{Filled, FilledBlock, FilledDeclaration, FilledDeclarations, FilledSegments, FilledStatement, FilledStatements, SomeElement, SomeIdentifier, SomeSide}
 use Rattle.sim_tree.specs.Grammar as g
 use Rattle.sim_tree.specs.Nesting.{has_token}
-use Rattle.sim_tree.specs.Reading.{Forest, done, leaf, node}
+use Rattle.sim_tree.specs.Reading.{Forest, done, node, bare_leaf}
 use Rattle.sim_tree.specs.Derivation.{Derivation, arguments, row, derivation_of}
 use Rattle.sim_tree.specs.ProgramDerivation as d
 use Rattle.sim_tree.specs.ProgramDerivation.{Declared, Plain, Prefixed, block_derivation, contents, declaration_derivation, next_statement, program_derivation, statement_derivation}
@@ -59,7 +59,7 @@ EachStatement = induction.EachStatement Says Declares Blocks Classes Procedures 
 abbrev EachDeclaration : List Declared → List Declaration → Type 0
 EachDeclaration = induction.EachDeclaration Says Declares Blocks Classes Procedures Arms
 
-more_filled : (fs : List Forest) (es : List Statement) (end : ℕ) → EachStatement fs es → Full (row g.NextStatement (map next_statement fs) (leaf end k.End done)) → FilledStatements (statements es)
+more_filled : (fs : List Forest) (es : List Statement) (end : ℕ) → EachStatement fs es → Full (row g.NextStatement (map next_statement fs) (bare_leaf end k.End done)) → FilledStatements (statements es)
 more_filled [] [] end each full = tt
 more_filled [] (e ∷ es) end each full = absurd each
 more_filled (f ∷ fs) [] end each full = absurd each
@@ -70,7 +70,7 @@ statements_filled [] [] end each full = tt
 statements_filled [] (e ∷ es) end each full = absurd each
 statements_filled (f ∷ fs) [] end each full = absurd each
 statements_filled (f ∷ fs) (e ∷ es) end each full =
-    let parts = begun_full f (row g.NextStatement (map next_statement fs) (leaf end k.End done)) full in (each.0 parts.0 parts.1, more_filled fs es end each.1 parts.2)
+    let parts = begun_full f (row g.NextStatement (map next_statement fs) (bare_leaf end k.End done)) full in (each.0 parts.0 parts.1, more_filled fs es end each.1 parts.2)
 
 contents_filled : (ds : List Declared) (xs : List Declaration) (fs : List Forest) (es : List Statement) (end : ℕ) → EachDeclaration ds xs → EachStatement fs es → Full (contents ds fs end)
     → FilledDeclarations (declarations xs) × FilledStatements (statements es)
@@ -84,11 +84,11 @@ sides_filled : (e : Expr) (xs : List Assigned) → has_token g.Statement (d.assi
 sides_filled e [] token = absurd (false≢true token)
 sides_filled e (x ∷ xs) token = tt
 
-elements_filled : (i : ℕ) (xs : List ForElement) → has_token g.ForList (leaf i k.Assign (d.for_elements xs)) ≡ true → SomeElement (map t.element_syntax xs)
+elements_filled : (i : ℕ) (xs : List ForElement) → has_token g.ForList (bare_leaf i k.Assign (d.for_elements xs)) ≡ true → SomeElement (map t.element_syntax xs)
 elements_filled i [] token = absurd (false≢true token)
 elements_filled i (x ∷ xs) token = tt
 
-reference_elements_filled : (i : ℕ) (xs : List ReferenceElement) → has_token g.ForList (leaf i k.AssignReference (d.reference_elements xs)) ≡ true → SomeElement (map t.reference_element_syntax xs)
+reference_elements_filled : (i : ℕ) (xs : List ReferenceElement) → has_token g.ForList (bare_leaf i k.AssignReference (d.reference_elements xs)) ≡ true → SomeElement (map t.reference_element_syntax xs)
 reference_elements_filled i [] token = absurd (false≢true token)
 reference_elements_filled i (x ∷ xs) token = tt
 

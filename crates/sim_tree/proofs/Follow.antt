@@ -2,72 +2,72 @@
 -- words are made. A test over the whole table says that these fit the grammar.
 use Rattle.std.proofs.Common.{ℕ, ◌≡◌, Bool, true, false, List, [], ◌∷◌, ◌++◌, Option, Some, None, refl}
 use Rattle.std.specs.Prelude.{◌&&◌, not, nat_le}
-use Rattle.sim_tree.specs.declared.terminal.Terminal.{Terminal}
-use Rattle.sim_tree.specs.declared.terminal.Terminal.TheVariants as t
+use Rattle.sim_base.specs.declared.token.TokenKind.{TokenKind}
+use Rattle.sim_base.specs.declared.token.TokenKind.TheVariants as k
 use Rattle.sim_tree.specs.Grammar as g
 use Rattle.sim_tree.specs.Grammar.{Part, Times, Once, Maybe, Many, Symbol, Kept, Mark, Any, Here, Of, Row, At, Else, is, one_of, rows, chosen}
 
-abbrev behind_operand : List Terminal
-behind_operand = t.EndOfSource ∷ t.Else ∷ t.Colon ∷ t.Close ∷ t.Then ∷ t.Do ∷ t.End ∷ t.Semicolon ∷ t.Until ∷ []
+abbrev behind_operand : List TokenKind
+behind_operand = k.EndOfSource ∷ k.Else ∷ k.Colon ∷ k.Close ∷ k.Then ∷ k.Do ∷ k.End ∷ k.Semicolon ∷ k.Until ∷ []
 
-abbrev behind_expression : List Terminal
-behind_expression = t.EndOfSource ∷ t.End ∷ t.Semicolon ∷ t.Else ∷ t.Colon ∷ t.Close ∷ t.Then ∷ t.Do ∷ t.Until ∷ []
+abbrev behind_expression : List TokenKind
+behind_expression = k.EndOfSource ∷ k.End ∷ k.Semicolon ∷ k.Else ∷ k.Colon ∷ k.Close ∷ k.Then ∷ k.Do ∷ k.Until ∷ []
 
-abbrev behind_primary : List Terminal
-behind_primary = t.EndOfSource ∷ t.Colon ∷ t.Close ∷ t.Then ∷ t.Do ∷ t.End ∷ t.Semicolon ∷ t.Until ∷ []
+abbrev behind_primary : List TokenKind
+behind_primary = k.EndOfSource ∷ k.Colon ∷ k.Close ∷ k.Then ∷ k.Do ∷ k.End ∷ k.Semicolon ∷ k.Until ∷ []
 
-abbrev behind_actuals : List Terminal
-behind_actuals = t.EndOfSource ∷ t.Begin ∷ t.End ∷ t.Semicolon ∷ t.Else ∷ t.Colon ∷ t.Close ∷ t.Then ∷ t.Do ∷ t.Until ∷ []
+abbrev behind_actuals : List TokenKind
+behind_actuals = k.EndOfSource ∷ k.Begin ∷ k.End ∷ k.Semicolon ∷ k.Else ∷ k.Colon ∷ k.Close ∷ k.Then ∷ k.Do ∷ k.Until ∷ []
 
 -- what may come behind a part
-abbrev pub follow : Part → List Terminal
-follow g.Program = t.EndOfSource ∷ []
-follow g.Compound = t.EndOfSource ∷ t.End ∷ t.Semicolon ∷ []
-follow g.Block = t.EndOfSource ∷ t.End ∷ t.Semicolon ∷ []
-follow g.AfterDeclaration = t.EndOfSource ∷ t.End ∷ []
-follow g.AfterIdentifier = t.EndOfSource ∷ t.End ∷ t.Semicolon ∷ []
-follow g.Declaration = t.EndOfSource ∷ t.Semicolon ∷ []
-follow g.TypedDeclaration = t.EndOfSource ∷ t.Semicolon ∷ []
-follow g.NextArraySegment = t.EndOfSource ∷ t.Semicolon ∷ []
-follow g.NextVariable = t.EndOfSource ∷ t.Semicolon ∷ []
-follow g.TypeName = t.EndOfSource ∷ t.Identifier ∷ t.Procedure ∷ []
-follow g.Variable = t.EndOfSource ∷ t.Semicolon ∷ []
-follow g.Value = t.EndOfSource ∷ t.Semicolon ∷ []
-follow g.Constant = t.EndOfSource ∷ t.Semicolon ∷ []
-follow g.Identifiers = t.EndOfSource ∷ t.Open ∷ t.Close ∷ t.Semicolon ∷ []
-follow g.NextIdentifier = t.EndOfSource ∷ t.Open ∷ t.Close ∷ t.Semicolon ∷ []
-follow g.ArraySegment = t.EndOfSource ∷ t.Semicolon ∷ []
-follow g.Bounds = t.EndOfSource ∷ t.Close ∷ []
-follow g.NextBounds = t.EndOfSource ∷ t.Close ∷ []
-follow g.Procedure = t.EndOfSource ∷ t.Semicolon ∷ []
-follow g.Heading = t.EndOfSource ∷ t.Semicolon ∷ []
-follow g.Mode = t.EndOfSource ∷ t.IntegerWord ∷ []
-follow g.Specification = t.EndOfSource ∷ t.Semicolon ∷ []
-follow g.SpecifiedKind = t.EndOfSource ∷ t.Identifier ∷ []
-follow g.Class = t.EndOfSource ∷ t.Semicolon ∷ []
-follow g.Protection = t.EndOfSource ∷ t.Semicolon ∷ []
-follow g.AndProtected = t.EndOfSource ∷ t.Identifier ∷ []
-follow g.AndHidden = t.EndOfSource ∷ t.Identifier ∷ []
-follow g.Virtuals = t.EndOfSource ∷ t.Semicolon ∷ []
-follow g.VirtualSpecification = t.EndOfSource ∷ t.Semicolon ∷ []
-follow g.NextStatement = t.EndOfSource ∷ t.End ∷ []
-follow g.Statement = t.EndOfSource ∷ t.End ∷ t.Semicolon ∷ []
-follow g.StatementOfIdentifier = t.EndOfSource ∷ t.End ∷ []
-follow g.AfterFirstOperand = t.EndOfSource ∷ t.End ∷ t.Semicolon ∷ []
-follow g.Assigned = t.EndOfSource ∷ t.End ∷ t.Semicolon ∷ []
-follow g.ElseBranch = t.EndOfSource ∷ t.End ∷ t.Semicolon ∷ []
-follow g.ForList = t.EndOfSource ∷ t.Do ∷ []
-follow g.NextForElement = t.EndOfSource ∷ t.Do ∷ []
-follow g.NextReferenceElement = t.EndOfSource ∷ t.Do ∷ []
-follow g.Arms = t.EndOfSource ∷ t.End ∷ t.Semicolon ∷ []
-follow g.OtherwiseBranch = t.EndOfSource ∷ t.End ∷ t.Semicolon ∷ []
-follow g.ForElement = t.EndOfSource ∷ t.Do ∷ []
-follow g.ForElementTail = t.EndOfSource ∷ t.Do ∷ []
-follow g.ReferenceElement = t.EndOfSource ∷ t.Do ∷ []
-follow g.ReferenceElementTail = t.EndOfSource ∷ t.Do ∷ []
-follow g.WhenArm = t.EndOfSource ∷ t.End ∷ t.Semicolon ∷ []
-follow g.Timing = t.EndOfSource ∷ t.End ∷ t.Semicolon ∷ []
-follow g.PriorMark = t.EndOfSource ∷ t.End ∷ t.Semicolon ∷ []
+abbrev pub follow : Part → List TokenKind
+follow g.Program = k.EndOfSource ∷ []
+follow g.Compound = k.EndOfSource ∷ k.End ∷ k.Semicolon ∷ []
+follow g.Block = k.EndOfSource ∷ k.End ∷ k.Semicolon ∷ []
+follow g.AfterDeclaration = k.EndOfSource ∷ k.End ∷ []
+follow g.AfterIdentifier = k.EndOfSource ∷ k.End ∷ k.Semicolon ∷ []
+follow g.Declaration = k.EndOfSource ∷ k.Semicolon ∷ []
+follow g.TypedDeclaration = k.EndOfSource ∷ k.Semicolon ∷ []
+follow g.NextArraySegment = k.EndOfSource ∷ k.Semicolon ∷ []
+follow g.NextVariable = k.EndOfSource ∷ k.Semicolon ∷ []
+follow g.TypeName = k.EndOfSource ∷ k.Identifier ∷ k.Procedure ∷ []
+follow g.Variable = k.EndOfSource ∷ k.Semicolon ∷ []
+follow g.Value = k.EndOfSource ∷ k.Semicolon ∷ []
+follow g.Constant = k.EndOfSource ∷ k.Semicolon ∷ []
+follow g.Identifiers = k.EndOfSource ∷ k.Open ∷ k.Close ∷ k.Semicolon ∷ []
+follow g.NextIdentifier = k.EndOfSource ∷ k.Open ∷ k.Close ∷ k.Semicolon ∷ []
+follow g.ArraySegment = k.EndOfSource ∷ k.Semicolon ∷ []
+follow g.Bounds = k.EndOfSource ∷ k.Close ∷ []
+follow g.NextBounds = k.EndOfSource ∷ k.Close ∷ []
+follow g.Procedure = k.EndOfSource ∷ k.Semicolon ∷ []
+follow g.Heading = k.EndOfSource ∷ k.Semicolon ∷ []
+follow g.Mode = k.EndOfSource ∷ k.IntegerWord ∷ []
+follow g.Specification = k.EndOfSource ∷ k.Semicolon ∷ []
+follow g.SpecifiedKind = k.EndOfSource ∷ k.Identifier ∷ []
+follow g.Class = k.EndOfSource ∷ k.Semicolon ∷ []
+follow g.Protection = k.EndOfSource ∷ k.Semicolon ∷ []
+follow g.AndProtected = k.EndOfSource ∷ k.Identifier ∷ []
+follow g.AndHidden = k.EndOfSource ∷ k.Identifier ∷ []
+follow g.Virtuals = k.EndOfSource ∷ k.Semicolon ∷ []
+follow g.VirtualSpecification = k.EndOfSource ∷ k.Semicolon ∷ []
+follow g.NextStatement = k.EndOfSource ∷ k.End ∷ []
+follow g.Statement = k.EndOfSource ∷ k.End ∷ k.Semicolon ∷ []
+follow g.StatementOfIdentifier = k.EndOfSource ∷ k.End ∷ []
+follow g.AfterFirstOperand = k.EndOfSource ∷ k.End ∷ k.Semicolon ∷ []
+follow g.Assigned = k.EndOfSource ∷ k.End ∷ k.Semicolon ∷ []
+follow g.ElseBranch = k.EndOfSource ∷ k.End ∷ k.Semicolon ∷ []
+follow g.ForList = k.EndOfSource ∷ k.Do ∷ []
+follow g.NextForElement = k.EndOfSource ∷ k.Do ∷ []
+follow g.NextReferenceElement = k.EndOfSource ∷ k.Do ∷ []
+follow g.Arms = k.EndOfSource ∷ k.End ∷ k.Semicolon ∷ []
+follow g.OtherwiseBranch = k.EndOfSource ∷ k.End ∷ k.Semicolon ∷ []
+follow g.ForElement = k.EndOfSource ∷ k.Do ∷ []
+follow g.ForElementTail = k.EndOfSource ∷ k.Do ∷ []
+follow g.ReferenceElement = k.EndOfSource ∷ k.Do ∷ []
+follow g.ReferenceElementTail = k.EndOfSource ∷ k.Do ∷ []
+follow g.WhenArm = k.EndOfSource ∷ k.End ∷ k.Semicolon ∷ []
+follow g.Timing = k.EndOfSource ∷ k.End ∷ k.Semicolon ∷ []
+follow g.PriorMark = k.EndOfSource ∷ k.End ∷ k.Semicolon ∷ []
 follow g.Expression = behind_primary
 follow g.SimpleExpression = behind_operand
 follow g.NextOrElse = behind_operand
@@ -82,13 +82,13 @@ follow g.NextOr = behind_operand
 follow g.Conjunction = behind_operand
 follow g.NextAnd = behind_operand
 follow g.Negation = behind_operand
-follow g.NotSign = t.EndOfSource ∷ t.Integer ∷ []
+follow g.NotSign = k.EndOfSource ∷ k.Integer ∷ []
 follow g.Relation = behind_operand
 follow g.RelationTail = behind_operand
 follow g.Concatenation = behind_operand
 follow g.NextConcatenated = behind_operand
 follow g.Sum = behind_operand
-follow g.LeadingSign = t.EndOfSource ∷ t.Integer ∷ []
+follow g.LeadingSign = k.EndOfSource ∷ k.Integer ∷ []
 follow g.NextTerm = behind_operand
 follow g.Term = behind_operand
 follow g.NextFactor = behind_operand
@@ -98,88 +98,88 @@ follow g.Postfix = behind_expression
 follow g.Selection = behind_expression
 follow g.Primary = behind_expression
 follow g.Arguments = behind_actuals
-follow g.NextArgument = t.EndOfSource ∷ t.Close ∷ []
+follow g.NextArgument = k.EndOfSource ∷ k.Close ∷ []
 
 -- a shortest word of a part
-abbrev pub sample : Part → List Terminal
-sample g.Program = t.Begin ∷ t.End ∷ t.EndOfSource ∷ []
-sample g.Compound = t.Begin ∷ t.End ∷ []
-sample g.Block = t.End ∷ []
-sample g.AfterDeclaration = t.Semicolon ∷ []
-sample g.AfterIdentifier = t.End ∷ []
-sample g.Declaration = t.IntegerWord ∷ t.Identifier ∷ []
-sample g.TypedDeclaration = t.Identifier ∷ []
-sample g.NextArraySegment = t.Comma ∷ t.Identifier ∷ t.Open ∷ t.Integer ∷ t.Colon ∷ t.Integer ∷ t.Close ∷ []
-sample g.NextVariable = t.Comma ∷ t.Identifier ∷ []
-sample g.TypeName = t.IntegerWord ∷ []
-sample g.Variable = t.Identifier ∷ []
-sample g.Value = t.Equal ∷ t.Integer ∷ []
-sample g.Constant = t.Integer ∷ []
-sample g.Identifiers = t.Identifier ∷ []
-sample g.NextIdentifier = t.Comma ∷ t.Identifier ∷ []
-sample g.ArraySegment = t.Identifier ∷ t.Open ∷ t.Integer ∷ t.Colon ∷ t.Integer ∷ t.Close ∷ []
-sample g.Bounds = t.Integer ∷ t.Colon ∷ t.Integer ∷ []
-sample g.NextBounds = t.Comma ∷ t.Integer ∷ t.Colon ∷ t.Integer ∷ []
-sample g.Procedure = t.Identifier ∷ t.Semicolon ∷ []
-sample g.Heading = t.Semicolon ∷ []
-sample g.Mode = t.Value ∷ t.Identifier ∷ t.Semicolon ∷ []
-sample g.Specification = t.IntegerWord ∷ t.Identifier ∷ t.Semicolon ∷ []
-sample g.SpecifiedKind = t.Array ∷ []
-sample g.Class = t.Identifier ∷ t.Semicolon ∷ []
-sample g.Protection = t.Hidden ∷ t.Identifier ∷ t.Semicolon ∷ []
-sample g.AndProtected = t.Protected ∷ []
-sample g.AndHidden = t.Hidden ∷ []
-sample g.Virtuals = t.Virtual ∷ t.Colon ∷ t.Procedure ∷ t.Identifier ∷ t.Semicolon ∷ []
-sample g.VirtualSpecification = t.Procedure ∷ t.Identifier ∷ t.Semicolon ∷ []
-sample g.NextStatement = t.Semicolon ∷ []
+abbrev pub sample : Part → List TokenKind
+sample g.Program = k.Begin ∷ k.End ∷ k.EndOfSource ∷ []
+sample g.Compound = k.Begin ∷ k.End ∷ []
+sample g.Block = k.End ∷ []
+sample g.AfterDeclaration = k.Semicolon ∷ []
+sample g.AfterIdentifier = k.End ∷ []
+sample g.Declaration = k.IntegerWord ∷ k.Identifier ∷ []
+sample g.TypedDeclaration = k.Identifier ∷ []
+sample g.NextArraySegment = k.Comma ∷ k.Identifier ∷ k.Open ∷ k.Integer ∷ k.Colon ∷ k.Integer ∷ k.Close ∷ []
+sample g.NextVariable = k.Comma ∷ k.Identifier ∷ []
+sample g.TypeName = k.IntegerWord ∷ []
+sample g.Variable = k.Identifier ∷ []
+sample g.Value = k.Equal ∷ k.Integer ∷ []
+sample g.Constant = k.Integer ∷ []
+sample g.Identifiers = k.Identifier ∷ []
+sample g.NextIdentifier = k.Comma ∷ k.Identifier ∷ []
+sample g.ArraySegment = k.Identifier ∷ k.Open ∷ k.Integer ∷ k.Colon ∷ k.Integer ∷ k.Close ∷ []
+sample g.Bounds = k.Integer ∷ k.Colon ∷ k.Integer ∷ []
+sample g.NextBounds = k.Comma ∷ k.Integer ∷ k.Colon ∷ k.Integer ∷ []
+sample g.Procedure = k.Identifier ∷ k.Semicolon ∷ []
+sample g.Heading = k.Semicolon ∷ []
+sample g.Mode = k.Value ∷ k.Identifier ∷ k.Semicolon ∷ []
+sample g.Specification = k.IntegerWord ∷ k.Identifier ∷ k.Semicolon ∷ []
+sample g.SpecifiedKind = k.Array ∷ []
+sample g.Class = k.Identifier ∷ k.Semicolon ∷ []
+sample g.Protection = k.Hidden ∷ k.Identifier ∷ k.Semicolon ∷ []
+sample g.AndProtected = k.Protected ∷ []
+sample g.AndHidden = k.Hidden ∷ []
+sample g.Virtuals = k.Virtual ∷ k.Colon ∷ k.Procedure ∷ k.Identifier ∷ k.Semicolon ∷ []
+sample g.VirtualSpecification = k.Procedure ∷ k.Identifier ∷ k.Semicolon ∷ []
+sample g.NextStatement = k.Semicolon ∷ []
 sample g.Statement = []
 sample g.StatementOfIdentifier = []
 sample g.AfterFirstOperand = []
-sample g.Assigned = t.Assign ∷ t.Integer ∷ []
-sample g.ElseBranch = t.Else ∷ []
-sample g.ForList = t.Assign ∷ t.Integer ∷ []
-sample g.NextForElement = t.Comma ∷ t.Integer ∷ []
-sample g.NextReferenceElement = t.Comma ∷ t.Integer ∷ []
-sample g.Arms = t.Do ∷ []
-sample g.OtherwiseBranch = t.Otherwise ∷ []
-sample g.ForElement = t.Integer ∷ []
-sample g.ForElementTail = t.While ∷ t.Integer ∷ []
-sample g.ReferenceElement = t.Integer ∷ []
-sample g.ReferenceElementTail = t.While ∷ t.Integer ∷ []
-sample g.WhenArm = t.When ∷ t.Identifier ∷ t.Do ∷ []
-sample g.Timing = t.At ∷ t.Integer ∷ []
-sample g.PriorMark = t.Prior ∷ []
-sample g.Expression = t.Integer ∷ []
-sample g.SimpleExpression = t.Integer ∷ []
-sample g.NextOrElse = t.OrElse ∷ t.Integer ∷ []
-sample g.AndThen = t.Integer ∷ []
-sample g.NextAndThen = t.AndThen ∷ t.Integer ∷ []
-sample g.Equivalence = t.Integer ∷ []
-sample g.NextEquivalence = t.Eqv ∷ t.Integer ∷ []
-sample g.Implication = t.Integer ∷ []
-sample g.NextImplication = t.Imp ∷ t.Integer ∷ []
-sample g.Disjunction = t.Integer ∷ []
-sample g.NextOr = t.Or ∷ t.Integer ∷ []
-sample g.Conjunction = t.Integer ∷ []
-sample g.NextAnd = t.And ∷ t.Integer ∷ []
-sample g.Negation = t.Integer ∷ []
-sample g.NotSign = t.Not ∷ []
-sample g.Relation = t.Integer ∷ []
-sample g.RelationTail = t.Is ∷ t.Identifier ∷ []
-sample g.Concatenation = t.Integer ∷ []
-sample g.NextConcatenated = t.Ampersand ∷ t.Integer ∷ []
-sample g.Sum = t.Integer ∷ []
-sample g.LeadingSign = t.Plus ∷ []
-sample g.NextTerm = t.Plus ∷ t.Integer ∷ []
-sample g.Term = t.Integer ∷ []
-sample g.NextFactor = t.Times ∷ t.Integer ∷ []
-sample g.Factor = t.Integer ∷ []
-sample g.NextPower = t.Power ∷ t.Integer ∷ []
-sample g.Postfix = t.Integer ∷ []
-sample g.Selection = t.Dot ∷ t.Identifier ∷ []
-sample g.Primary = t.Integer ∷ []
-sample g.Arguments = t.Open ∷ t.Integer ∷ t.Close ∷ []
-sample g.NextArgument = t.Comma ∷ t.Integer ∷ []
+sample g.Assigned = k.Assign ∷ k.Integer ∷ []
+sample g.ElseBranch = k.Else ∷ []
+sample g.ForList = k.Assign ∷ k.Integer ∷ []
+sample g.NextForElement = k.Comma ∷ k.Integer ∷ []
+sample g.NextReferenceElement = k.Comma ∷ k.Integer ∷ []
+sample g.Arms = k.Do ∷ []
+sample g.OtherwiseBranch = k.Otherwise ∷ []
+sample g.ForElement = k.Integer ∷ []
+sample g.ForElementTail = k.While ∷ k.Integer ∷ []
+sample g.ReferenceElement = k.Integer ∷ []
+sample g.ReferenceElementTail = k.While ∷ k.Integer ∷ []
+sample g.WhenArm = k.When ∷ k.Identifier ∷ k.Do ∷ []
+sample g.Timing = k.At ∷ k.Integer ∷ []
+sample g.PriorMark = k.Prior ∷ []
+sample g.Expression = k.Integer ∷ []
+sample g.SimpleExpression = k.Integer ∷ []
+sample g.NextOrElse = k.OrElse ∷ k.Integer ∷ []
+sample g.AndThen = k.Integer ∷ []
+sample g.NextAndThen = k.AndThen ∷ k.Integer ∷ []
+sample g.Equivalence = k.Integer ∷ []
+sample g.NextEquivalence = k.Eqv ∷ k.Integer ∷ []
+sample g.Implication = k.Integer ∷ []
+sample g.NextImplication = k.Imp ∷ k.Integer ∷ []
+sample g.Disjunction = k.Integer ∷ []
+sample g.NextOr = k.Or ∷ k.Integer ∷ []
+sample g.Conjunction = k.Integer ∷ []
+sample g.NextAnd = k.And ∷ k.Integer ∷ []
+sample g.Negation = k.Integer ∷ []
+sample g.NotSign = k.Not ∷ []
+sample g.Relation = k.Integer ∷ []
+sample g.RelationTail = k.Is ∷ k.Identifier ∷ []
+sample g.Concatenation = k.Integer ∷ []
+sample g.NextConcatenated = k.Ampersand ∷ k.Integer ∷ []
+sample g.Sum = k.Integer ∷ []
+sample g.LeadingSign = k.Plus ∷ []
+sample g.NextTerm = k.Plus ∷ k.Integer ∷ []
+sample g.Term = k.Integer ∷ []
+sample g.NextFactor = k.Times ∷ k.Integer ∷ []
+sample g.Factor = k.Integer ∷ []
+sample g.NextPower = k.Power ∷ k.Integer ∷ []
+sample g.Postfix = k.Integer ∷ []
+sample g.Selection = k.Dot ∷ k.Identifier ∷ []
+sample g.Primary = k.Integer ∷ []
+sample g.Arguments = k.Open ∷ k.Integer ∷ k.Close ∷ []
+sample g.NextArgument = k.Comma ∷ k.Integer ∷ []
 
 -- the order: a word is made of words of parts with a lower number
 abbrev pub rank : Part → ℕ
@@ -263,7 +263,7 @@ rank g.Arguments = 15
 rank g.NextArgument = 15
 
 -- a shortest word of symbols
-abbrev pub word : List Symbol → List Terminal
+abbrev pub word : List Symbol → List TokenKind
 word [] = []
 word (Kept [] ∷ s) = word s
 word (Kept (a ∷ any) ∷ s) = a ∷ word s
@@ -274,7 +274,7 @@ word (Of Once n ∷ s) = sample n ++ word s
 word (Of Maybe n ∷ s) = word s
 word (Of Many n ∷ s) = word s
 
-abbrev pub head_of : List Terminal → Terminal → Terminal
+abbrev pub head_of : List TokenKind → TokenKind → TokenKind
 head_of [] b = b
 head_of (x ∷ xs) b = x
 
@@ -282,18 +282,18 @@ abbrev pub is_none : Option (List Symbol) → Bool
 is_none None = true
 is_none (Some right) = false
 
--- a part can stand before a terminal
-abbrev pub fits : Times → Part → Terminal → Bool
+-- a part can stand before a kind of token
+abbrev pub fits : Times → Part → TokenKind → Bool
 fits Once n x = one_of (follow n) x
 fits Maybe n x = one_of (follow n) x && is_none (chosen (rows n) x)
 fits Many n x = one_of (follow n) x && is_none (chosen (rows n) x)
 
-abbrev pub is_some : List Terminal → Bool
+abbrev pub is_some : List TokenKind → Bool
 is_some [] = false
 is_some (a ∷ any) = true
 
 -- each of the symbols can be followed by what comes next
-abbrev pub ok : List Symbol → Terminal → Bool
+abbrev pub ok : List Symbol → TokenKind → Bool
 ok [] b = true
 ok (Kept any ∷ s) b = is_some any && ok s b
 ok (Mark a ∷ s) b = ok s b
@@ -301,7 +301,7 @@ ok (Any a ∷ s) b = not (is (head_of (word s) b) a) && ok s b
 ok (Here ∷ s) b = ok s b
 ok (Of t n ∷ s) b = fits t n (head_of (word s) b) && ok s b
 
-abbrev pub each : List Terminal → (Terminal → Bool) → Bool
+abbrev pub each : List TokenKind → (TokenKind → Bool) → Bool
 each [] p = true
 each (x ∷ xs) p = p x && each xs p
 
@@ -310,7 +310,7 @@ each_row [] p = true
 each_row (At next right ∷ others) p = p right && each_row others p
 each_row (Else right ∷ others) p = p right && each_row others p
 
-abbrev pub same_word : List Terminal → List Terminal → Bool
+abbrev pub same_word : List TokenKind → List TokenKind → Bool
 same_word [] [] = true
 same_word (x ∷ xs) [] = false
 same_word [] (y ∷ ys) = false
@@ -335,7 +335,7 @@ fits_grammar n =
 
 -- a part can stand at the end of the tokens
 abbrev pub may_end : Part → Bool
-may_end n = one_of (follow n) t.EndOfSource
+may_end n = one_of (follow n) k.EndOfSource
 
 pub all_fit : (n : Part) → fits_grammar n ≡ true
 unfolding is

@@ -5,7 +5,7 @@ use Rattle.std.specs.Prelude.{◌&&◌, not}
 use Rattle.sim_base.specs.declared.token.Token.{Token}
 use Rattle.sim_tree.specs.Grammar as g
 use Rattle.sim_tree.specs.Grammar.{Part, Once, Maybe, Many, Symbol, Kept, Mark, Any, Here, Of, rows, right_side}
-use Rattle.sim_tree.specs.Reading.{Forest, terminal_at, Reads, reads-done, reads-kept, reads-mark, reads-any, reads-none, reads-here, reads-part, reads-skip}
+use Rattle.sim_tree.specs.Reading.{Forest, kind_at, Reads, reads-done, reads-kept, reads-mark, reads-any, reads-none, reads-here, reads-part, reads-skip}
 use Rattle.sim_tree.specs.Tree.{is_bare}
 use Rattle.sim_tree.specs.Nesting.{has_token, is_full}
 use Rattle.sim_tree.proofs.Follow.{each_row}
@@ -75,9 +75,9 @@ module _ {most : ℕ} {ws : List Token} where
   part_token g.ForList e (reads-skip b may r) = absurd (false≢true e)
   part_token _ e r = token e r
 
-right_fits : (n : Part) (ws : List Token) (i : ℕ) (right : List Symbol) → right_side n (terminal_at ws i) ≡ Some right → fitting n right ≡ true
+right_fits : (n : Part) (ws : List Token) (i : ℕ) (right : List Symbol) → right_side n (kind_at ws i) ≡ Some right → fitting n right ≡ true
 unfolding right_side
-right_fits n ws i right e = row_get (rows n) (fitting n) (terminal_at ws i) right (rows_fit n) e
+right_fits n ws i right e = row_get (rows n) (fitting n) (kind_at ws i) right (rows_fit n) e
 
 pub all_true : (a b c : Bool) → a ≡ true → b ≡ true → c ≡ true → (a && b && c) ≡ true
 all_true true true c x y z = z

@@ -5,9 +5,9 @@ use Rattle.std.proofs.lemmas.Bool.Decides.{leb_tells}
 use Rattle.std.specs.Prelude.{slice_index_or, nat_le, ◌&&◌, not}
 use Rattle.std.proofs.Common.{◌⊎◌, inl, inr}
 use Rattle.sim_base.specs.declared.token.Token.{Token}
-use Rattle.sim_tree.specs.Terminal.{terminal_of}
+use Rattle.sim_base.specs.Lexeme.{value_for}
 use Rattle.sim_tree.specs.Grammar.{Part, Symbol, Kept, is, one_of, right_side, is_counted, is_begun}
-use Rattle.sim_tree.specs.Reading.{Forest, leaf, place, node, finish, kind_at, terminal_at, after, is_empty, inside_depth, is_too_deep, first_of, Reads, reads-done, reads-kept, reads-mark, reads-any, reads-none, reads-here, reads-part, reads-skip, Fails, fails-kept, fails-mark, fails-part, fails-deep, fails-inside, after-kept, after-mark, after-any, after-none, after-here, after-part, after-skip, Fault, Unexpected, TooDeep}
+use Rattle.sim_tree.specs.Reading.{Forest, leaf, place, node, finish, kind_at, after, is_empty, inside_depth, is_too_deep, first_of, Reads, reads-done, reads-kept, reads-mark, reads-any, reads-none, reads-here, reads-part, reads-skip, Fails, fails-kept, fails-mark, fails-part, fails-deep, fails-inside, after-kept, after-mark, after-any, after-none, after-here, after-part, after-skip, Fault, Unexpected, TooDeep, value_at}
 use Rattle.sim_tree.specs.Claim.{SameBelow}
 
 -- the same right side
@@ -27,7 +27,7 @@ module _ (limit : ℕ) (ws : List Token) where
   -- one derivation, and one end
   pub one_reading : {d i : ℕ} {s : List Symbol} {f g : Forest} {j m : ℕ} → Reads limit ws d s i f j → Reads limit ws d s i g m → (f ≡ g) × (j ≡ m)
   one_reading reads-done reads-done = (refl, refl)
-  one_reading {i = i} (reads-kept h r) (reads-kept h' r') = let e = one_reading r r' in (ap (leaf i (kind_at ws i)) e.0, e.1)
+  one_reading {i = i} (reads-kept h r) (reads-kept h' r') = let e = one_reading r r' in (ap (leaf i (kind_at ws i) (value_at ws i)) e.0, e.1)
   one_reading (reads-mark h r) (reads-mark h' r') = one_reading r r'
   one_reading (reads-any h r) (reads-any h' r') = one_reading r r'
   one_reading (reads-any h r) (reads-none h' r') = absurd (true_or_false h h')
@@ -174,35 +174,35 @@ module _ (limit : ℕ) (ws us : List Token) where
   abbrev Same : ℕ → Type 0
   Same k = (m : ℕ) → m ≤ k → slice_index_or ws m finish ≡ slice_index_or us m finish
 
-  same_kind : (i : ℕ) → slice_index_or ws i finish ≡ slice_index_or us i finish → kind_at ws i ≡ kind_at us i
+  pub same_kind : (i : ℕ) → slice_index_or ws i finish ≡ slice_index_or us i finish → kind_at ws i ≡ kind_at us i
   unfolding kind_at
-  same_kind i e = ap (λ t. t.kind) e
+  same_kind i e = ap (λ t. t.lexeme.kind) e
 
-  pub same_terminal : (i : ℕ) → slice_index_or ws i finish ≡ slice_index_or us i finish → terminal_at ws i ≡ terminal_at us i
-  unfolding terminal_at
-  same_terminal i e = ap terminal_of (same_kind i e)
+  same_leaf : (i : ℕ) (f : Forest) → slice_index_or ws i finish ≡ slice_index_or us i finish → leaf i (kind_at us i) (value_at us i) f ≡ leaf i (kind_at ws i) (value_at ws i) f
+  unfolding kind_at value_at
+  same_leaf i f e = ap (λ t. leaf i t.lexeme.kind (value_for t.lexeme.kind t.lexeme.value) f) (sym e)
 
   pub reads_local : {d i : ℕ} {s : List Symbol} {f : Forest} {j : ℕ} → Reads limit ws d s i f j → Same j → Reads limit us d s i f j
   reads_local reads-done same = reads-done
   reads_local (reads-kept {depth = d} {start = i} {end = j} {any = any} {s = s} {f = f} h r) same =
       let le : i ≤ j = omega (arith, reads_ahead limit ws r) in
-      subst (λ x. Reads limit us d (Kept any ∷ s) i (leaf i x f) j) (sym (same_kind i (same i le)))
-      (reads-kept (subst (λ b. one_of any b ≡ true) (same_terminal i (same i le)) h) (reads_local r same))
+      subst (λ x. Reads limit us d (Kept any ∷ s) i x j) (same_leaf i f (same i le))
+      (reads-kept (subst (λ b. one_of any b ≡ true) (same_kind i (same i le)) h) (reads_local r same))
   reads_local (reads-mark {start = i} {end = j} {a = a} h r) same =
       let le : i ≤ j = omega (arith, reads_ahead limit ws r) in
-      reads-mark (subst (λ b. is b a ≡ true) (same_terminal i (same i le)) h) (reads_local r same)
+      reads-mark (subst (λ b. is b a ≡ true) (same_kind i (same i le)) h) (reads_local r same)
   reads_local (reads-any {start = i} {end = j} {a = a} h r) same =
       let le : i ≤ j = omega (arith, reads_ahead limit ws r) in
-      reads-any (subst (λ b. is b a ≡ true) (same_terminal i (same i le)) h) (reads_local r same)
+      reads-any (subst (λ b. is b a ≡ true) (same_kind i (same i le)) h) (reads_local r same)
   reads_local (reads-none {start = i} {end = j} {a = a} h r) same =
-      reads-none (subst (λ b. is b a ≡ false) (same_terminal i (same i (reads_ahead limit ws r))) h) (reads_local r same)
+      reads-none (subst (λ b. is b a ≡ false) (same_kind i (same i (reads_ahead limit ws r))) h) (reads_local r same)
   reads_local (reads-here r) same = reads-here (reads_local r same)
   reads_local (reads-part {start = i} {m = m} {end = j} {n = n} {right = x} b sh r q) same =
       let le : i ≤ j = omega (arith, reads_ahead limit ws r, reads_ahead limit ws q) in
-      reads-part (subst (λ b. right_side n b ≡ Some x) (same_terminal i (same i le)) b) sh
+      reads-part (subst (λ b. right_side n b ≡ Some x) (same_kind i (same i le)) b) sh
       (reads_local r (λ o h. same o (omega (arith, h, reads_ahead limit ws q)))) (reads_local q same)
   reads_local (reads-skip {start = i} {n = n} b k r) same =
-      reads-skip (subst (λ b. right_side n b ≡ None) (same_terminal i (same i (reads_ahead limit ws r))) b) k (reads_local r same)
+      reads-skip (subst (λ b. right_side n b ≡ None) (same_kind i (same i (reads_ahead limit ws r))) b) k (reads_local r same)
 
 -- the last token that a fault depends on
 abbrev pub last_at : Fault → ℕ
@@ -234,26 +234,26 @@ module _ (limit : ℕ) (ws us : List Token) where
 
   pub fails_local : {d i : ℕ} {s : List Symbol} {e : Fault} → Fails limit ws d s i e
       → ((m : ℕ) → m ≤ last_at e → slice_index_or ws m finish ≡ slice_index_or us m finish) → Fails limit us d s i e
-  fails_local (fails-kept {start = i} {any = any} h) same = fails-kept (subst (λ b. one_of any b ≡ false) (same_terminal limit ws us i (same i (omega arith))) h)
-  fails_local (fails-mark {start = i} {a = a} h) same = fails-mark (subst (λ b. is b a ≡ false) (same_terminal limit ws us i (same i (omega arith))) h)
-  fails_local (fails-part {start = i} {n = n} b k) same = fails-part (subst (λ b. right_side n b ≡ None) (same_terminal limit ws us i (same i (omega arith))) b) k
-  fails_local (fails-deep {start = i} {n = n} {right = x} b deep) same = fails-deep (subst (λ b. right_side n b ≡ Some x) (same_terminal limit ws us i (same i (first_near n i))) b) deep
+  fails_local (fails-kept {start = i} {any = any} h) same = fails-kept (subst (λ b. one_of any b ≡ false) (same_kind limit ws us i (same i (omega arith))) h)
+  fails_local (fails-mark {start = i} {a = a} h) same = fails-mark (subst (λ b. is b a ≡ false) (same_kind limit ws us i (same i (omega arith))) h)
+  fails_local (fails-part {start = i} {n = n} b k) same = fails-part (subst (λ b. right_side n b ≡ None) (same_kind limit ws us i (same i (omega arith))) b) k
+  fails_local (fails-deep {start = i} {n = n} {right = x} b deep) same = fails-deep (subst (λ b. right_side n b ≡ Some x) (same_kind limit ws us i (same i (first_near n i))) b) deep
   fails_local (fails-inside {start = i} {n = n} {right = x} b sh r) same =
-      fails-inside (subst (λ b. right_side n b ≡ Some x) (same_terminal limit ws us i (same i (fails_ahead r))) b) sh (fails_local r same)
+      fails-inside (subst (λ b. right_side n b ≡ Some x) (same_kind limit ws us i (same i (fails_ahead r))) b) sh (fails_local r same)
   fails_local (after-kept {start = i} {any = any} h r) same =
-      after-kept (subst (λ b. one_of any b ≡ true) (same_terminal limit ws us i (same i (omega (arith, fails_ahead r)))) h) (fails_local r same)
+      after-kept (subst (λ b. one_of any b ≡ true) (same_kind limit ws us i (same i (omega (arith, fails_ahead r)))) h) (fails_local r same)
   fails_local (after-mark {start = i} {a = a} h r) same =
-      after-mark (subst (λ b. is b a ≡ true) (same_terminal limit ws us i (same i (omega (arith, fails_ahead r)))) h) (fails_local r same)
+      after-mark (subst (λ b. is b a ≡ true) (same_kind limit ws us i (same i (omega (arith, fails_ahead r)))) h) (fails_local r same)
   fails_local (after-any {start = i} {a = a} h r) same =
-      after-any (subst (λ b. is b a ≡ true) (same_terminal limit ws us i (same i (omega (arith, fails_ahead r)))) h) (fails_local r same)
+      after-any (subst (λ b. is b a ≡ true) (same_kind limit ws us i (same i (omega (arith, fails_ahead r)))) h) (fails_local r same)
   fails_local (after-none {start = i} {a = a} h r) same =
-      after-none (subst (λ b. is b a ≡ false) (same_terminal limit ws us i (same i (fails_ahead r))) h) (fails_local r same)
+      after-none (subst (λ b. is b a ≡ false) (same_kind limit ws us i (same i (fails_ahead r))) h) (fails_local r same)
   fails_local (after-here r) same = after-here (fails_local r same)
   fails_local (after-part {start = i} {n = n} {right = x} b sh r q) same =
-      after-part (subst (λ b. right_side n b ≡ Some x) (same_terminal limit ws us i (same i (omega (arith, reads_ahead limit ws r, fails_ahead q)))) b) sh
+      after-part (subst (λ b. right_side n b ≡ Some x) (same_kind limit ws us i (same i (omega (arith, reads_ahead limit ws r, fails_ahead q)))) b) sh
       (reads_local limit ws us r (λ o h. same o (omega (arith, h, fails_ahead q)))) (fails_local q same)
   fails_local (after-skip {start = i} {n = n} b k r) same =
-      after-skip (subst (λ b. right_side n b ≡ None) (same_terminal limit ws us i (same i (fails_ahead r))) b) k (fails_local r same)
+      after-skip (subst (λ b. right_side n b ≡ None) (same_kind limit ws us i (same i (fails_ahead r))) b) k (fails_local r same)
 
 -- With the unexpected token the tokens begin nothing.
 pub not_begun : (limit d : ℕ) (ws : List Token) (s : List Symbol) (i k : ℕ) → Fails limit ws d s i (Unexpected k)

@@ -5,7 +5,7 @@ use Rattle.std.specs.Prelude.{◌&&◌, ◌||◌, not}
 use Rattle.sim_base.specs.declared.token.Token.{Token}
 use Rattle.sim_tree.specs.Grammar as g
 use Rattle.sim_tree.specs.Grammar.{Part, Once, Maybe, Many, Symbol, Kept, Mark, Any, Here, Of, rows, right_side}
-use Rattle.sim_tree.specs.Reading.{Forest, terminal_at, Reads, reads-done, reads-kept, reads-mark, reads-any, reads-none, reads-here, reads-part, reads-skip}
+use Rattle.sim_tree.specs.Reading.{Forest, kind_at, Reads, reads-done, reads-kept, reads-mark, reads-any, reads-none, reads-here, reads-part, reads-skip}
 use Rattle.sim_tree.specs.Tree.{first_leaf}
 use Rattle.sim_tree.proofs.Follow.{each_row}
 use Rattle.sim_tree.proofs.Completion.{row_get, left_true, right_true}
@@ -43,9 +43,9 @@ rows_lead : (n : Part) → (not (leading n) || each_row (rows n) leads) ≡ true
 rows_lead g.Expression = refl
 rows_lead _ = refl
 
-inside_leads : (n : Part) (ws : List Token) (i : ℕ) (right : List Symbol) → leading n ≡ true → right_side n (terminal_at ws i) ≡ Some right → leads right ≡ true
+inside_leads : (n : Part) (ws : List Token) (i : ℕ) (right : List Symbol) → leading n ≡ true → right_side n (kind_at ws i) ≡ Some right → leads right ≡ true
 unfolding right_side
-inside_leads n ws i right h e = row_get (rows n) leads (terminal_at ws i) right (sym (ap (λ b. not b || each_row (rows n) leads) h) ∙ rows_lead n) e
+inside_leads n ws i right h e = row_get (rows n) leads (kind_at ws i) right (sym (ap (λ b. not b || each_row (rows n) leads) h) ∙ rows_lead n) e
 
 module _ {most : ℕ} {ws : List Token} where
   pub first_kept : {d i j : ℕ} {s : List Symbol} {f : Forest} → leads s ≡ true → Reads most ws d s i f j → first_leaf f ≡ Some i
@@ -62,5 +62,5 @@ module _ {most : ℕ} {ws : List Token} where
   first_kept e (reads-skip {t = Maybe} {n = n} {s = s} b may r) = first_kept (right_true (leading n) (leads s) e) r
   first_kept e (reads-skip {t = Many} {n = n} {s = s} b may r) = first_kept (right_true (leading n) (leads s) e) r
 
-pub expr_leads : {most : ℕ} {ws : List Token} {d i j : ℕ} {right : List Symbol} {f : Forest} → right_side g.Expression (terminal_at ws i) ≡ Some right → Reads most ws d right i f j → first_leaf f ≡ Some i
+pub expr_leads : {most : ℕ} {ws : List Token} {d i j : ℕ} {right : List Symbol} {f : Forest} → right_side g.Expression (kind_at ws i) ≡ Some right → Reads most ws d right i f j → first_leaf f ≡ Some i
 expr_leads {ws = ws} {i = i} {right = right} b r = first_kept (inside_leads g.Expression ws i right refl b) r

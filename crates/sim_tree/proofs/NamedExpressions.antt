@@ -40,7 +40,7 @@ pub data Among : List ℕ → List ℕ → Type 0 where
 -- the tokens of a derivation, in front of others
 abbrev pub leaves : Forest → List ℕ → List ℕ
 leaves done q = q
-leaves (leaf i kind f) q = i ∷ leaves f q
+leaves (leaf i kind value f) q = i ∷ leaves f q
 leaves (place i f) q = leaves f q
 leaves (node n inside f) q = leaves inside (leaves f q)
 
@@ -67,7 +67,7 @@ both {i = i} {k = k} one two = record { puts = λ r q a. one.puts (i r) (k q) (t
 -- nothing is put there
 pub puts_none : (f : Forest) → Puts (λ r. r) (leaves f)
 puts_none done = none
-puts_none (leaf i kind f) = skip (puts_none f)
+puts_none (leaf i kind value f) = skip (puts_none f)
 puts_none (place i f) = puts_none f
 puts_none (node n inside f) = both (puts_none inside) (puts_none f)
 

@@ -17,7 +17,7 @@ use Rattle.sim_tree.specs.declared.stmt.Stmt.{Stmt}
 use Rattle.sim_tree.specs.declared.stmt.TypeName.{TypeName}
 use Rattle.sim_tree.specs.declared.stmt.When.{When}
 use Rattle.sim_tree.specs.Grammar as g
-use Rattle.sim_tree.specs.Reading.{Forest, done, leaf, place, node}
+use Rattle.sim_tree.specs.Reading.{Forest, done, leaf, place, node, bare_leaf}
 use Rattle.sim_tree.specs.Tree.{is_bare, IsTree}
 use Rattle.sim_tree.proofs.Induction as induction
 use Rattle.sim_tree.proofs.Full.{reads_full}
@@ -41,7 +41,7 @@ use Rattle.sim_tree.specs.declared.stmt.Timing.{Timing}
 use Rattle.sim_tree.specs.declared.stmt.Timing.TheVariants as timing
 use Rattle.sim_tree.specs.declared.stmt.VirtualSpecification.{VirtualSpecification}
 use Rattle.sim_tree.specs.Grammar.{Symbol}
-use Rattle.sim_tree.specs.Reading.{Reads, reads-done, reads-kept, reads-mark, reads-any, reads-none, reads-here, reads-part, reads-skip}
+use Rattle.sim_tree.specs.Reading.{Reads, reads-done, reads-kept, reads-mark, reads-any, reads-none, reads-here, reads-part, reads-skip, bare_leaf}
 use Rattle.sim_tree.specs.Named.{named, in_each, in_side, in_element, in_schedule, in_bounds, in_segment, in_statement, in_statements, in_arms, in_block, in_declarations, in_declaration, in_prefix, named_tokens, IsAscending}
 use Rattle.std.specs.List.{AllByRecursion}
 use Rattle.sim_tree.proofs.ReadExpressions.{Full, is_full-Full}
@@ -80,21 +80,21 @@ same_leaves {h} is p = record { puts = λ r q a. subst (λ z. Among (h r) z) (sy
 
 leaves-joined : (f h : Forest) (q : List ℕ) → leaves (joined f h) q ≡ leaves f (leaves h q)
 leaves-joined done h q = refl
-leaves-joined (leaf i kind f) h q = ap (λ z. i ∷ z) (leaves-joined f h q)
+leaves-joined (leaf i kind value f) h q = ap (λ z. i ∷ z) (leaves-joined f h q)
 leaves-joined (place i f) h q = leaves-joined f h q
 leaves-joined (node n inside f) h q = ap (leaves inside) (leaves-joined f h q)
 
 leaves-acted : (f rest : Forest) (q : List ℕ) → leaves (acted f rest) q ≡ leaves f (leaves rest q)
-leaves-acted (node g.Primary (leaf i (k.Identifier name) act) sel) rest q =
+leaves-acted (node g.Primary (leaf i k.Identifier value act) sel) rest q =
     ap (λ z. i ∷ z) (leaves-joined act (node g.AfterFirstOperand (joined sel rest) done) q ∙ ap (leaves act) (leaves-joined sel rest q))
 leaves-acted f rest q = refl
 
 leaves-begun : (f rest : Forest) (q : List ℕ) → leaves (begun f rest) q ≡ leaves f (leaves rest q)
-leaves-begun (leaf i (k.Identifier name) f) rest q = refl
+leaves-begun (leaf i k.Identifier value f) rest q = refl
 leaves-begun f rest q = refl
 
 begun_full : (f rest : Forest) → Full (begun f rest) → (has_token g.Statement f ≡ true) × Full f × Full rest
-begun_full (leaf i (k.Identifier name) f) rest full = (refl, full.1.1, full.1.2)
+begun_full (leaf i k.Identifier value f) rest full = (refl, full.1.1, full.1.2)
 begun_full f rest full = full
 
 -- parts without a name of an expression in front
@@ -169,8 +169,8 @@ assigned_named e (x ∷ xs) token full =
     (λ full. each_row g.Assigned assigned_derivation t.right_side_syntax in_side (x ∷ xs) (λ x full. skip (expr_named x.value full.0 full.1)) full)
 
 -- Blocks.
-more_statements : (fs : List Forest) (es : List Statement) (end : ℕ) → EachStatement fs es → Full (row g.NextStatement (map next_statement fs) (leaf end k.End done))
-    → Puts (in_statements (statements es)) (leaves (row g.NextStatement (map next_statement fs) (leaf end k.End done)))
+more_statements : (fs : List Forest) (es : List Statement) (end : ℕ) → EachStatement fs es → Full (row g.NextStatement (map next_statement fs) (bare_leaf end k.End done))
+    → Puts (in_statements (statements es)) (leaves (row g.NextStatement (map next_statement fs) (bare_leaf end k.End done)))
 more_statements [] [] end each full = skip none
 more_statements [] (e ∷ es) end each full = absurd each
 more_statements (f ∷ fs) [] end each full = absurd each
@@ -181,7 +181,7 @@ statements_named [] [] end each full = skip none
 statements_named [] (e ∷ es) end each full = absurd each
 statements_named (f ∷ fs) [] end each full = absurd each
 statements_named (f ∷ fs) (e ∷ es) end each full =
-    let rest = row g.NextStatement (map next_statement fs) (leaf end k.End done) in
+    let rest = row g.NextStatement (map next_statement fs) (bare_leaf end k.End done) in
     let parts = begun_full f rest full in
     same_leaves (leaves-begun f rest) (both (each.0 parts.0 parts.1) (more_statements fs es end each.1 parts.2))
 

@@ -6,6 +6,7 @@ use Rattle.std.specs.Prelude.{◌&&◌, not, nat_eq, slice_index_or}
 use Rattle.sim_base.specs.declared.numbering.TokenNo.{TokenNo}
 use Rattle.sim_base.specs.declared.token.TokenKind.{TokenKind}
 use Rattle.sim_base.specs.declared.token.TokenKind.TheVariants as k
+use Rattle.sim_base.specs.declared.token.TokenValue.{TokenValue}
 use Rattle.sim_tree.specs.declared.expr.Expr.{Expr}
 use Rattle.sim_tree.specs.declared.expr.LeadingSign.{LeadingSign}
 use Rattle.sim_tree.specs.declared.expr.Operand.{Operand}
@@ -49,7 +50,7 @@ along_inside {a = a} e x = subst (λ z. NestsInside z a) (sym e) x
 pub nests_done : Nests done 0
 nests_done = record { known = λ e. refl }
 
-pub nests_leaf : {i : ℕ} {kind : TokenKind} {f : Forest} {a : ℕ} → Nests f a → Nests (leaf i kind f) a
+pub nests_leaf : {i : ℕ} {kind : TokenKind} {value : TokenValue} {f : Forest} {a : ℕ} → Nests f a → Nests (leaf i kind value f) a
 nests_leaf h = record { known = h.known }
 
 pub nests_place : {i : ℕ} {f : Forest} {a : ℕ} → Nests f a → Nests (place i f) a
@@ -259,7 +260,7 @@ answer_operated e l w m h y os ys a b r le plain is same first all rest sum =
 -- Statements.
 full_joined : (f h : Forest) → is_full (joined f h) ≡ true → (is_full f ≡ true) × (is_full h ≡ true)
 full_joined done h e = (refl, e)
-full_joined (leaf i kind f) h e = full_joined f h e
+full_joined (leaf i kind value f) h e = full_joined f h e
 full_joined (place i f) h e = full_joined f h e
 full_joined (node n inside f) h e = go (has_token n inside) (is_full inside) e (λ x. full_joined f h x)
   where
@@ -270,7 +271,7 @@ full_joined (node n inside f) h e = go (has_token n inside) (is_full inside) e (
 
 deepest-joined : (f h : Forest) → deepest (joined f h) ≡ max (deepest f) (deepest h)
 deepest-joined done h = let z : deepest h ≡ max 0 (deepest h) = omega arith in z
-deepest-joined (leaf i kind f) h = deepest-joined f h
+deepest-joined (leaf i kind value f) h = deepest-joined f h
 deepest-joined (place i f) h = deepest-joined f h
 deepest-joined (node n inside f) h =
     let x : ℕ = if is_counted n && not (is_bare inside) then deepest inside + 1 else deepest inside in
@@ -290,7 +291,7 @@ pub nests_acted : (s : Derivation) {f : Forest} {a b : ℕ} → NestsInside s a 
 nests_acted s {f} {a} {b} h rest = go (raise 1 s) (λ bare full. raised 1 s a (omega arith) h bare full)
   where
     go : (e : Forest) → (is_bare e ≡ false → is_full e ≡ true → a ≡ capped (deepest e)) → Nests (node g.Statement (acted e f) done) (capped (max a b + 1))
-    go (node g.Primary (leaf i (k.Identifier name) actuals) selected) known =
+    go (node g.Primary (leaf i k.Identifier value actuals) selected) known =
         counted refl refl (λ full.
         let one = full_joined actuals (node g.AfterFirstOperand (joined selected f) done) full in
         let two = full_joined selected f (inside_of true (is_full (joined selected f)) true one.1) in
@@ -306,7 +307,7 @@ nests_acted s {f} {a} {b} h rest = go (raise 1 s) (λ bare full. raised 1 s a (o
 
 -- the first statement of a block
 pub nests_begun : (f : Forest) {h : Forest} {a b : ℕ} → Nests (node g.Statement f done) a → Nests h b → Nests (begun f h) (max a b)
-nests_begun (leaf i (k.Identifier name) f) {h} {a} {b} first rest = record {
+nests_begun (leaf i k.Identifier value f) {h} {a} {b} first rest = record {
   known = λ full.
       let inner = inside_of true ((not (is_bare f)) && is_full f && is_full h) true full in
       let bare = no_token (is_bare f) (token_of (not (is_bare f)) (is_full f) (is_full h) inner) in

@@ -1,6 +1,6 @@
 -- The identifiers that a program declares, the tokens that name its expressions, and where its blocks begin and end are among the tokens and
 -- places of its derivation, in its order; so they ascend.
-use Rattle.std.proofs.Common.{◌≡◌, ◌≤◌, arith, ℕ, length, true, List, [], ◌∷◌, Option, Some, None, map, refl, ap, ◌∙◌}
+use Rattle.std.proofs.Common.{◌≡◌, arith, ℕ, length, true, List, [], ◌∷◌, Option, Some, None, map, refl, ap, ◌∙◌}
 use Rattle.std.proofs.lemmas.Bool.{false≢true}
 use Rattle.std.specs.Prelude.{not}
 use Rattle.sim_base.specs.declared.token.TokenKind.TheVariants as k
@@ -18,7 +18,7 @@ use Rattle.sim_tree.specs.declared.stmt.Stmt.{Stmt}
 use Rattle.sim_tree.specs.declared.stmt.TypeName.{TypeName}
 use Rattle.sim_tree.specs.declared.stmt.When.{When}
 use Rattle.sim_tree.specs.Grammar as g
-use Rattle.sim_tree.specs.Reading.{Forest, done, leaf, place, node}
+use Rattle.sim_tree.specs.Reading.{Forest, done, leaf, place, node, bare_leaf}
 use Rattle.sim_tree.specs.Tree.{is_bare, IsTree}
 use Rattle.sim_tree.proofs.Induction as induction
 use Rattle.sim_tree.proofs.Full.{reads_full}
@@ -77,21 +77,21 @@ EachDeclaration = induction.EachDeclaration Says Declares Blocks Classes Procedu
 
 spots-joined : (f h : Forest) (q : List Spot) → spots (joined f h) q ≡ spots f (spots h q)
 spots-joined done h q = refl
-spots-joined (leaf i kind f) h q = ap (λ z. Mark i ∷ z) (spots-joined f h q)
+spots-joined (leaf i kind value f) h q = ap (λ z. Mark i ∷ z) (spots-joined f h q)
 spots-joined (place i f) h q = ap (λ z. Behind i ∷ z) (spots-joined f h q)
 spots-joined (node n inside f) h q = ap (spots inside) (spots-joined f h q)
 
 spots-acted : (f rest : Forest) (q : List Spot) → spots (acted f rest) q ≡ spots f (spots rest q)
-spots-acted (node g.Primary (leaf i (k.Identifier name) act) sel) rest q =
+spots-acted (node g.Primary (leaf i k.Identifier value act) sel) rest q =
     ap (λ z. Mark i ∷ z) (spots-joined act (node g.AfterFirstOperand (joined sel rest) done) q ∙ ap (spots act) (spots-joined sel rest q))
 spots-acted f rest q = refl
 
 spots-begun : (f rest : Forest) (q : List Spot) → spots (begun f rest) q ≡ spots f (spots rest q)
-spots-begun (leaf i (k.Identifier name) f) rest q = refl
+spots-begun (leaf i k.Identifier value f) rest q = refl
 spots-begun f rest q = refl
 
 pub begun_full : (f rest : Forest) → Full (begun f rest) → (has_token g.Statement f ≡ true) × Full f × Full rest
-begun_full (leaf i (k.Identifier name) f) rest full = (refl, full.1.1, full.1.2)
+begun_full (leaf i k.Identifier value f) rest full = (refl, full.1.1, full.1.2)
 begun_full f rest full = full
 
 -- parts without a name of an expression in front
@@ -193,8 +193,8 @@ assigned_named e (x ∷ xs) token full =
     (λ full. each_row g.Assigned assigned_derivation t.right_side_syntax in_side (x ∷ xs) (λ x full. skip (expr_named x.value full.0 full.1)) full)
 
 -- Blocks.
-more_statements : (fs : List Forest) (es : List Statement) (end : ℕ) → EachStatement fs es → Full (row g.NextStatement (map next_statement fs) (leaf end k.End done))
-    → Lays (λ r. in_statements (statements es) (Behind end ∷ r)) (spots (row g.NextStatement (map next_statement fs) (leaf end k.End done)))
+more_statements : (fs : List Forest) (es : List Statement) (end : ℕ) → EachStatement fs es → Full (row g.NextStatement (map next_statement fs) (bare_leaf end k.End done))
+    → Lays (λ r. in_statements (statements es) (Behind end ∷ r)) (spots (row g.NextStatement (map next_statement fs) (bare_leaf end k.End done)))
 more_statements [] [] end each full = ahead none
 more_statements [] (e ∷ es) end each full = absurd each
 more_statements (f ∷ fs) [] end each full = absurd each
@@ -205,7 +205,7 @@ statements_named [] [] end each full = ahead none
 statements_named [] (e ∷ es) end each full = absurd each
 statements_named (f ∷ fs) [] end each full = absurd each
 statements_named (f ∷ fs) (e ∷ es) end each full =
-    let rest = row g.NextStatement (map next_statement fs) (leaf end k.End done) in
+    let rest = row g.NextStatement (map next_statement fs) (bare_leaf end k.End done) in
     let parts = begun_full f rest full in
     same_spots (spots-begun f rest) (both (each.0 parts.0 parts.1) (more_statements fs es end each.1 parts.2))
 

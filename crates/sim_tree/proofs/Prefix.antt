@@ -5,11 +5,11 @@ use Rattle.std.proofs.lemmas.Bool.Decides.{leb_tells}
 use Rattle.std.specs.Prelude.{slice_index_or, nat_le, ◌&&◌, not}
 use native.Mathlib.Decide.{dec_lt}
 use Rattle.sim_base.specs.declared.token.Token.{Token}
-use Rattle.sim_tree.specs.declared.terminal.Terminal.{Terminal}
+use Rattle.sim_base.specs.declared.token.TokenKind.{TokenKind}
 use Rattle.sim_tree.specs.Grammar.{Part, Times, Once, Maybe, Many, Symbol, Kept, Mark, Any, Here, Of, is, one_of, right_side, is_counted, is_begun}
-use Rattle.sim_tree.specs.Reading.{Forest, done, leaf, place, node, finish, kind_at, terminal_at, after, may_skip, is_empty, inside_depth, is_too_deep, first_of, Reads, reads-done, reads-kept, reads-mark, reads-any, reads-none, reads-here, reads-part, reads-skip, Fails, fails-kept, fails-mark, fails-part, fails-deep, fails-inside, after-kept, after-mark, after-any, after-none, after-here, after-part, after-skip, Fault}
+use Rattle.sim_tree.specs.Reading.{Forest, done, leaf, place, node, finish, kind_at, after, may_skip, is_empty, inside_depth, is_too_deep, first_of, Reads, reads-done, reads-kept, reads-mark, reads-any, reads-none, reads-here, reads-part, reads-skip, Fails, fails-kept, fails-mark, fails-part, fails-deep, fails-inside, after-kept, after-mark, after-any, after-none, after-here, after-part, after-skip, Fault, value_at}
 use Rattle.sim_tree.specs.Claim.{SameBelow}
-use Rattle.sim_tree.proofs.Laws.{same_terminal, reads_local, reads_ahead, fault_at}
+use Rattle.sim_tree.proofs.Laws.{same_kind, reads_local, reads_ahead, fault_at}
 
 pub leb_no : (a b : ℕ) → b < a → nat_le a b ≡ false
 leb_no a b h = go (leb_tells a b)
@@ -33,25 +33,25 @@ module _ {us : List Token} where
   pub free-done : {i : ℕ} → Free us [] i done i
   free-done = record { by = λ d. (0, λ limit le. reads-done) }
 
-  pub free-kept : {i j : ℕ} {any : List Terminal} {s : List Symbol} {f : Forest} → one_of any (terminal_at us i) ≡ true → Free us s (i + 1) f j → Free us (Kept any ∷ s) i (leaf i (kind_at us i) f) j
+  pub free-kept : {i j : ℕ} {any : List TokenKind} {s : List Symbol} {f : Forest} → one_of any (kind_at us i) ≡ true → Free us s (i + 1) f j → Free us (Kept any ∷ s) i (leaf i (kind_at us i) (value_at us i) f) j
   free-kept h r = record { by = λ d. let p = r.by d in (p.0, λ limit le. reads-kept h (p.1 limit le)) }
 
-  pub free-mark : {i j : ℕ} {a : Terminal} {s : List Symbol} {f : Forest} → is (terminal_at us i) a ≡ true → Free us s (i + 1) f j → Free us (Mark a ∷ s) i f j
+  pub free-mark : {i j : ℕ} {a : TokenKind} {s : List Symbol} {f : Forest} → is (kind_at us i) a ≡ true → Free us s (i + 1) f j → Free us (Mark a ∷ s) i f j
   free-mark h r = record { by = λ d. let p = r.by d in (p.0, λ limit le. reads-mark h (p.1 limit le)) }
 
-  pub free-any : {i j : ℕ} {a : Terminal} {s : List Symbol} {f : Forest} → is (terminal_at us i) a ≡ true → Free us (Any a ∷ s) (i + 1) f j → Free us (Any a ∷ s) i f j
+  pub free-any : {i j : ℕ} {a : TokenKind} {s : List Symbol} {f : Forest} → is (kind_at us i) a ≡ true → Free us (Any a ∷ s) (i + 1) f j → Free us (Any a ∷ s) i f j
   free-any h r = record { by = λ d. let p = r.by d in (p.0, λ limit le. reads-any h (p.1 limit le)) }
 
-  pub free-none : {i j : ℕ} {a : Terminal} {s : List Symbol} {f : Forest} → is (terminal_at us i) a ≡ false → Free us s i f j → Free us (Any a ∷ s) i f j
+  pub free-none : {i j : ℕ} {a : TokenKind} {s : List Symbol} {f : Forest} → is (kind_at us i) a ≡ false → Free us s i f j → Free us (Any a ∷ s) i f j
   free-none h r = record { by = λ d. let p = r.by d in (p.0, λ limit le. reads-none h (p.1 limit le)) }
 
   pub free-here : {i j : ℕ} {s : List Symbol} {f : Forest} → Free us s i f j → Free us (Here ∷ s) i (place i f) j
   free-here r = record { by = λ d. let p = r.by d in (p.0, λ limit le. reads-here (p.1 limit le)) }
 
-  pub free-skip : {i j : ℕ} {t : Times} {n : Part} {s : List Symbol} {f : Forest} → right_side n (terminal_at us i) ≡ None → may_skip t ≡ true → Free us s i f j → Free us (Of t n ∷ s) i f j
+  pub free-skip : {i j : ℕ} {t : Times} {n : Part} {s : List Symbol} {f : Forest} → right_side n (kind_at us i) ≡ None → may_skip t ≡ true → Free us s i f j → Free us (Of t n ∷ s) i f j
   free-skip b k r = record { by = λ d. let p = r.by d in (p.0, λ limit le. reads-skip b k (p.1 limit le)) }
 
-  pub free-part : {i m j : ℕ} {t : Times} {n : Part} {right s : List Symbol} {f g : Forest} → right_side n (terminal_at us i) ≡ Some right
+  pub free-part : {i m j : ℕ} {t : Times} {n : Part} {right s : List Symbol} {f g : Forest} → right_side n (kind_at us i) ≡ Some right
       → Free us right i f m → Free us (after t n s) m g j → Free us (Of t n ∷ s) i (node n f g) j
   free-part {n = n} {right = right} b r q = record {
     by = λ d.
@@ -139,16 +139,16 @@ free_local ws us h same = record { by = λ d. let p = h.by d in (p.0, λ limit l
 -- Having read the tokens from i up to k, these symbols are left. Each choice was made by a token before k.
 pub data Pending (ws : List Token) : List Symbol → ℕ → ℕ → List Symbol → Type 0 where
   p-nothing : {i : ℕ} {s : List Symbol} → Pending ws s i i s
-  p-kept : {i k : ℕ} {any : List Terminal} {s left : List Symbol} → one_of any (terminal_at ws i) ≡ true → i < k → Pending ws s (i + 1) k left → Pending ws (Kept any ∷ s) i k left
-  p-mark : {i k : ℕ} {a : Terminal} {s left : List Symbol} → is (terminal_at ws i) a ≡ true → i < k → Pending ws s (i + 1) k left → Pending ws (Mark a ∷ s) i k left
-  p-any : {i k : ℕ} {a : Terminal} {s left : List Symbol} → is (terminal_at ws i) a ≡ true → i < k → Pending ws (Any a ∷ s) (i + 1) k left → Pending ws (Any a ∷ s) i k left
-  p-none : {i k : ℕ} {a : Terminal} {s left : List Symbol} → is (terminal_at ws i) a ≡ false → i < k → Pending ws s i k left → Pending ws (Any a ∷ s) i k left
+  p-kept : {i k : ℕ} {any : List TokenKind} {s left : List Symbol} → one_of any (kind_at ws i) ≡ true → i < k → Pending ws s (i + 1) k left → Pending ws (Kept any ∷ s) i k left
+  p-mark : {i k : ℕ} {a : TokenKind} {s left : List Symbol} → is (kind_at ws i) a ≡ true → i < k → Pending ws s (i + 1) k left → Pending ws (Mark a ∷ s) i k left
+  p-any : {i k : ℕ} {a : TokenKind} {s left : List Symbol} → is (kind_at ws i) a ≡ true → i < k → Pending ws (Any a ∷ s) (i + 1) k left → Pending ws (Any a ∷ s) i k left
+  p-none : {i k : ℕ} {a : TokenKind} {s left : List Symbol} → is (kind_at ws i) a ≡ false → i < k → Pending ws s i k left → Pending ws (Any a ∷ s) i k left
   p-here : {i k : ℕ} {s left : List Symbol} → i < k → Pending ws s i k left → Pending ws (Here ∷ s) i k left
-  p-inside : {i k : ℕ} {t : Times} {n : Part} {right s inner left : List Symbol} → right_side n (terminal_at ws i) ≡ Some right → i < k
+  p-inside : {i k : ℕ} {t : Times} {n : Part} {right s inner left : List Symbol} → right_side n (kind_at ws i) ≡ Some right → i < k
       → Pending ws right i k inner → left ≡ inner ++ after t n s → Pending ws (Of t n ∷ s) i k left
-  p-after : {i m k : ℕ} {t : Times} {n : Part} {right s left : List Symbol} {f : Forest} → right_side n (terminal_at ws i) ≡ Some right → i ≤ m → m < k
+  p-after : {i m k : ℕ} {t : Times} {n : Part} {right s left : List Symbol} {f : Forest} → right_side n (kind_at ws i) ≡ Some right → i ≤ m → m < k
       → Free ws right i f m → Pending ws (after t n s) m k left → Pending ws (Of t n ∷ s) i k left
-  p-skip : {i k : ℕ} {t : Times} {n : Part} {s left : List Symbol} → right_side n (terminal_at ws i) ≡ None → may_skip t ≡ true → i < k
+  p-skip : {i k : ℕ} {t : Times} {n : Part} {s left : List Symbol} → right_side n (kind_at ws i) ≡ None → may_skip t ≡ true → i < k
       → Pending ws s i k left → Pending ws (Of t n ∷ s) i k left
 
 abbrev pub Left : List Token → List Symbol → ℕ → ℕ → Type 0
@@ -261,27 +261,27 @@ module _ (limit : ℕ) (ws : List Token) where
 
 -- what is left is read, so all is
 module _ (ws us : List Token) where
-  terminal_same : (i : ℕ) → slice_index_or ws i finish ≡ slice_index_or us i finish → terminal_at ws i ≡ terminal_at us i
-  terminal_same i e = same_terminal 0 ws us i e
+  kind_same : (i : ℕ) → slice_index_or ws i finish ≡ slice_index_or us i finish → kind_at ws i ≡ kind_at us i
+  kind_same i e = same_kind 0 ws us i e
 
   pub filled : {s left : List Symbol} {i k : ℕ} → Pending ws s i k left → SameBelow k ws us → (j : ℕ) → FreeTo us left k j → FreeTo us s i j
   filled p-nothing same j h = h
   filled (p-kept {i = i} {any = any} w lt p) same j h =
-      let r = filled p same j h in (_, free-kept (subst (λ b. one_of any b ≡ true) (terminal_same i (same i lt)) w) r.1)
+      let r = filled p same j h in (_, free-kept (subst (λ b. one_of any b ≡ true) (kind_same i (same i lt)) w) r.1)
   filled (p-mark {i = i} {a = a} w lt p) same j h =
-      let r = filled p same j h in (_, free-mark (subst (λ b. is b a ≡ true) (terminal_same i (same i lt)) w) r.1)
+      let r = filled p same j h in (_, free-mark (subst (λ b. is b a ≡ true) (kind_same i (same i lt)) w) r.1)
   filled (p-any {i = i} {a = a} w lt p) same j h =
-      let r = filled p same j h in (_, free-any (subst (λ b. is b a ≡ true) (terminal_same i (same i lt)) w) r.1)
+      let r = filled p same j h in (_, free-any (subst (λ b. is b a ≡ true) (kind_same i (same i lt)) w) r.1)
   filled (p-none {i = i} {a = a} w lt p) same j h =
-      let r = filled p same j h in (_, free-none (subst (λ b. is b a ≡ false) (terminal_same i (same i lt)) w) r.1)
+      let r = filled p same j h in (_, free-none (subst (λ b. is b a ≡ false) (kind_same i (same i lt)) w) r.1)
   filled (p-here lt p) same j h = let r = filled p same j h in (_, free-here r.1)
   filled (p-inside {i = i} {t = t} {n = n} {right = right} {s = s} {inner = inner} b lt p e) same j h =
       let c = cut inner (after t n s) e h in
       let r = filled p same c.middle c.first in
-      (_, free-part (subst (λ z. right_side n z ≡ Some right) (terminal_same i (same i lt)) b) r.1 c.second.1)
+      (_, free-part (subst (λ z. right_side n z ≡ Some right) (kind_same i (same i lt)) b) r.1 c.second.1)
   filled (p-after {i = i} {m = m} {k = k} {n = n} {right = right} b le lt q p) same j h =
       let r = filled p same j h in
-      (_, free-part (subst (λ z. right_side n z ≡ Some right) (terminal_same i (same i (omega arith))) b) (free_local ws us q (λ o w. same o (omega (arith, w)))) r.1)
+      (_, free-part (subst (λ z. right_side n z ≡ Some right) (kind_same i (same i (omega arith))) b) (free_local ws us q (λ o w. same o (omega (arith, w)))) r.1)
   filled (p-skip {i = i} {n = n} b may lt p) same j h =
       let r = filled p same j h in
-      (r.0, free-skip (subst (λ z. right_side n z ≡ None) (terminal_same i (same i lt)) b) may r.1)
+      (r.0, free-skip (subst (λ z. right_side n z ≡ None) (kind_same i (same i lt)) b) may r.1)

@@ -2,6 +2,8 @@
 use Rattle.std.specs.Prelude.{ℕ, Bool, true, false, List, [], ◌∷◌, Option, Some, None}
 use Rattle.sim_base.specs.declared.token.TokenKind.{TokenKind}
 use Rattle.sim_base.specs.declared.token.TokenKind.TheVariants as k
+use Rattle.sim_base.specs.declared.token.TokenValue.{TokenValue}
+use Rattle.sim_base.specs.Lexeme.{bytes_of, character_of, integer_of}
 use Rattle.sim_tree.specs.declared.expr.Identifier.{Identifier}
 use Rattle.sim_tree.specs.declared.expr.Membership.TheVariants as membership
 use Rattle.sim_tree.specs.declared.expr.Multiplication.TheVariants as multiplication
@@ -36,7 +38,7 @@ pub record Contents : Type 0 where
 
 -- What a token, a place or a part gives.
 pub data Item : Type 0 where
-  Tok : ℕ → TokenKind → Item
+  Tok : ℕ → TokenKind → TokenValue → Item
   Place : ℕ → Item
   Nothing : Item
   -- expressions: a value, what is applied to the value in front, what is applied to the value behind
@@ -96,16 +98,12 @@ behind (x ∷ xs) = xs
 abbrev pub named_by : ℕ → List ℕ → Identifier
 named_by i name = record { token = record { 0 = i }; name = name }
 
-abbrev pub name_of : ℕ → TokenKind → Identifier
-name_of i (k.Identifier name) = named_by i name
-name_of i _ = named_by i []
-
 abbrev pub name_in : List Item → Identifier
-name_in (Tok i kind ∷ l) = name_of i kind
+name_in (Tok i kind held ∷ l) = named_by i (bytes_of held)
 name_in _ = named_by 0 []
 
 abbrev pub token_in : List Item → ℕ
-token_in (Tok i kind ∷ l) = i
+token_in (Tok i kind held ∷ l) = i
 token_in _ = 0
 
 -- Expressions.
@@ -147,20 +145,20 @@ abbrev pub values : List Item → Expressions
 values (Value e ∷ l) = s.Then e (values l)
 values _ = s.NoMore
 
-abbrev pub primary : TokenKind → ℕ → List Item → Expression
-primary (k.Integer value) i l = s.Constant (s.IntegerValue value) i
-primary (k.Character value) i l = s.Constant (s.CharacterValue value) i
-primary (k.Text value) i l = s.Constant (s.TextValue value) i
-primary k.True i l = s.Constant (s.BooleanValue true) i
-primary k.False i l = s.Constant (s.BooleanValue false) i
-primary k.None i l = s.Constant s.NoObject i
-primary k.Notext i l = s.Constant s.NoText i
-primary (k.Identifier name) i l = s.Named (named_by i name) (actuals l)
-primary k.This i l = s.This i (name_in l)
-primary k.New i l = s.New i (name_in l) (actuals (behind l))
-primary k.Open i l = s.Parentheses i (value_in l)
-primary k.If i l = s.If i (value_in l) (value_in (behind l)) (value_in (behind (behind l)))
-primary _ i l = no_value
+abbrev pub primary : TokenKind → TokenValue → ℕ → List Item → Expression
+primary k.Integer held i l = s.Constant (s.IntegerValue (integer_of held)) i
+primary k.Character held i l = s.Constant (s.CharacterValue (character_of held)) i
+primary k.Text held i l = s.Constant (s.TextValue (bytes_of held)) i
+primary k.True held i l = s.Constant (s.BooleanValue true) i
+primary k.False held i l = s.Constant (s.BooleanValue false) i
+primary k.None held i l = s.Constant s.NoObject i
+primary k.Notext held i l = s.Constant s.NoText i
+primary k.Identifier held i l = s.Named (named_by i (bytes_of held)) (actuals l)
+primary k.This held i l = s.This i (name_in l)
+primary k.New held i l = s.New i (name_in l) (actuals (behind l))
+primary k.Open held i l = s.Parentheses i (value_in l)
+primary k.If held i l = s.If i (value_in l) (value_in (behind l)) (value_in (behind (behind l)))
+primary _ held i l = no_value
 
 abbrev pub steps : Expression → List Item → Expression
 steps e [] = e
@@ -176,7 +174,7 @@ is_steps _ = false
 abbrev pub begin : (Expression → Expression) → List Item → Expression
 begin f (Front h ∷ l) = begin (λ e. f (h e)) l
 begin f (Value e ∷ l) = steps (f e) l
-begin f (Tok i kind ∷ l) = primary kind i l
+begin f (Tok i kind held ∷ l) = primary kind held i l
 begin f _ = no_value
 
 -- an expression, of whatever level
@@ -184,7 +182,7 @@ abbrev pub value : List Item → Expression
 value l = begin (λ e. e) l
 
 abbrev pub operated : List Item → Expression → Expression
-operated (Tok i kind ∷ l) e = s.Binary (operator_of kind) i e (value_in l)
+operated (Tok i kind held ∷ l) e = s.Binary (operator_of kind) i e (value_in l)
 operated _ e = e
 
 abbrev pub related_by : TokenKind → ℕ → List Item → Expression → Expression
@@ -193,7 +191,7 @@ related_by k.In i l e = s.Member membership.In i e (name_in l)
 related_by kind i l e = s.Binary (operator_of kind) i e (value_in l)
 
 abbrev pub related : List Item → Expression → Expression
-related (Tok i kind ∷ l) e = related_by kind i l e
+related (Tok i kind held ∷ l) e = related_by kind i l e
 related _ e = e
 
 abbrev pub selected_by : TokenKind → ℕ → List Item → Expression → Expression
@@ -201,14 +199,14 @@ selected_by k.Dot i l e = s.Dot i e (name_in l) (actuals (behind l))
 selected_by _ i l e = s.Qua i e (name_in l)
 
 abbrev pub selecting : List Item → Expression → Expression
-selecting (Tok i kind ∷ l) e = selected_by kind i l e
+selecting (Tok i kind held ∷ l) e = selected_by kind i l e
 selecting _ e = e
 
 abbrev pub negating : List Item → Expression → Expression
 negating l e = s.Not (token_in l) e
 
 abbrev pub signing : List Item → Expression → Expression
-signing (Tok i kind ∷ l) e = s.Signed (sign_of kind) i e
+signing (Tok i kind held ∷ l) e = s.Signed (sign_of kind) i e
 signing _ e = e
 
 -- Declarations.
@@ -223,30 +221,30 @@ abbrev pub no_type : TypeName
 no_type = type_name.Integer (record { 0 = 0 })
 
 abbrev pub type_of : List Item → TypeName
-type_of (Tok i kind ∷ l) = type_by kind i l
+type_of (Tok i kind held ∷ l) = type_by kind i l
 type_of _ = no_type
 
 abbrev pub type_in : List Item → TypeName
 type_in (Kind t ∷ l) = t
 type_in _ = no_type
 
-abbrev pub signed_constant : TokenKind → Sign → ℕ → List Item → Constant
-signed_constant kind x i (Tok j (k.Integer value) ∷ l) = constant.Integer (Some (record { token = record { 0 = i }; sign = x })) (record { 0 = j }) value
-signed_constant kind x i _ = constant.True (record { 0 = i })
+abbrev pub signed_constant : Sign → ℕ → List Item → Constant
+signed_constant x i (Tok j k.Integer held ∷ l) = constant.Integer (Some (record { token = record { 0 = i }; sign = x })) (record { 0 = j }) (integer_of held)
+signed_constant x i _ = constant.True (record { 0 = i })
 
-abbrev pub constant_by : TokenKind → ℕ → List Item → Constant
-constant_by (k.Integer value) i l = constant.Integer None (record { 0 = i }) value
-constant_by (k.Character value) i l = constant.Character (record { 0 = i }) value
-constant_by (k.Text value) i l = constant.Text (record { 0 = i }) value
-constant_by k.True i l = constant.True (record { 0 = i })
-constant_by k.False i l = constant.False (record { 0 = i })
-constant_by kind i l = signed_constant kind (sign_of kind) i l
+abbrev pub constant_by : TokenKind → TokenValue → ℕ → List Item → Constant
+constant_by k.Integer held i l = constant.Integer None (record { 0 = i }) (integer_of held)
+constant_by k.Character held i l = constant.Character (record { 0 = i }) (character_of held)
+constant_by k.Text held i l = constant.Text (record { 0 = i }) (bytes_of held)
+constant_by k.True held i l = constant.True (record { 0 = i })
+constant_by k.False held i l = constant.False (record { 0 = i })
+constant_by kind held i l = signed_constant (sign_of kind) i l
 
 abbrev pub no_constant : Constant
 no_constant = constant.True (record { 0 = 0 })
 
 abbrev pub constant_of : List Item → Constant
-constant_of (Tok i kind ∷ l) = constant_by kind i l
+constant_of (Tok i kind held ∷ l) = constant_by kind held i l
 constant_of _ = no_constant
 
 abbrev pub constant_in : List Item → Constant
@@ -306,7 +304,7 @@ mode_by k.Value = mode.Value
 mode_by _ = mode.Name
 
 abbrev pub mode_of : List Item → Moded
-mode_of (Tok i kind ∷ l) = record { token = i; mode = mode_by kind; names = names_in l }
+mode_of (Tok i kind held ∷ l) = record { token = i; mode = mode_by kind; names = names_in l }
 mode_of _ = record { token = 0; mode = mode.Name; names = [] }
 
 abbrev pub modes : List Item → List Moded
@@ -319,7 +317,7 @@ specified_by k.Array i t = s.Array t i
 specified_by _ i t = s.Procedure (Some t) i
 
 abbrev pub kind_of : List Item → TypeName → Specified
-kind_of (Tok i kind ∷ l) t = specified_by kind i t
+kind_of (Tok i kind held ∷ l) t = specified_by kind i t
 kind_of _ t = s.Simple t
 
 abbrev pub specified_type : TypeName → List Item → Specification
@@ -349,7 +347,7 @@ protected_by _ i (Also j ∷ l) = record { hidden = Some j; protected = Some i; 
 protected_by _ i l = record { hidden = None; protected = Some i; names = names_in l }
 
 abbrev pub protected_of : List Item → Protected
-protected_of (Tok i kind ∷ l) = protected_by kind i l
+protected_of (Tok i kind held ∷ l) = protected_by kind i l
 protected_of _ = record { hidden = None; protected = None; names = [] }
 
 abbrev pub protections : List Item → List Protected
@@ -404,7 +402,7 @@ typed_by k.Array i l t = s.Arrays t i (segments l)
 typed_by _ i l t = procedure_in l (Some t) i
 
 abbrev pub typed_of : List Item → TypeName → Declaration
-typed_of (Tok i kind ∷ l) t = typed_by kind i l t
+typed_of (Tok i kind held ∷ l) t = typed_by kind i l t
 typed_of l t = s.Variables t (variables l)
 
 abbrev pub typed_in : List Item → TypeName → Declaration
@@ -417,7 +415,7 @@ declared_by _ i l = class_in l None i
 
 abbrev pub declaration_of : List Item → Declaration
 declaration_of (Kind t ∷ l) = typed_in l t
-declaration_of (Tok i kind ∷ l) = declared_by kind i l
+declaration_of (Tok i kind held ∷ l) = declared_by kind i l
 declaration_of _ = no_declaration
 
 -- Statements.
@@ -426,7 +424,7 @@ assignment_of k.AssignReference = assignment.Reference
 assignment_of _ = assignment.Value
 
 abbrev pub side_of : List Item → RightSide
-side_of (Tok i kind ∷ l) = record { sign = assignment_of kind; token = i; value = value_in l }
+side_of (Tok i kind held ∷ l) = record { sign = assignment_of kind; token = i; value = value_in l }
 side_of _ = record { sign = assignment.Value; token = 0; value = no_value }
 
 abbrev pub sides : List Item → List RightSide
@@ -465,7 +463,7 @@ element_tail k.Step i l e = s.Step e i (value_in l) (value_in (behind l))
 element_tail _ i l e = s.While e i (value_in l)
 
 abbrev pub tail_of : List Item → Expression → Element
-tail_of (Tok i kind ∷ l) e = element_tail kind i l e
+tail_of (Tok i kind held ∷ l) e = element_tail kind i l e
 tail_of _ e = s.Once e
 
 abbrev pub tail_in : List Item → Expression → Element
@@ -484,7 +482,7 @@ elements (Elem e ∷ l) = e ∷ elements l
 elements _ = []
 
 abbrev pub for_part : List Item → Item
-for_part (Tok i kind ∷ l) = ForPart (assignment_of kind) i (elements l)
+for_part (Tok i kind held ∷ l) = ForPart (assignment_of kind) i (elements l)
 for_part _ = Nothing
 
 abbrev pub for_by : ℕ → Identifier → List Item → Statement
@@ -502,7 +500,7 @@ timed_by k.Before i l = s.Before i (value_in l)
 timed_by _ i l = s.After i (value_in l)
 
 abbrev pub timed_of : List Item → Schedule
-timed_of (Tok i kind ∷ l) = timed_by kind i l
+timed_of (Tok i kind held ∷ l) = timed_by kind i l
 timed_of _ = s.Now
 
 abbrev pub timed_in : List Item → Schedule
@@ -517,7 +515,7 @@ each_arm (OneArm a ∷ l) = a ∷ each_arm l
 each_arm _ = []
 
 abbrev pub connection_of : List Item → Item
-connection_of (Tok i kind ∷ l) = Doing i (statement_in l) (place_in l)
+connection_of (Tok i kind held ∷ l) = Doing i (statement_in l) (place_in l)
 connection_of l = Whens (arms (each_arm l))
 
 abbrev pub branch_in : List Item → Statements
@@ -529,22 +527,22 @@ inspecting i e (Doing j x n ∷ l) = s.Inspect i e j x n (branch_in l)
 inspecting i e (Whens xs ∷ l) = s.InspectWhen i e xs (branch_in l)
 inspecting i e _ = no_statement
 
-abbrev pub worded : TokenKind → ℕ → List Item → Statement
-worded (k.Identifier name) i l = of_name l (named_by i name)
-worded k.Inner i l = s.Inner i
-worded k.If i l = s.Choose i (value_in l) (statement_in l) (branch_in (behind (behind l)))
-worded k.While i l = s.Repeat i (value_in l) (statement_in l)
-worded k.For i l = for_by i (name_in l) (behind l)
-worded k.Inspect i l = inspecting i (value_in l) (behind l)
-worded k.Activate i l = s.Activate i activation.Activate (value_in l) (timed_in (behind l))
-worded k.Reactivate i l = s.Activate i activation.Reactivate (value_in l) (timed_in (behind l))
-worded _ i l = no_statement
+abbrev pub worded : TokenKind → TokenValue → ℕ → List Item → Statement
+worded k.Identifier held i l = of_name l (named_by i (bytes_of held))
+worded k.Inner held i l = s.Inner i
+worded k.If held i l = s.Choose i (value_in l) (statement_in l) (branch_in (behind (behind l)))
+worded k.While held i l = s.Repeat i (value_in l) (statement_in l)
+worded k.For held i l = for_by i (name_in l) (behind l)
+worded k.Inspect held i l = inspecting i (value_in l) (behind l)
+worded k.Activate held i l = s.Activate i activation.Activate (value_in l) (timed_in (behind l))
+worded k.Reactivate held i l = s.Activate i activation.Reactivate (value_in l) (timed_in (behind l))
+worded _ held i l = no_statement
 
 abbrev pub statement_of : List Item → Statement
 statement_of (Place i ∷ l) = s.Empty i
 statement_of (Body b ∷ l) = s.Compound b
 statement_of (Value e ∷ l) = assigned e (sides l)
-statement_of (Tok i kind ∷ l) = worded kind i l
+statement_of (Tok i kind held ∷ l) = worded kind held i l
 statement_of _ = no_statement
 
 -- Blocks.
@@ -557,7 +555,7 @@ listed _ = s.NoStatement
 
 abbrev pub end_in : List Item → ℕ
 end_in [] = 0
-end_in (Tok i kind ∷ l) = i
+end_in (Tok i kind held ∷ l) = i
 end_in (x ∷ l) = end_in l
 
 abbrev pub contents_in : List Item → Contents
@@ -572,7 +570,7 @@ abbrev pub also_declared : Declaration → Contents → Contents
 also_declared d c = record { declarations = s.With d c.declarations; statements = c.statements; end = c.end }
 
 abbrev pub of_identifier : List Item → Identifier → Contents
-of_identifier (Tok i kind ∷ l) x = also_declared (class_in l (Some x) i) (contents_in l)
+of_identifier (Tok i kind held ∷ l) x = also_declared (class_in l (Some x) i) (contents_in l)
 of_identifier (Begun f ∷ l) x = stated (f x) l
 of_identifier _ x = no_contents
 
@@ -580,14 +578,14 @@ abbrev pub identifier_in : List Item → Identifier → Contents
 identifier_in (OfName f ∷ l) x = f x
 identifier_in _ x = no_contents
 
-abbrev pub contents_by : TokenKind → ℕ → List Item → Contents
-contents_by (k.Identifier name) i l = identifier_in l (named_by i name)
-contents_by _ i l = record { declarations = s.NoDeclaration; statements = s.NoStatement; end = i }
+abbrev pub contents_by : TokenKind → TokenValue → ℕ → List Item → Contents
+contents_by k.Identifier held i l = identifier_in l (named_by i (bytes_of held))
+contents_by kind held i l = record { declarations = s.NoDeclaration; statements = s.NoStatement; end = i }
 
 abbrev pub contents_of : List Item → Contents
 contents_of (Decl d ∷ l) = also_declared d (contents_in l)
 contents_of (Stmt x ∷ l) = stated x l
-contents_of (Tok i kind ∷ l) = contents_by kind i l
+contents_of (Tok i kind held ∷ l) = contents_by kind held i l
 contents_of _ = no_contents
 
 abbrev pub block_of : List Item → BlockSyntax
@@ -599,7 +597,7 @@ body_in (Body b ∷ l) = b
 body_in (x ∷ l) = body_in l
 
 abbrev pub program_of : List Item → Program
-program_of (Tok i kind ∷ l) = record { prefix = Some (record { class = name_of i kind; arguments = actuals l }); block = body_in l }
+program_of (Tok i kind held ∷ l) = record { prefix = Some (record { class = named_by i (bytes_of held); arguments = actuals l }); block = body_in l }
 program_of l = record { prefix = None; block = body_in l }
 
 -- what a part gives, from what is inside it
@@ -685,7 +683,7 @@ item_of g.NextArgument l = Value (value_in l)
 
 abbrev pub items : Forest → List Item
 items done = []
-items (leaf i kind f) = Tok i kind ∷ items f
+items (leaf i kind value f) = Tok i kind value ∷ items f
 items (place i f) = Place i ∷ items f
 items (node n inside f) = item_of n (items inside) ∷ items f
 

@@ -5,6 +5,7 @@ use Rattle.std.specs.Prelude.{not, nat_eq}
 use Rattle.sim_base.specs.declared.numbering.TokenNo.{TokenNo}
 use Rattle.sim_base.specs.declared.token.TokenKind.{TokenKind}
 use Rattle.sim_base.specs.declared.token.TokenKind.TheVariants as k
+use Rattle.sim_base.specs.declared.token.TokenValue.TheVariants as token_value
 use Rattle.sim_tree.specs.declared.expr.Expr.{Expr}
 use Rattle.sim_tree.specs.declared.expr.Expr.TheOpen.{Expr-F, Operand-F, Term-F, Factor-F, Selector-F}
 use Rattle.sim_tree.specs.declared.expr.Expr.TheFolds.{ind-Expr, map-Expr, map-Operand, map-Term, map-Factor, map-Selector, fold-roll-Expr, fold-roll-Operand, fold-roll-Term, fold-roll-Factor, fold-roll-Selector}
@@ -41,13 +42,13 @@ use Rattle.sim_tree.proofs.ReadBack.{Item, Tok, Value, Step, Front, Actuals, ite
 -- No part lacks its token.
 abbrev pub Full : Forest → Type 0
 Full done = Unit {0}
-Full (leaf i kind f) = Full f
+Full (leaf i kind value f) = Full f
 Full (place i f) = Full f
 Full (node n inside f) = (has_token n inside ≡ true) × Full inside × Full f
 
 pub is_full-Full : (f : Forest) → is_full f ≡ true → Full f
 is_full-Full done e = tt
-is_full-Full (leaf i kind f) e = is_full-Full f e
+is_full-Full (leaf i kind value f) e = is_full-Full f e
 is_full-Full (place i f) e = is_full-Full f e
 is_full-Full (node n inside f) e = (
   token_of (has_token n inside) (is_full inside) (is_full f) e,
@@ -367,9 +368,9 @@ first_operand x = x.0
 abbrev first_term : TermPair → Term
 first_term x = x.0
 
-if_read : (i : ℕ) {x y z : Item} {a b c : Expression} → x ≡ Value a → y ≡ Value b → z ≡ Value c → primary k.If i (x ∷ y ∷ z ∷ []) ≡ s.If i a b c
+if_read : (i : ℕ) {x y z : Item} {a b c : Expression} → x ≡ Value a → y ≡ Value b → z ≡ Value c → primary k.If token_value.Absent i (x ∷ y ∷ z ∷ []) ≡ s.If i a b c
 if_read i {x} {y} {z} {a} {b} {c} e f h =
-    ap (λ w. primary k.If i (w ∷ y ∷ z ∷ [])) e ∙ ap (λ w. s.If i a (value_in (w ∷ z ∷ [])) (value_in (z ∷ []))) f ∙ ap (λ w. s.If i a b (value_in (w ∷ []))) h
+    ap (λ w. primary k.If token_value.Absent i (w ∷ y ∷ z ∷ [])) e ∙ ap (λ w. s.If i a (value_in (w ∷ z ∷ [])) (value_in (z ∷ []))) f ∙ ap (λ w. s.If i a b (value_in (w ∷ []))) h
 
 -- a node's claim, from that of its layer
 abbrev LayerClaim : Expr-F Expr Selector Factor Operand Term → Type 0
@@ -403,7 +404,7 @@ expr_step (Expr-F.Related a i r b) = record {
 }
 expr_step (Expr-F.Member a i m x) = record {
   known = λ bare full.
-      let last = Tok x.token.0 (k.Identifier x.name) ∷ [] in
+      let last = Tok x.token.0 k.Identifier (token_value.Bytes x.name) ∷ [] in
       ap (λ z. value (z ∷ Step (related_by (d.membership_kind m) i.0 last) ∷ [])) (leveled 5 (omega arith) a.value.1 full.0 full.1)
       ∙ membership_read m i.0 last (syntax_of a.value.0);
   calm = λ is. absurd (omega (arith, is));

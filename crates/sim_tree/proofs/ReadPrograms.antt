@@ -3,6 +3,7 @@ use Rattle.std.proofs.Common.{◌≡◌, ℕ, true, List, [], ◌∷◌, Option,
 use Rattle.std.proofs.lemmas.Bool.{false≢true}
 use Rattle.std.specs.Prelude.{not, option_map}
 use Rattle.sim_base.specs.declared.token.TokenKind.TheVariants as k
+use Rattle.sim_base.specs.declared.token.TokenValue.TheVariants as token_value
 use Rattle.sim_tree.specs.declared.expr.Expr.{Expr}
 use Rattle.sim_tree.specs.declared.expr.Identifier.{Identifier}
 use Rattle.sim_tree.specs.declared.program.BlockPrefix.{BlockPrefix}
@@ -20,7 +21,7 @@ use Rattle.sim_tree.specs.declared.stmt.Stmt.{Stmt}
 use Rattle.sim_tree.specs.declared.stmt.TypeName.{TypeName}
 use Rattle.sim_tree.specs.declared.stmt.When.{When}
 use Rattle.sim_tree.specs.Grammar as g
-use Rattle.sim_tree.specs.Reading.{Forest, done, leaf, place, node}
+use Rattle.sim_tree.specs.Reading.{Forest, done, leaf, place, node, bare_leaf}
 use Rattle.sim_tree.specs.Tree.{is_bare}
 use Rattle.sim_tree.specs.Nesting.{has_token, is_full}
 use Rattle.sim_tree.specs.Derivation.{Derivation, derivation_of, raise, row, identifier, expression, arguments}
@@ -66,15 +67,15 @@ EachDeclaration = induction.EachDeclaration Says Declares Blocks Classes Procedu
 
 -- The statements of a block.
 begun_read : (f rest : Forest) → contents_of (items (begun f rest)) ≡ stated (statement_of (items f)) (items rest)
-begun_read (leaf i (k.Identifier name) f) rest = refl
+begun_read (leaf i k.Identifier value f) rest = refl
 begun_read f rest = refl
 
 begun_full : (f rest : Forest) → Full (begun f rest) → (has_token g.Statement f ≡ true) × Full f × Full rest
-begun_full (leaf i (k.Identifier name) f) rest full = (refl, full.1.1, full.1.2)
+begun_full (leaf i k.Identifier value f) rest full = (refl, full.1.1, full.1.2)
 begun_full f rest full = full
 
-more_statements : (fs : List Forest) (es : List Statement) (end : ℕ) → EachStatement fs es → Full (row g.NextStatement (map next_statement fs) (leaf end k.End done))
-    → (listed (items (row g.NextStatement (map next_statement fs) (leaf end k.End done))) ≡ statements es) × (end_in (items (row g.NextStatement (map next_statement fs) (leaf end k.End done))) ≡ end)
+more_statements : (fs : List Forest) (es : List Statement) (end : ℕ) → EachStatement fs es → Full (row g.NextStatement (map next_statement fs) (bare_leaf end k.End done))
+    → (listed (items (row g.NextStatement (map next_statement fs) (bare_leaf end k.End done))) ≡ statements es) × (end_in (items (row g.NextStatement (map next_statement fs) (bare_leaf end k.End done))) ≡ end)
 more_statements [] [] end each full = (refl, refl)
 more_statements [] (e ∷ es) end each full = absurd each
 more_statements (f ∷ fs) [] end each full = absurd each
@@ -90,7 +91,7 @@ statements_read [] [] end each full = refl
 statements_read [] (e ∷ es) end each full = absurd each
 statements_read (f ∷ fs) [] end each full = absurd each
 statements_read (f ∷ fs) (e ∷ es) end each full =
-    let rest = row g.NextStatement (map next_statement fs) (leaf end k.End done) in
+    let rest = row g.NextStatement (map next_statement fs) (bare_leaf end k.End done) in
     let parts = begun_full f rest full in
     let h = more_statements fs es end each.1 parts.2 in
     begun_read f rest ∙ ap3 (λ x y z. content s.NoDeclaration (s.Also x y) z) (each.0 parts.0 parts.1) h.0 h.1
@@ -180,7 +181,7 @@ assigned_read e (x ∷ xs) token full =
     behind_acted : (rest : Forest) → Full (acted (raise 1 (derivation_of e)) rest) → Full rest
     behind_acted rest full = (acted_full (raise 1 (derivation_of e)) rest full).2
 
-activated : (w : Activation) (i : ℕ) (l : List Item) → r.worded (d.activation_kind w) i l ≡ s.Activate i w (r.value_in l) (r.timed_in (r.behind l))
+activated : (w : Activation) (i : ℕ) (l : List Item) → r.worded (d.activation_kind w) token_value.Absent i l ≡ s.Activate i w (r.value_in l) (r.timed_in (r.behind l))
 activated activation.Activate i l = refl
 activated activation.Reactivate i l = refl
 

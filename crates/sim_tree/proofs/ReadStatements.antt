@@ -4,6 +4,8 @@ use Rattle.std.proofs.lemmas.Bool.{false≢true}
 use Rattle.std.specs.Prelude.{not, nat_lt, option_map}
 use Rattle.sim_base.specs.declared.numbering.TokenNo.{TokenNo}
 use Rattle.sim_base.specs.declared.token.TokenKind.TheVariants as k
+use Rattle.sim_base.specs.declared.token.TokenValue.TheVariants as token_value
+use Rattle.sim_base.specs.Lexeme.{bytes_of}
 use Rattle.sim_tree.specs.declared.expr.Expr.{Expr}
 use Rattle.sim_tree.specs.declared.expr.Identifier.{Identifier}
 use Rattle.sim_tree.specs.declared.expr.Sign.{Sign}
@@ -33,7 +35,7 @@ use Rattle.sim_tree.specs.declared.stmt.TypeName.TheVariants as type_name
 use Rattle.sim_tree.specs.declared.stmt.Variable.{Variable}
 use Rattle.sim_tree.specs.declared.stmt.VirtualSpecification.{VirtualSpecification}
 use Rattle.sim_tree.specs.Grammar as g
-use Rattle.sim_tree.specs.Reading.{Forest, done, leaf, place, node}
+use Rattle.sim_tree.specs.Reading.{Forest, done, leaf, place, node, bare_leaf}
 use Rattle.sim_tree.specs.Tree.{is_bare}
 use Rattle.sim_tree.specs.Derivation.{derivation_of, row, raise, sign_kind}
 use Rattle.sim_tree.specs.ProgramDerivation.{joined, acted, ids, next_id, type_derivation, typed, constant_derivation, value_derivation, variable_derivation, variables_derivation, next_variable, bounds_derivation, next_bounds, dimensions, segment_derivation, next_segment, segments_derivation, mode_kind, mode_derivation, specifier_derivation, specification_derivation, heading_derivation, protecting, protection_derivation, virtual_derivation, virtuals_derivation, assignment_kind, assigned_derivation, for_element_derivation, next_for_element, for_elements, reference_element_derivation, next_reference_element, reference_elements, prior_derivation, timing_inside, timing_derivation}
@@ -67,7 +69,7 @@ type_read (type_name.Character i) = refl
 type_read (type_name.Text i) = refl
 type_read (type_name.Reference i class) = refl
 
-signed_read : (x : Sign) (i j : TokenNo) (n : ℤ) → r.constant_of (Tok i.0 (sign_kind x) ∷ Tok j.0 (k.Integer n) ∷ []) ≡ constant.Integer (Some (record { token = i; sign = x })) j n
+signed_read : (x : Sign) (i j : TokenNo) (n : ℤ) → r.constant_of (Tok i.0 (sign_kind x) token_value.Absent ∷ Tok j.0 k.Integer (token_value.Integer n) ∷ []) ≡ constant.Integer (Some (record { token = i; sign = x })) j n
 signed_read sign.Plus i j n = refl
 signed_read sign.Minus i j n = refl
 
@@ -185,8 +187,8 @@ protecting_read (Some x) None xs bare full = ap (λ z. let w : Protected = recor
 protecting_read None (Some y) xs bare full = ap (λ z. let w : Protected = record { hidden = None; protected = Some y.0; names = z } in w) (names_read xs full.0)
 protecting_read (Some x) (Some y) xs bare full = go (nat_lt x.0 y.0) full
   where
-    go : (b : Bool) → Full (if b then leaf x.0 k.Hidden (node g.AndProtected (leaf y.0 k.Protected done) (node g.Identifiers (ids xs) done)) else leaf y.0 k.Protected (node g.AndHidden (leaf x.0 k.Hidden done) (node g.Identifiers (ids xs) done)))
-        → r.protected_of (items (if b then leaf x.0 k.Hidden (node g.AndProtected (leaf y.0 k.Protected done) (node g.Identifiers (ids xs) done)) else leaf y.0 k.Protected (node g.AndHidden (leaf x.0 k.Hidden done) (node g.Identifiers (ids xs) done))))
+    go : (b : Bool) → Full (if b then bare_leaf x.0 k.Hidden (node g.AndProtected (bare_leaf y.0 k.Protected done) (node g.Identifiers (ids xs) done)) else bare_leaf y.0 k.Protected (node g.AndHidden (bare_leaf x.0 k.Hidden done) (node g.Identifiers (ids xs) done)))
+        → r.protected_of (items (if b then bare_leaf x.0 k.Hidden (node g.AndProtected (bare_leaf y.0 k.Protected done) (node g.Identifiers (ids xs) done)) else bare_leaf y.0 k.Protected (node g.AndHidden (bare_leaf x.0 k.Hidden done) (node g.Identifiers (ids xs) done))))
         ≡ record { hidden = Some x.0; protected = Some y.0; names = xs }
     go true full = ap (λ z. let w : Protected = record { hidden = Some x.0; protected = Some y.0; names = z } in w) (names_read xs full.2.0)
     go false full = ap (λ z. let w : Protected = record { hidden = Some x.0; protected = Some y.0; names = z } in w) (names_read xs full.2.0)
@@ -208,8 +210,8 @@ protections_row (p ∷ ps) f full none =
 virtual_read : (v : VirtualSpecification) → Full (virtual_derivation v) → r.virtual_of (items (virtual_derivation v)) ≡ virtual_syntax v
 virtual_read v = go v.result
   where
-    go : (t : Option TypeName) → Full (typed t (leaf v.token.0 k.Procedure (node g.Identifiers (ids v.names.items) done)))
-        → r.virtual_of (items (typed t (leaf v.token.0 k.Procedure (node g.Identifiers (ids v.names.items) done)))) ≡ record { result = t; token = v.token.0; names = v.names.items }
+    go : (t : Option TypeName) → Full (typed t (bare_leaf v.token.0 k.Procedure (node g.Identifiers (ids v.names.items) done)))
+        → r.virtual_of (items (typed t (bare_leaf v.token.0 k.Procedure (node g.Identifiers (ids v.names.items) done)))) ≡ record { result = t; token = v.token.0; names = v.names.items }
     go None full = ap (λ z. let w : Virtual = record { result = None; token = v.token.0; names = z } in w) (names_read v.names.items full.0)
     go (Some t) full = ap2 (λ x z. let w : Virtual = record { result = Some x; token = v.token.0; names = z } in w) (type_read t) (names_read v.names.items full.2.0)
 
@@ -283,13 +285,13 @@ schedule_read (Some x) full = timing_read x full.1
 -- A left side or a call, and what is assigned.
 items-joined : (f h : Forest) → items (joined f h) ≡ items f ++ items h
 items-joined done h = refl
-items-joined (leaf i kind f) h = ap (λ z. Tok i kind ∷ z) (items-joined f h)
+items-joined (leaf i kind value f) h = ap (λ z. Tok i kind value ∷ z) (items-joined f h)
 items-joined (place i f) h = ap (λ z. r.Place i ∷ z) (items-joined f h)
 items-joined (node n inside f) h = ap (λ z. item_of n (items inside) ∷ z) (items-joined f h)
 
 full_joined : (f h : Forest) → Full (joined f h) → Full f × Full h
 full_joined done h full = (tt, full)
-full_joined (leaf i kind f) h full = full_joined f h full
+full_joined (leaf i kind value f) h full = full_joined f h full
 full_joined (place i f) h full = full_joined f h full
 full_joined (node n inside f) h full = let z = full_joined f h full.2 in ((full.0, full.1, z.0), z.1)
 
@@ -326,8 +328,8 @@ after_appended (Step f ∷ l) m x es is are = ap2 assigned (steps_appended (f (s
 after_appended (y ∷ l) m x es is are = absurd (false≢true is)
 
 pub acted_read : (f rest : Forest) → is_steps (behind (items f)) ≡ true → is_sides (items rest) ≡ true → statement_of (items (acted f rest)) ≡ assigned (value (items f)) (sides (items rest))
-acted_read (node g.Primary (leaf i (k.Identifier name) act) sel) rest is are =
-    let x = named_by i name in
+acted_read (node g.Primary (leaf i k.Identifier held act) sel) rest is are =
+    let x = named_by i (bytes_of held) in
     let last = after_operand (items (joined sel rest)) in
     ap (λ l. last_of no_operand l x (actuals l)) (items-joined act (node g.AfterFirstOperand (joined sel rest) done))
     ∙ ap (λ h. h x (actuals (items act ++ AfterOperand last ∷ []))) (last_appended no_operand (items act) last)
@@ -337,7 +339,7 @@ acted_read (node g.Primary (leaf i (k.Identifier name) act) sel) rest is are =
 acted_read f rest is are = refl
 
 pub acted_full : (f rest : Forest) → Full (acted f rest) → (not (is_bare f) ≡ true) × Full f × Full rest
-acted_full (node g.Primary (leaf i (k.Identifier name) act) sel) rest full =
+acted_full (node g.Primary (leaf i k.Identifier value act) sel) rest full =
     let one = full_joined act (node g.AfterFirstOperand (joined sel rest) done) full in
     let two = full_joined sel rest one.1.1 in
     (refl, (refl, one.0, two.0), two.1)

@@ -1,5 +1,5 @@
 -- The tokens and places of a derivation, and what is kept of them.
-use Rattle.std.proofs.Common.{◌≡◌, ◌≤◌, ◌<◌, ℕ, ◌+◌, List, [], ◌∷◌, ◌++◌, refl, sym, ap, ◌∙◌, subst, arith}
+use Rattle.std.proofs.Common.{◌≡◌, ◌≤◌, ℕ, ◌+◌, List, [], ◌∷◌, ◌++◌, refl, sym, ap, ◌∙◌, subst, arith}
 use Rattle.sim_base.specs.declared.token.Token.{Token as Word}
 use Rattle.sim_tree.specs.Grammar.{Symbol}
 use Rattle.sim_tree.specs.Named.{named}
@@ -12,7 +12,7 @@ use Rattle.sim_tree.proofs.NamedExpressions.{Among, Puts, among-keep, among-none
 -- the tokens and places of a derivation, in front of others
 abbrev pub spots : Forest → List Spot → List Spot
 spots done q = q
-spots (leaf i kind f) q = Token i ∷ spots f q
+spots (leaf i kind value f) q = Token i ∷ spots f q
 spots (place i f) q = Behind i ∷ spots f q
 spots (node n inside f) q = spots inside (spots f q)
 
@@ -50,7 +50,7 @@ both {i = i} {k = k} one two = record { lays = λ r q a. one.lays (i r) (k q) (t
 -- nothing is kept
 pub lays_none : (f : Forest) → Lays (λ r. r) (spots f)
 lays_none done = none
-lays_none (leaf i kind f) = skip (lays_none f)
+lays_none (leaf i kind value f) = skip (lays_none f)
 lays_none (place i f) = skip (lays_none f)
 lays_none (node n inside f) = both (lays_none inside) (lays_none f)
 
@@ -63,7 +63,7 @@ strip (Behind x ∷ l) = strip l
 
 strip-spots : (f : Forest) (q : List Spot) → strip (spots f q) ≡ leaves f (strip q)
 strip-spots done q = refl
-strip-spots (leaf i kind f) q = ap (λ z. i ∷ z) (strip-spots f q)
+strip-spots (leaf i kind value f) q = ap (λ z. i ∷ z) (strip-spots f q)
 strip-spots (place i f) q = strip-spots f q
 strip-spots (node n inside f) q = strip-spots inside (spots f q) ∙ ap (leaves inside) (strip-spots f q)
 
@@ -89,7 +89,7 @@ append-twice (x ∷ a) b c = ap (λ z. x ∷ z) (append-twice a b c)
 
 spots-append : (f : Forest) (q : List Spot) → spots f q ≡ spots f [] ++ q
 spots-append done q = refl
-spots-append (leaf i kind f) q = ap (λ z. Token i ∷ z) (spots-append f q)
+spots-append (leaf i kind value f) q = ap (λ z. Token i ∷ z) (spots-append f q)
 spots-append (place i f) q = ap (λ z. Behind i ∷ z) (spots-append f q)
 spots-append (node n inside f) q =
     spots-append inside (spots f q) ∙ ap (λ z. spots inside [] ++ z) (spots-append f q) ∙ sym (append-twice (spots inside []) (spots f []) q) ∙ ap (λ z. z ++ q) (sym (spots-append inside (spots f [])))

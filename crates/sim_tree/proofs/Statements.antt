@@ -36,7 +36,7 @@ use Rattle.sim_tree.specs.declared.stmt.Variable.{Variable}
 use Rattle.sim_tree.specs.declared.stmt.VirtualSpecification.{VirtualSpecification}
 use Rattle.sim_tree.specs.declared.stmt.When.{When}
 use Rattle.sim_tree.specs.Grammar as g
-use Rattle.sim_tree.specs.Reading.{Forest, done, leaf, place, node}
+use Rattle.sim_tree.specs.Reading.{Forest, done, place, node, bare_leaf}
 use Rattle.sim_tree.specs.Derivation.{derivation_of, row, whole, argument, identifier}
 use Rattle.sim_tree.specs.ProgramDerivation.{Declared, Plain, Prefixed, assigned_derivation, assigning, block_derivation, bounds_derivation, class_derivation, constant_derivation, contents, declaration_derivation, dimensions, for_element_derivation, for_elements, heading_derivation, ids, mode_derivation, next_bounds, next_for_element, next_id, next_reference_element, next_segment, next_statement, next_variable, prefix_derivation, prior_derivation, procedure_derivation, program_derivation, protecting, protection_derivation, reference_element_derivation, reference_elements, segment_derivation, segments_derivation, specification_derivation, specifier_derivation, statements, statement_derivation, type_derivation, typed, value_derivation, variable_derivation, variables_derivation, virtual_derivation, virtuals_derivation, when_derivation}
 use Rattle.sim_tree.specs.Tree.{is_bare, depth_of, IsTree}
@@ -106,7 +106,7 @@ flat_protecting (Some h) None rest = nests_leaf rest
 flat_protecting None (Some p) rest = nests_leaf rest
 flat_protecting (Some h) (Some p) {f} rest = go (nat_lt h.0 p.0)
   where
-    go : (b : Bool) → Nests (if b then leaf h.0 k.Hidden (node g.AndProtected (leaf p.0 k.Protected done) f) else leaf p.0 k.Protected (node g.AndHidden (leaf h.0 k.Hidden done) f)) 0
+    go : (b : Bool) → Nests (if b then bare_leaf h.0 k.Hidden (node g.AndProtected (bare_leaf p.0 k.Protected done) f) else bare_leaf p.0 k.Protected (node g.AndHidden (bare_leaf h.0 k.Hidden done) f)) 0
     go true = nests_leaf (before refl (nests_leaf nests_done) rest)
     go false = nests_leaf (before refl (nests_leaf nests_done) rest)
 

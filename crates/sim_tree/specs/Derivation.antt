@@ -2,6 +2,7 @@
 use Rattle.std.specs.Prelude.{ℕ, ◌+◌, List, [], ◌∷◌, map, Option, Some, None, nat_eq, if◌then◌else◌, zero, suc, slice_index_or}
 use Rattle.sim_base.specs.declared.token.TokenKind.{TokenKind}
 use Rattle.sim_base.specs.declared.token.TokenKind.TheVariants as k
+use Rattle.sim_base.specs.declared.token.TokenValue.TheVariants as token_value
 use Rattle.sim_base.specs.declared.numbering.TokenNo.{TokenNo}
 use Rattle.sim_tree.specs.declared.expr.Identifier.{Identifier}
 use Rattle.sim_tree.specs.declared.expr.Sign.{Sign}
@@ -22,7 +23,7 @@ use Rattle.sim_tree.specs.declared.expr.Selector.{Selector}
 use Rattle.sim_tree.specs.declared.expr.Expr.TheFolds.{fold-Expr, fold-Operand, fold-Term, fold-Factor, fold-Selector}
 use Rattle.sim_tree.specs.Grammar as g
 use Rattle.sim_tree.specs.Grammar.{Part}
-use Rattle.sim_tree.specs.Reading.{Forest, done, leaf, node}
+use Rattle.sim_tree.specs.Reading.{Forest, done, leaf, node, bare_leaf}
 
 -- a derivation, and the level that it is inside of
 pub record Derivation : Type 0 where
@@ -58,7 +59,7 @@ row n [] rest = rest
 row n (f ∷ fs) rest = node n f (row n fs rest)
 
 abbrev pub identifier : Identifier → Forest → Forest
-identifier x rest = leaf x.token.0 (k.Identifier x.name) rest
+identifier x rest = leaf x.token.0 k.Identifier (token_value.Bytes x.name) rest
 
 abbrev pub argument : Derivation → Forest
 argument s = node g.Expression (whole s) done
@@ -96,7 +97,7 @@ pub record Item : Type 0 where
   pub operand : Derivation
 
 abbrev pub item : ℕ → TokenKind → Item → Forest
-item level operator i = leaf i.token operator (node (level_part level) (raise level i.operand) done)
+item level operator i = bare_leaf i.token operator (node (level_part level) (raise level i.operand) done)
 
 -- the level above one, with the one operator that it has
 abbrev pub operated : ℕ → TokenKind → Part → Derivation → List Item → Derivation
@@ -107,7 +108,7 @@ operated level operator many first (i ∷ is) = record {
 }
 
 abbrev pub not_mark : TokenNo → Forest
-not_mark i = leaf i.0 k.Not done
+not_mark i = bare_leaf i.0 k.Not done
 
 abbrev pub negated : List TokenNo → Derivation → Derivation
 negated [] operand = nothing
@@ -117,7 +118,7 @@ abbrev pub summed : Option LeadingSign → Derivation → List Forest → Deriva
 summed None first [] = nothing
 summed None first (f ∷ fs) = record { level = 4; inside = node g.Term (raise 3 first) (row g.NextTerm (f ∷ fs) done) }
 summed (Some s) first fs =
-    record { level = 4; inside = node g.LeadingSign (leaf s.token.0 (sign_kind s.sign) done) (node g.Term (raise 3 first) (row g.NextTerm fs done)) }
+    record { level = 4; inside = node g.LeadingSign (bare_leaf s.token.0 (sign_kind s.sign) done) (node g.Term (raise 3 first) (row g.NextTerm fs done)) }
 
 abbrev pub multiplied : Derivation → List Forest → Derivation
 multiplied first [] = nothing
@@ -131,19 +132,19 @@ abbrev pub operand_layer : Operand-F Derivation Forest Forest Item Forest → It
 operand_layer o = record { token = o.token.0; operand = o.operand }
 
 abbrev pub term_layer : Term-F Derivation Forest Forest Item Forest → Forest
-term_layer x = leaf x.token.0 (sign_kind x.sign) (node g.Term (raise 3 x.term) done)
+term_layer x = bare_leaf x.token.0 (sign_kind x.sign) (node g.Term (raise 3 x.term) done)
 
 abbrev pub factor_layer : Factor-F Derivation Forest Forest Item Forest → Forest
-factor_layer x = leaf x.token.0 (multiplication_kind x.operator) (node g.Factor (raise 2 x.factor) done)
+factor_layer x = bare_leaf x.token.0 (multiplication_kind x.operator) (node g.Factor (raise 2 x.factor) done)
 
 abbrev pub selector_layer : Selector-F Derivation Forest Forest Item Forest → Forest
-selector_layer (Selector-F.Dot i name args) = leaf i.0 k.Dot (identifier name (arguments args.items done))
-selector_layer (Selector-F.Qua i class) = leaf i.0 k.Qua (identifier class done)
+selector_layer (Selector-F.Dot i name args) = bare_leaf i.0 k.Dot (identifier name (arguments args.items done))
+selector_layer (Selector-F.Qua i class) = bare_leaf i.0 k.Qua (identifier class done)
 
 abbrev pub expr_layer : Expr-F Derivation Forest Forest Item Forest → Derivation
 expr_layer (Expr-F.If i condition first second) = record {
   level = 14;
-  inside = leaf i.0 k.If (node g.Expression (whole condition.value) (node g.SimpleExpression (raise 13 first.value) (node g.Expression (whole second.value) done)));
+  inside = bare_leaf i.0 k.If (node g.Expression (whole condition.value) (node g.SimpleExpression (raise 13 first.value) (node g.Expression (whole second.value) done)));
 }
 expr_layer (Expr-F.OrElse first rest) = operated 12 k.OrElse g.NextOrElse first.value rest.items
 expr_layer (Expr-F.AndThen first rest) = operated 11 k.AndThen g.NextAndThen first.value rest.items
@@ -154,28 +155,28 @@ expr_layer (Expr-F.And first rest) = operated 7 k.And g.NextAnd first.value rest
 expr_layer (Expr-F.Not tokens operand) = negated tokens.items operand.value
 expr_layer (Expr-F.Related left i relation right) = record {
   level = 6;
-  inside = node g.Concatenation (raise 5 left.value) (node g.RelationTail (leaf i.0 (relation_kind relation) (node g.Concatenation (raise 5 right.value) done)) done);
+  inside = node g.Concatenation (raise 5 left.value) (node g.RelationTail (bare_leaf i.0 (relation_kind relation) (node g.Concatenation (raise 5 right.value) done)) done);
 }
 expr_layer (Expr-F.Member object i membership class) = record {
   level = 6;
-  inside = node g.Concatenation (raise 5 object.value) (node g.RelationTail (leaf i.0 (membership_kind membership) (identifier class done)) done);
+  inside = node g.Concatenation (raise 5 object.value) (node g.RelationTail (bare_leaf i.0 (membership_kind membership) (identifier class done)) done);
 }
 expr_layer (Expr-F.Concatenation first rest) = operated 4 k.Ampersand g.NextConcatenated first.value rest.items
 expr_layer (Expr-F.Sum sign first rest) = summed sign first.value rest.items
 expr_layer (Expr-F.Product first rest) = multiplied first.value rest.items
 expr_layer (Expr-F.Power first rest) = operated 1 k.Power g.NextPower first.value rest.items
 expr_layer (Expr-F.Postfix primary rest) = selected primary.value rest.items
-expr_layer (Expr-F.Integer i value) = record { level = 0; inside = leaf i.0 (k.Integer value) done }
-expr_layer (Expr-F.Character i value) = record { level = 0; inside = leaf i.0 (k.Character value) done }
-expr_layer (Expr-F.Text i value) = record { level = 0; inside = leaf i.0 (k.Text value) done }
-expr_layer (Expr-F.True i) = record { level = 0; inside = leaf i.0 k.True done }
-expr_layer (Expr-F.False i) = record { level = 0; inside = leaf i.0 k.False done }
-expr_layer (Expr-F.NoObject i) = record { level = 0; inside = leaf i.0 k.None done }
-expr_layer (Expr-F.Notext i) = record { level = 0; inside = leaf i.0 k.Notext done }
+expr_layer (Expr-F.Integer i value) = record { level = 0; inside = leaf i.0 k.Integer (token_value.Integer value) done }
+expr_layer (Expr-F.Character i value) = record { level = 0; inside = leaf i.0 k.Character (token_value.Character value) done }
+expr_layer (Expr-F.Text i value) = record { level = 0; inside = leaf i.0 k.Text (token_value.Bytes value) done }
+expr_layer (Expr-F.True i) = record { level = 0; inside = bare_leaf i.0 k.True done }
+expr_layer (Expr-F.False i) = record { level = 0; inside = bare_leaf i.0 k.False done }
+expr_layer (Expr-F.NoObject i) = record { level = 0; inside = bare_leaf i.0 k.None done }
+expr_layer (Expr-F.Notext i) = record { level = 0; inside = bare_leaf i.0 k.Notext done }
 expr_layer (Expr-F.Named name args) = record { level = 0; inside = identifier name (arguments args.items done) }
-expr_layer (Expr-F.This i class) = record { level = 0; inside = leaf i.0 k.This (identifier class done) }
-expr_layer (Expr-F.New i class args) = record { level = 0; inside = leaf i.0 k.New (identifier class (arguments args.items done)) }
-expr_layer (Expr-F.Parentheses i inner) = record { level = 0; inside = leaf i.0 k.Open (node g.Expression (whole inner.value) done) }
+expr_layer (Expr-F.This i class) = record { level = 0; inside = bare_leaf i.0 k.This (identifier class done) }
+expr_layer (Expr-F.New i class args) = record { level = 0; inside = bare_leaf i.0 k.New (identifier class (arguments args.items done)) }
+expr_layer (Expr-F.Parentheses i inner) = record { level = 0; inside = bare_leaf i.0 k.Open (node g.Expression (whole inner.value) done) }
 
 abbrev pub derivation_of : Expr → Derivation
 derivation_of = fold-Expr Derivation Forest Forest Item Forest expr_layer selector_layer factor_layer operand_layer term_layer

@@ -5,7 +5,6 @@ pub mod Nesting
 pub mod Reading
 pub mod Derivation
 pub mod ProgramDerivation
-pub mod Terminal
 pub mod Tree
 pub mod Syntax
 pub mod SyntaxOf

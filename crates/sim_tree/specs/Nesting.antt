@@ -21,14 +21,14 @@ has_token g.Heading f = true
 has_token g.AfterFirstOperand f = true
 has_token g.Statement done = false
 has_token g.Statement f = true
-has_token g.ForList (leaf i kind f) = not (is_bare f)
+has_token g.ForList (leaf i kind value f) = not (is_bare f)
 has_token g.ForList f = false
 has_token _ f = not (is_bare f)
 
 -- no part of a derivation lacks its token
 abbrev pub is_full : Forest → Bool
 is_full done = true
-is_full (leaf i kind f) = is_full f
+is_full (leaf i kind value f) = is_full f
 is_full (place i f) = is_full f
 is_full (node n inside f) = has_token n inside && is_full inside && is_full f
 

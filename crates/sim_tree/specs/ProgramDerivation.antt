@@ -3,6 +3,7 @@ use Rattle.std.specs.Prelude.{ℕ, List, [], ◌∷◌, map, Option, Some, None,
 use Rattle.sim_base.specs.declared.numbering.TokenNo.{TokenNo}
 use Rattle.sim_base.specs.declared.token.TokenKind.{TokenKind}
 use Rattle.sim_base.specs.declared.token.TokenKind.TheVariants as k
+use Rattle.sim_base.specs.declared.token.TokenValue.TheVariants as token_value
 use Rattle.sim_tree.specs.declared.expr.Expr.{Expr}
 use Rattle.sim_tree.specs.declared.expr.Identifier.{Identifier}
 use Rattle.sim_tree.specs.declared.program.BlockPrefix.{BlockPrefix}
@@ -42,13 +43,13 @@ use Rattle.sim_tree.specs.declared.stmt.Variable.{Variable}
 use Rattle.sim_tree.specs.declared.stmt.VirtualSpecification.{VirtualSpecification}
 use Rattle.sim_tree.specs.declared.stmt.When.{When}
 use Rattle.sim_tree.specs.Grammar as g
-use Rattle.sim_tree.specs.Reading.{Forest, done, leaf, place, node}
+use Rattle.sim_tree.specs.Reading.{Forest, done, leaf, place, node, bare_leaf}
 use Rattle.sim_tree.specs.Derivation.{derivation_of, raise, expression, row, identifier, arguments, sign_kind}
 
 -- one derivation in a row after the other
 abbrev pub joined : Forest → Forest → Forest
 joined done rest = rest
-joined (leaf i kind f) rest = leaf i kind (joined f rest)
+joined (leaf i kind value f) rest = leaf i kind value (joined f rest)
 joined (place i f) rest = place i (joined f rest)
 joined (node n inside f) rest = node n inside (joined f rest)
 
@@ -65,11 +66,11 @@ ids (x ∷ xs) = identifier x (row g.NextIdentifier (map next_id xs) done)
 
 -- Types and constants.
 abbrev pub type_derivation : TypeName → Forest
-type_derivation (type_name.Integer i) = leaf i.0 k.IntegerWord done
-type_derivation (type_name.Boolean i) = leaf i.0 k.Boolean done
-type_derivation (type_name.Character i) = leaf i.0 k.CharacterWord done
-type_derivation (type_name.Text i) = leaf i.0 k.TextWord done
-type_derivation (type_name.Reference i class) = leaf i.0 k.Ref (identifier class done)
+type_derivation (type_name.Integer i) = bare_leaf i.0 k.IntegerWord done
+type_derivation (type_name.Boolean i) = bare_leaf i.0 k.Boolean done
+type_derivation (type_name.Character i) = bare_leaf i.0 k.CharacterWord done
+type_derivation (type_name.Text i) = bare_leaf i.0 k.TextWord done
+type_derivation (type_name.Reference i class) = bare_leaf i.0 k.Ref (identifier class done)
 
 -- a type, where one is written, and what stands behind it
 abbrev pub typed : Option TypeName → Forest → Forest
@@ -77,12 +78,12 @@ typed None rest = rest
 typed (Some t) rest = node g.TypeName (type_derivation t) rest
 
 abbrev pub constant_derivation : Constant → Forest
-constant_derivation (constant.Integer None i value) = leaf i.0 (k.Integer value) done
-constant_derivation (constant.Integer (Some s) i value) = leaf s.token.0 (sign_kind s.sign) (leaf i.0 (k.Integer value) done)
-constant_derivation (constant.Character i value) = leaf i.0 (k.Character value) done
-constant_derivation (constant.Text i value) = leaf i.0 (k.Text value) done
-constant_derivation (constant.True i) = leaf i.0 k.True done
-constant_derivation (constant.False i) = leaf i.0 k.False done
+constant_derivation (constant.Integer None i value) = leaf i.0 k.Integer (token_value.Integer value) done
+constant_derivation (constant.Integer (Some s) i value) = bare_leaf s.token.0 (sign_kind s.sign) (leaf i.0 k.Integer (token_value.Integer value) done)
+constant_derivation (constant.Character i value) = leaf i.0 k.Character (token_value.Character value) done
+constant_derivation (constant.Text i value) = leaf i.0 k.Text (token_value.Bytes value) done
+constant_derivation (constant.True i) = bare_leaf i.0 k.True done
+constant_derivation (constant.False i) = bare_leaf i.0 k.False done
 
 abbrev pub value_derivation : Option Constant → Forest
 value_derivation None = done
@@ -125,13 +126,13 @@ mode_kind mode.Value = k.Value
 mode_kind mode.Name = k.Name
 
 abbrev pub mode_derivation : ModePart → Forest
-mode_derivation m = leaf m.token.0 (mode_kind m.mode) (node g.Identifiers (ids m.names.items) done)
+mode_derivation m = bare_leaf m.token.0 (mode_kind m.mode) (node g.Identifiers (ids m.names.items) done)
 
 abbrev pub specifier_derivation : Specifier → Forest → Forest
 specifier_derivation (specifier.Simple t) rest = node g.TypeName (type_derivation t) rest
-specifier_derivation (specifier.Array t i) rest = node g.TypeName (type_derivation t) (node g.SpecifiedKind (leaf i.0 k.Array done) rest)
-specifier_derivation (specifier.Procedure None i) rest = leaf i.0 k.Procedure rest
-specifier_derivation (specifier.Procedure (Some t) i) rest = node g.TypeName (type_derivation t) (node g.SpecifiedKind (leaf i.0 k.Procedure done) rest)
+specifier_derivation (specifier.Array t i) rest = node g.TypeName (type_derivation t) (node g.SpecifiedKind (bare_leaf i.0 k.Array done) rest)
+specifier_derivation (specifier.Procedure None i) rest = bare_leaf i.0 k.Procedure rest
+specifier_derivation (specifier.Procedure (Some t) i) rest = node g.TypeName (type_derivation t) (node g.SpecifiedKind (bare_leaf i.0 k.Procedure done) rest)
 
 abbrev pub specification_derivation : Specification → Forest
 specification_derivation s = specifier_derivation s.specifier (node g.Identifiers (ids s.names.items) done)
@@ -143,18 +144,18 @@ heading_derivation ps ms ss = node g.Identifiers (ids ps) (row g.Mode (map mode_
 -- Protection and virtual procedures.
 abbrev pub protecting : Option TokenNo → Option TokenNo → Forest → Forest
 protecting None None rest = done
-protecting (Some h) None rest = leaf h.0 k.Hidden rest
-protecting None (Some p) rest = leaf p.0 k.Protected rest
+protecting (Some h) None rest = bare_leaf h.0 k.Hidden rest
+protecting None (Some p) rest = bare_leaf p.0 k.Protected rest
 protecting (Some h) (Some p) rest =
     if nat_lt h.0 p.0
-    then leaf h.0 k.Hidden (node g.AndProtected (leaf p.0 k.Protected done) rest)
-    else leaf p.0 k.Protected (node g.AndHidden (leaf h.0 k.Hidden done) rest)
+    then bare_leaf h.0 k.Hidden (node g.AndProtected (bare_leaf p.0 k.Protected done) rest)
+    else bare_leaf p.0 k.Protected (node g.AndHidden (bare_leaf h.0 k.Hidden done) rest)
 
 abbrev pub protection_derivation : Protection → Forest
 protection_derivation p = protecting p.hidden p.protected (node g.Identifiers (ids p.names.items) done)
 
 abbrev pub virtual_derivation : VirtualSpecification → Forest
-virtual_derivation v = typed v.result (leaf v.token.0 k.Procedure (node g.Identifiers (ids v.names.items) done))
+virtual_derivation v = typed v.result (bare_leaf v.token.0 k.Procedure (node g.Identifiers (ids v.names.items) done))
 
 abbrev pub virtuals_derivation : List VirtualSpecification → Forest → Forest
 virtuals_derivation [] rest = rest
@@ -166,12 +167,12 @@ assignment_kind assignment.Value = k.Assign
 assignment_kind assignment.Reference = k.AssignReference
 
 abbrev pub assigned_derivation : Assigned → Forest
-assigned_derivation a = leaf a.token.0 (assignment_kind a.sign) (expr a.value done)
+assigned_derivation a = bare_leaf a.token.0 (assignment_kind a.sign) (expr a.value done)
 
 -- A left side or a call, and what is assigned. Where an identifier begins it, that and its actuals are taken first.
 abbrev pub acted : Forest → Forest → Forest
-acted (node g.Primary (leaf i (k.Identifier name) actuals) selected) rest =
-    leaf i (k.Identifier name) (joined actuals (node g.AfterFirstOperand (joined selected rest) done))
+acted (node g.Primary (leaf i k.Identifier value actuals) selected) rest =
+    leaf i k.Identifier value (joined actuals (node g.AfterFirstOperand (joined selected rest) done))
 acted f rest = node g.Postfix f rest
 
 abbrev pub assigning : Expr → List Assigned → Forest
@@ -180,8 +181,8 @@ assigning left (a ∷ others) = acted (raise 1 (derivation_of left)) (row g.Assi
 
 abbrev pub for_element_derivation : ForElement → Forest
 for_element_derivation (for_element.Value value) = expr value done
-for_element_derivation (for_element.Step start i step limit) = expr start (node g.ForElementTail (leaf i.0 k.Step (expr step (expr limit done))) done)
-for_element_derivation (for_element.While value i condition) = expr value (node g.ForElementTail (leaf i.0 k.While (expr condition done)) done)
+for_element_derivation (for_element.Step start i step limit) = expr start (node g.ForElementTail (bare_leaf i.0 k.Step (expr step (expr limit done))) done)
+for_element_derivation (for_element.While value i condition) = expr value (node g.ForElementTail (bare_leaf i.0 k.While (expr condition done)) done)
 
 abbrev pub next_for_element : ForElement → Forest
 next_for_element e = node g.ForElement (for_element_derivation e) done
@@ -192,7 +193,7 @@ for_elements (e ∷ es) = node g.ForElement (for_element_derivation e) (row g.Ne
 
 abbrev pub reference_element_derivation : ReferenceElement → Forest
 reference_element_derivation (reference_element.Value value) = expr value done
-reference_element_derivation (reference_element.While value i condition) = expr value (node g.ReferenceElementTail (leaf i.0 k.While (expr condition done)) done)
+reference_element_derivation (reference_element.While value i condition) = expr value (node g.ReferenceElementTail (bare_leaf i.0 k.While (expr condition done)) done)
 
 abbrev pub next_reference_element : ReferenceElement → Forest
 next_reference_element e = node g.ReferenceElement (reference_element_derivation e) done
@@ -207,13 +208,13 @@ activation_kind activation.Reactivate = k.Reactivate
 
 abbrev pub prior_derivation : Option TokenNo → Forest
 prior_derivation None = done
-prior_derivation (Some i) = node g.PriorMark (leaf i.0 k.Prior done) done
+prior_derivation (Some i) = node g.PriorMark (bare_leaf i.0 k.Prior done) done
 
 abbrev pub timing_inside : Timing → Forest
-timing_inside (timing.At i time prior) = leaf i.0 k.At (expr time (prior_derivation prior))
-timing_inside (timing.Delay i time prior) = leaf i.0 k.Delay (expr time (prior_derivation prior))
-timing_inside (timing.Before i process) = leaf i.0 k.Before (expr process done)
-timing_inside (timing.After i process) = leaf i.0 k.After (expr process done)
+timing_inside (timing.At i time prior) = bare_leaf i.0 k.At (expr time (prior_derivation prior))
+timing_inside (timing.Delay i time prior) = bare_leaf i.0 k.Delay (expr time (prior_derivation prior))
+timing_inside (timing.Before i process) = bare_leaf i.0 k.Before (expr process done)
+timing_inside (timing.After i process) = bare_leaf i.0 k.After (expr process done)
 
 abbrev pub timing_derivation : Option Timing → Forest
 timing_derivation None = done
@@ -233,21 +234,21 @@ next_statement f = node g.Statement f done
 
 -- The statements of a block and its `end`. Where an identifier begins the first one, it is taken before it.
 abbrev pub begun : Forest → Forest → Forest
-begun (leaf i (k.Identifier name) f) rest = leaf i (k.Identifier name) (node g.AfterIdentifier (node g.StatementOfIdentifier f rest) done)
+begun (leaf i k.Identifier value f) rest = leaf i k.Identifier value (node g.AfterIdentifier (node g.StatementOfIdentifier f rest) done)
 begun f rest = node g.Statement f rest
 
 abbrev pub statements : List Forest → ℕ → Forest
-statements [] end = leaf end k.End done
-statements (f ∷ fs) end = begun f (row g.NextStatement (map next_statement fs) (leaf end k.End done))
+statements [] end = bare_leaf end k.End done
+statements (f ∷ fs) end = begun f (row g.NextStatement (map next_statement fs) (bare_leaf end k.End done))
 
 abbrev pub contents : List Declared → List Forest → ℕ → Forest
 contents [] fs end = statements fs end
 contents (Plain f ∷ ds) fs end = node g.Declaration f (node g.AfterDeclaration done (node g.Block (contents ds fs end) done))
 contents (Prefixed x i f ∷ ds) fs end =
-    identifier x (node g.AfterIdentifier (leaf i k.Class (node g.Class f (node g.AfterDeclaration done (node g.Block (contents ds fs end) done)))) done)
+    identifier x (node g.AfterIdentifier (bare_leaf i k.Class (node g.Class f (node g.AfterDeclaration done (node g.Block (contents ds fs end) done)))) done)
 
 abbrev pub block_layer : Block-F Declared Forest Forest Forest Forest Forest → Forest
-block_layer b = leaf b.token.0 k.Begin (node g.Block (contents b.declarations.items b.statements.items b.end.0) done)
+block_layer b = bare_leaf b.token.0 k.Begin (node g.Block (contents b.declarations.items b.statements.items b.end.0) done)
 
 abbrev pub procedure_layer : Procedure-F Declared Forest Forest Forest Forest Forest → Forest
 procedure_layer p =
@@ -259,39 +260,39 @@ class_layer c =
     (row g.Protection (map protection_derivation c.protections.items) (virtuals_derivation c.virtuals.items (node g.Statement c.body.value (place c.end.0 done)))))
 
 abbrev pub when_layer : When-F Declared Forest Forest Forest Forest Forest → Forest
-when_layer w = leaf w.token.0 k.When (identifier w.class (leaf w.opening.0 k.Do (node g.Statement w.body (place w.end.0 done))))
+when_layer w = bare_leaf w.token.0 k.When (identifier w.class (bare_leaf w.opening.0 k.Do (node g.Statement w.body (place w.end.0 done))))
 
 abbrev pub decl_layer : Decl-F Declared Forest Forest Forest Forest Forest → Declared
 decl_layer (Decl-F.Variables t vs) = Plain (node g.TypeName (type_derivation t) (node g.TypedDeclaration (variables_derivation vs.items) done))
-decl_layer (Decl-F.Arrays t i ss) = Plain (node g.TypeName (type_derivation t) (node g.TypedDeclaration (leaf i.0 k.Array (segments_derivation ss.items)) done))
-decl_layer (Decl-F.Procedure None i p) = Plain (leaf i.0 k.Procedure (node g.Procedure p done))
-decl_layer (Decl-F.Procedure (Some t) i p) = Plain (node g.TypeName (type_derivation t) (node g.TypedDeclaration (leaf i.0 k.Procedure (node g.Procedure p done)) done))
-decl_layer (Decl-F.Class None i c) = Plain (leaf i.0 k.Class (node g.Class c done))
+decl_layer (Decl-F.Arrays t i ss) = Plain (node g.TypeName (type_derivation t) (node g.TypedDeclaration (bare_leaf i.0 k.Array (segments_derivation ss.items)) done))
+decl_layer (Decl-F.Procedure None i p) = Plain (bare_leaf i.0 k.Procedure (node g.Procedure p done))
+decl_layer (Decl-F.Procedure (Some t) i p) = Plain (node g.TypeName (type_derivation t) (node g.TypedDeclaration (bare_leaf i.0 k.Procedure (node g.Procedure p done)) done))
+decl_layer (Decl-F.Class None i c) = Plain (bare_leaf i.0 k.Class (node g.Class c done))
 decl_layer (Decl-F.Class (Some x) i c) = Prefixed x i.0 c
 
 abbrev pub stmt_layer : Stmt-F Declared Forest Forest Forest Forest Forest → Forest
 stmt_layer (Stmt-F.Empty i) = place i.0 done
 stmt_layer (Stmt-F.Block b) = node g.Compound b done
 stmt_layer (Stmt-F.PrefixedBlock p b) = prefix_derivation p (node g.AfterFirstOperand (node g.Compound b done) done)
-stmt_layer (Stmt-F.Inner i) = leaf i.0 k.Inner done
+stmt_layer (Stmt-F.Inner i) = bare_leaf i.0 k.Inner done
 stmt_layer (Stmt-F.Call e) = acted (raise 1 (derivation_of e)) done
 stmt_layer (Stmt-F.Assignment left rest) = assigning left rest.items
-stmt_layer (Stmt-F.If i condition first None) = leaf i.0 k.If (expr condition (node g.Statement first.value done))
+stmt_layer (Stmt-F.If i condition first None) = bare_leaf i.0 k.If (expr condition (node g.Statement first.value done))
 stmt_layer (Stmt-F.If i condition first (Some second)) =
-    leaf i.0 k.If (expr condition (node g.Statement first.value (node g.ElseBranch (node g.Statement second.value done) done)))
-stmt_layer (Stmt-F.While i condition body) = leaf i.0 k.While (expr condition (node g.Statement body.value done))
+    bare_leaf i.0 k.If (expr condition (node g.Statement first.value (node g.ElseBranch (node g.Statement second.value done) done)))
+stmt_layer (Stmt-F.While i condition body) = bare_leaf i.0 k.While (expr condition (node g.Statement body.value done))
 stmt_layer (Stmt-F.For i x s elements body) =
-    leaf i.0 k.For (identifier x (node g.ForList (leaf s.0 k.Assign (for_elements elements.items)) (node g.Statement body.value done)))
+    bare_leaf i.0 k.For (identifier x (node g.ForList (bare_leaf s.0 k.Assign (for_elements elements.items)) (node g.Statement body.value done)))
 stmt_layer (Stmt-F.ForReference i x s elements body) =
-    leaf i.0 k.For (identifier x (node g.ForList (leaf s.0 k.AssignReference (reference_elements elements.items)) (node g.Statement body.value done)))
+    bare_leaf i.0 k.For (identifier x (node g.ForList (bare_leaf s.0 k.AssignReference (reference_elements elements.items)) (node g.Statement body.value done)))
 stmt_layer (Stmt-F.Inspect i object opening body end None) =
-    leaf i.0 k.Inspect (expr object (node g.Arms (leaf opening.0 k.Do (node g.Statement body.value (place end.0 done))) done))
+    bare_leaf i.0 k.Inspect (expr object (node g.Arms (bare_leaf opening.0 k.Do (node g.Statement body.value (place end.0 done))) done))
 stmt_layer (Stmt-F.Inspect i object opening body end (Some otherwise)) =
-    leaf i.0 k.Inspect (expr object (node g.Arms (leaf opening.0 k.Do (node g.Statement body.value (place end.0 done))) (node g.OtherwiseBranch (node g.Statement otherwise.value done) done)))
-stmt_layer (Stmt-F.InspectWhen i object arms None) = leaf i.0 k.Inspect (expr object (node g.Arms (row g.WhenArm arms.items done) done))
+    bare_leaf i.0 k.Inspect (expr object (node g.Arms (bare_leaf opening.0 k.Do (node g.Statement body.value (place end.0 done))) (node g.OtherwiseBranch (node g.Statement otherwise.value done) done)))
+stmt_layer (Stmt-F.InspectWhen i object arms None) = bare_leaf i.0 k.Inspect (expr object (node g.Arms (row g.WhenArm arms.items done) done))
 stmt_layer (Stmt-F.InspectWhen i object arms (Some otherwise)) =
-    leaf i.0 k.Inspect (expr object (node g.Arms (row g.WhenArm arms.items done) (node g.OtherwiseBranch (node g.Statement otherwise.value done) done)))
-stmt_layer (Stmt-F.Activation i word process time) = leaf i.0 (activation_kind word) (expr process (timing_derivation time))
+    bare_leaf i.0 k.Inspect (expr object (node g.Arms (row g.WhenArm arms.items done) (node g.OtherwiseBranch (node g.Statement otherwise.value done) done)))
+stmt_layer (Stmt-F.Activation i word process time) = bare_leaf i.0 (activation_kind word) (expr process (timing_derivation time))
 
 abbrev pub statement_derivation : Stmt → Forest
 statement_derivation = fold-Stmt Declared Forest Forest Forest Forest Forest decl_layer stmt_layer block_layer class_layer procedure_layer when_layer

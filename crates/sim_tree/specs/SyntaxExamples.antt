@@ -1,7 +1,8 @@
 -- The abstract syntax of small sources. Tokens are numbered from 0.
 use Rattle.std.specs.Prelude.{◌≡◌, ℕ, List, [], ◌∷◌, Some, None}
-use Rattle.sim_base.specs.declared.token.TokenKind.{TokenKind}
+use Rattle.sim_base.specs.declared.token.Lexeme.{Lexeme}
 use Rattle.sim_base.specs.declared.token.TokenKind.TheVariants as k
+use Rattle.sim_base.specs.Lexeme.{bare, character}
 use Rattle.sim_tree.specs.declared.expr.Identifier.{Identifier}
 use Rattle.sim_tree.specs.declared.expr.Sign.TheVariants as sign
 use Rattle.sim_tree.specs.declared.expr.Multiplication.TheVariants as multiplication
@@ -17,11 +18,11 @@ use Rattle.sim_tree.specs.Syntax.{Expression, Statements, Declarations, Program}
 use Rattle.sim_tree.specs.SyntaxOfProgram.{program_syntax}
 use Rattle.sim_tree.specs.Tree.{IsTree}
 
--- a source of these kinds is a program, and each tree of it has this syntax
-pub record HasSyntax (kinds : List TokenKind) (program : Program) : Type 0 where
+-- a source of these lexemes is a program, and each tree of it has this syntax
+pub record HasSyntax (lexemes : List Lexeme) (program : Program) : Type 0 where
   pub derivation : Forest
-  pub is_program : IsProgram kinds derivation
-  pub syntax : (tree : Tree) → IsTree (source kinds) tree → program_syntax tree ≡ program
+  pub is_program : IsProgram lexemes derivation
+  pub syntax : (tree : Tree) → IsTree (source lexemes) tree → program_syntax tree ≡ program
 
 -- x and y, as occurrences and as expressions
 abbrev pub x_at : ℕ → Identifier
@@ -41,8 +42,8 @@ abbrev only : s.Statement → ℕ → Program
 only statement end = record { prefix = None; block = s.Begin 0 s.NoDeclaration (s.Also statement s.NoStatement) end }
 
 -- begin x := - x * y + y - x end: the sign belongs to the whole first term, and sums are taken from the left.
-abbrev pub sum_source : List TokenKind
-sum_source = k.Begin ∷ x ∷ k.Assign ∷ k.Minus ∷ x ∷ k.Times ∷ y ∷ k.Plus ∷ y ∷ k.Minus ∷ x ∷ k.End ∷ []
+abbrev pub sum_source : List Lexeme
+sum_source = bare k.Begin ∷ x ∷ bare k.Assign ∷ bare k.Minus ∷ x ∷ bare k.Times ∷ y ∷ bare k.Plus ∷ y ∷ bare k.Minus ∷ x ∷ bare k.End ∷ []
 
 abbrev pub sum_syntax : Program
 sum_syntax =
@@ -52,8 +53,8 @@ sum_syntax =
     only (s.Assign (x_alone 1) (record { sign = assignment.Value; token = 2; value = value } ∷ [])) 11
 
 -- begin x := y := 'x' end: the first left side, then each sign with what stands on its right.
-abbrev pub chain_source : List TokenKind
-chain_source = k.Begin ∷ x ∷ k.Assign ∷ y ∷ k.Assign ∷ k.Character 120 ∷ k.End ∷ []
+abbrev pub chain_source : List Lexeme
+chain_source = bare k.Begin ∷ x ∷ bare k.Assign ∷ y ∷ bare k.Assign ∷ character 120 ∷ bare k.End ∷ []
 
 abbrev pub chain_syntax : Program
 chain_syntax =
@@ -61,10 +62,10 @@ chain_syntax =
     only (s.Assign (x_alone 1) (record { sign = assignment.Value; token = 2; value = y_alone 3 } ∷ record { sign = assignment.Value; token = 4; value = last } ∷ [])) 6
 
 -- begin integer procedure x(y); value y; integer y; x := y; end: the body ends in front of token 17.
-abbrev pub procedure_source : List TokenKind
+abbrev pub procedure_source : List Lexeme
 procedure_source =
-    k.Begin ∷ k.IntegerWord ∷ k.Procedure ∷ x ∷ k.Open ∷ y ∷ k.Close ∷ k.Semicolon ∷ k.Value ∷ y ∷ k.Semicolon ∷ k.IntegerWord ∷ y ∷ k.Semicolon
-    ∷ x ∷ k.Assign ∷ y ∷ k.Semicolon ∷ k.End ∷ []
+    bare k.Begin ∷ bare k.IntegerWord ∷ bare k.Procedure ∷ x ∷ bare k.Open ∷ y ∷ bare k.Close ∷ bare k.Semicolon ∷ bare k.Value ∷ y ∷ bare k.Semicolon ∷ bare k.IntegerWord ∷ y ∷ bare k.Semicolon
+    ∷ x ∷ bare k.Assign ∷ y ∷ bare k.Semicolon ∷ bare k.End ∷ []
 
 abbrev pub procedure_syntax : Program
 procedure_syntax =
@@ -79,15 +80,15 @@ procedure_syntax =
     record { prefix = None; block = s.Begin 0 (s.With declaration s.NoDeclaration) s.NoStatement 18 }
 
 -- begin inspect x when y do y otherwise x end: the connection is what stands between tokens 5 and 7.
-abbrev pub connection_source : List TokenKind
-connection_source = k.Begin ∷ k.Inspect ∷ x ∷ k.When ∷ y ∷ k.Do ∷ y ∷ k.Otherwise ∷ x ∷ k.End ∷ []
+abbrev pub connection_source : List Lexeme
+connection_source = bare k.Begin ∷ bare k.Inspect ∷ x ∷ bare k.When ∷ y ∷ bare k.Do ∷ y ∷ bare k.Otherwise ∷ x ∷ bare k.End ∷ []
 
 abbrev pub connection_syntax : Program
 connection_syntax = only (s.InspectWhen 1 (x_alone 2) (s.When 3 (y_at 4) 5 (s.Call (y_alone 6)) 7 s.NoArm) (s.Also (s.Call (x_alone 8)) s.NoStatement)) 9
 
 -- x (y) begin end: a program with a prefix.
-abbrev pub prefixed_source : List TokenKind
-prefixed_source = x ∷ k.Open ∷ y ∷ k.Close ∷ k.Begin ∷ k.End ∷ []
+abbrev pub prefixed_source : List Lexeme
+prefixed_source = x ∷ bare k.Open ∷ y ∷ bare k.Close ∷ bare k.Begin ∷ bare k.End ∷ []
 
 abbrev pub prefixed_syntax : Program
 prefixed_syntax = record { prefix = Some (record { class = x_at 0; arguments = s.Then (y_alone 2) s.NoMore }); block = s.Begin 4 s.NoDeclaration s.NoStatement 5 }

@@ -4,15 +4,16 @@ ghost use Rattle.std.specs.List.{Contains};
 ghost use Rattle.std.specs.Prelude.{List, [], ◌∷◌, length, ℕ, ◌≡◌, ◌≤◌, ◌<◌, ◌+◌};
 ghost use Rattle.sim_base.specs.declared.token.TokenKind.TheVariants as k;
 ghost use Rattle.sim_base.specs.declared.token.Token.{Token};
+ghost use Rattle.sim_base.specs.Lexeme.{bare};
 ghost use Rattle.sim_tree.specs.declared.program.Program.{Program as Tree};
 ghost use Rattle.sim_tree.specs.Grammar.{Part, Symbol};
 ghost use Rattle.sim_tree.specs.Grammar as g;
 ghost use Rattle.sim_tree.specs.Filled.{Filled};
 ghost use Rattle.sim_tree.specs.Ends.{EndsBehind};
-ghost use Rattle.sim_tree.specs.Examples.{IsProgram, IsBadAt, IsDeepAt, x, y, operand, call, block, end};
+ghost use Rattle.sim_tree.specs.Examples.{IsProgram, IsBadAt, IsDeepAt, x, y, keep, operand, call, block, end};
 ghost use Rattle.sim_tree.specs.Named.{named, named_tokens, IsAscending};
 ghost use Rattle.sim_tree.specs.Order.{AllBelow, InOrder, in_block};
-ghost use Rattle.sim_tree.specs.Reading.{done, leaf, node, place, Fails, Fault, Forest, Reads, TooDeep, Unexpected};
+ghost use Rattle.sim_tree.specs.Reading.{done, node, place, Fails, Fault, Forest, Reads, TooDeep, Unexpected, bare_leaf};
 ghost use Rattle.sim_tree.specs.Claim.{Begins, IsFirstBad, SameBelow, one};
 ghost use Rattle.sim_tree.specs.Derivation.{expression};
 ghost use Rattle.sim_tree.specs.ProgramDerivation.{program_derivation};
@@ -99,39 +100,39 @@ pub fn syntax_examples()
 /// The grammar at work: trees of some small sources, and the first bad token of others.
 pub fn examples()
     // begin end
-    ensures empty { IsProgram (k.Begin ∷ k.End ∷ []) (block (end 1)) }
+    ensures empty { IsProgram (bare k.Begin ∷ bare k.End ∷ []) (block (end 1)) }
     // begin x; end has two statements, the second of which is empty.
-    ensures two { IsProgram (k.Begin ∷ x ∷ k.Semicolon ∷ k.End ∷ [])
-        (block (leaf 1 x (node g.AfterIdentifier (node g.StatementOfIdentifier (node g.AfterFirstOperand done done) (node g.NextStatement (node g.Statement (place 3 done) done) (end 3))) done))) }
+    ensures two { IsProgram (bare k.Begin ∷ x ∷ bare k.Semicolon ∷ bare k.End ∷ [])
+        (block (keep 1 x (node g.AfterIdentifier (node g.StatementOfIdentifier (node g.AfterFirstOperand done done) (node g.NextStatement (node g.Statement (place 3 done) done) (end 3))) done))) }
     // begin if true then if false then x else y end: the `else` belongs to the inner `if`.
-    ensures nearest { IsProgram (k.Begin ∷ k.If ∷ k.True ∷ k.Then ∷ k.If ∷ k.False ∷ k.Then ∷ x ∷ k.Else ∷ y ∷ k.End ∷ [])
-        (block (node g.Statement (leaf 1 k.If (node g.Expression (operand 2 k.True) (node g.Statement (leaf 4 k.If (node g.Expression (operand 5 k.False)
+    ensures nearest { IsProgram (bare k.Begin ∷ bare k.If ∷ bare k.True ∷ bare k.Then ∷ bare k.If ∷ bare k.False ∷ bare k.Then ∷ x ∷ bare k.Else ∷ y ∷ bare k.End ∷ [])
+        (block (node g.Statement (bare_leaf 1 k.If (node g.Expression (operand 2 (bare k.True)) (node g.Statement (bare_leaf 4 k.If (node g.Expression (operand 5 (bare k.False))
         (node g.Statement (call 7 x) (node g.ElseBranch (node g.Statement (call 9 y) done) done)))) done))) (end 10))) }
     // begin x class y; ; end: the identifier is the prefix of a class with an empty body.
-    ensures prefix { IsProgram (k.Begin ∷ x ∷ k.Class ∷ y ∷ k.Semicolon ∷ k.Semicolon ∷ k.End ∷ [])
-        (block (leaf 1 x (node g.AfterIdentifier (leaf 2 k.Class (node g.Class (leaf 3 y (node g.Heading done (node g.Statement (place 5 done) (place 5 done))))
+    ensures prefix { IsProgram (bare k.Begin ∷ x ∷ bare k.Class ∷ y ∷ bare k.Semicolon ∷ bare k.Semicolon ∷ bare k.End ∷ [])
+        (block (keep 1 x (node g.AfterIdentifier (bare_leaf 2 k.Class (node g.Class (keep 3 y (node g.Heading done (node g.Statement (place 5 done) (place 5 done))))
         (node g.AfterDeclaration done (node g.Block (end 6) done)))) done))) }
     // x (y) begin end;: a prefixed block, and a semicolon after it.
-    ensures prefixed { IsProgram (x ∷ k.Open ∷ y ∷ k.Close ∷ k.Begin ∷ k.End ∷ k.Semicolon ∷ [])
-        (leaf 0 x (node g.Arguments (node g.Expression (operand 2 y) done) (node g.Compound (leaf 4 k.Begin (node g.Block (end 5) done)) done))) }
+    ensures prefixed { IsProgram (x ∷ bare k.Open ∷ y ∷ bare k.Close ∷ bare k.Begin ∷ bare k.End ∷ bare k.Semicolon ∷ [])
+        (keep 0 x (node g.Arguments (node g.Expression (operand 2 y) done) (node g.Compound (bare_leaf 4 k.Begin (node g.Block (end 5) done)) done))) }
     // The empty source is bad at its end.
     ensures nothing { IsBadAt [] 0 }
     // begin x := end lacks a value.
-    ensures no_value { IsBadAt (k.Begin ∷ x ∷ k.Assign ∷ k.End ∷ []) 3 }
+    ensures no_value { IsBadAt (bare k.Begin ∷ x ∷ bare k.Assign ∷ bare k.End ∷ []) 3 }
     // begin x; integer y end declares after a statement.
-    ensures late { IsBadAt (k.Begin ∷ x ∷ k.Semicolon ∷ k.IntegerWord ∷ y ∷ k.End ∷ []) 3 }
+    ensures late { IsBadAt (bare k.Begin ∷ x ∷ bare k.Semicolon ∷ bare k.IntegerWord ∷ y ∷ bare k.End ∷ []) 3 }
     // begin integer x y end lacks the comma.
-    ensures no_comma { IsBadAt (k.Begin ∷ k.IntegerWord ∷ x ∷ y ∷ k.End ∷ []) 3 }
+    ensures no_comma { IsBadAt (bare k.Begin ∷ bare k.IntegerWord ∷ x ∷ y ∷ bare k.End ∷ []) 3 }
     // begin if x = y = x then y end has two relations in one.
-    ensures chained { IsBadAt (k.Begin ∷ k.If ∷ x ∷ k.Equal ∷ y ∷ k.Equal ∷ x ∷ k.Then ∷ y ∷ k.End ∷ []) 5 }
+    ensures chained { IsBadAt (bare k.Begin ∷ bare k.If ∷ x ∷ bare k.Equal ∷ y ∷ bare k.Equal ∷ x ∷ bare k.Then ∷ y ∷ bare k.End ∷ []) 5 }
     // begin x class ; end lacks the class.
-    ensures no_class { IsBadAt (k.Begin ∷ x ∷ k.Class ∷ k.Semicolon ∷ k.End ∷ []) 3 }
+    ensures no_class { IsBadAt (bare k.Begin ∷ x ∷ bare k.Class ∷ bare k.Semicolon ∷ bare k.End ∷ []) 3 }
     // begin x end end goes on after its end.
-    ensures behind { IsBadAt (k.Begin ∷ x ∷ k.End ∷ k.End ∷ []) 3 }
+    ensures behind { IsBadAt (bare k.Begin ∷ x ∷ bare k.End ∷ bare k.End ∷ []) 3 }
     // begin x := (y) end, with two levels allowed: y would be an expression at the third.
-    ensures deep_expression { IsDeepAt 2 (k.Begin ∷ x ∷ k.Assign ∷ k.Open ∷ y ∷ k.Close ∷ k.End ∷ []) 4 }
+    ensures deep_expression { IsDeepAt 2 (bare k.Begin ∷ x ∷ bare k.Assign ∷ bare k.Open ∷ y ∷ bare k.Close ∷ bare k.End ∷ []) 4 }
     // begin x end, with no level allowed: the statement begins at its identifier.
-    ensures deep_statement { IsDeepAt 0 (k.Begin ∷ x ∷ k.End ∷ []) 1 }
+    ensures deep_statement { IsDeepAt 0 (bare k.Begin ∷ x ∷ bare k.End ∷ []) 1 }
     // begin x class y; x end, with no level allowed: the prefix of a class begins no statement, the body does.
-    ensures deep_body { IsDeepAt 0 (k.Begin ∷ x ∷ k.Class ∷ y ∷ k.Semicolon ∷ x ∷ k.End ∷ []) 5 }
+    ensures deep_body { IsDeepAt 0 (bare k.Begin ∷ x ∷ bare k.Class ∷ y ∷ bare k.Semicolon ∷ x ∷ bare k.End ∷ []) 5 }
 {}

@@ -8,7 +8,6 @@ mod nesting;
 mod operator;
 mod program;
 mod stmt;
-mod terminal;
 
 pub use expr::{
     Expr, Factor, Identifier, LeadingSign, Membership, Multiplication, Operand, Relation, Selector,
@@ -23,4 +22,3 @@ pub use stmt::{
     ForElement, Mode, ModePart, Procedure, Protection, ReferenceElement, Specification, Specifier,
     Stmt, Timing, TypeName, Variable, VirtualSpecification, When,
 };
-pub use terminal::Terminal;

@@ -4,17 +4,16 @@ use Rattle.std.proofs.Common.{◌≡◌, ◌≤◌, ◌+◌, ◌-◌, true, fals
 use Rattle.sim_tree.specs.Tree.{ReadsPart}
 use Rattle.std.proofs.Common.{◌⊎◌, inl, inr}
 use Rattle.sim_base.specs.declared.token.TokenKind.TheVariants as k
-use Rattle.sim_tree.specs.declared.terminal.Terminal.TheVariants as t
 use Rattle.sim_tree.specs.Grammar as g
 use Rattle.sim_tree.specs.Grammar.{is, just, one_of}
-use Rattle.sim_tree.specs.Reading.{terminal_at}
+use Rattle.sim_tree.specs.Reading.{kind_at}
 use Rattle.sim_tree.specs.Derivation.{derivation_of, raise, level_part, arguments}
 use Rattle.sim_tree.proofs.DerivationLemmas.{derivation-If, derivation-Named, derivation-New, derivation-Parentheses}
 use Rattle.sim_expr_parser.specs.Parsing.{GivesLevel}
 use Rattle.sim_expr_parser.proofs.Tables.{no_expression, deep-expression, simple-begins, under-limit, open-if, open-simple, name_symbols, new_symbols, open_symbols, primary_name, primary_new, primary_open, by_test, just_is}
 use Rattle.sim_expr_parser.specs.Parsing.{GivesBoxed}
 use Rattle.sim_expr_parser.proofs.Climbing.{is-that, constant-level}
-use Rattle.sim_expr_parser.proofs.Terminals.{took_one, not_is, made_is}
+use Rattle.sim_expr_parser.proofs.Tokens.{took_one, not_is, made_is}
 use Rattle.sim_expr_parser.proofs.Steps.{kept-stops, opened, to, stops, level-made, level-up, once, marked, kept, once-stops, mark-stops, exit, passed}
 use Rattle.sim_expr_parser.proofs.parser.+parser.Goals as goal
 use Rattle.sim_expr_parser.proofs.parser.+parser.Goals.{expression-else-ne-via-then-ne+else-not-begins_simple, expression-else-ne-via-else-ne}
@@ -23,35 +22,35 @@ use Rattle.sim_expr_parser.proofs.parser.+parser.Answers.Selectors as selectors
 
 pub expression-returns-then-not-begins_simple : goal.expression-returns-then-not-begins_simple
 expression-returns-then-not-begins_simple u c =
-    no_expression c.args.source.now c.args.depth c.args.at (ap (λ z. is z t.If) (sym c.terminal_at-terminal.ensures) ∙ not_is _ _ true c.if-ne.ensures)
-    (ap (one_of g.begins_simple) (sym c.terminal_at-terminal.ensures) ∙ sym c.if-not-begins_simple.ensures)
+    no_expression c.args.source.now c.args.depth c.args.at (ap (λ z. is z k.If) (sym c.kind_at-kind.ensures) ∙ not_is _ _ true c.if-ne.ensures)
+    (ap (one_of g.begins_simple) (sym c.kind_at-kind.ensures) ∙ sym c.if-not-begins_simple.ensures)
 
 pub expression-returns-then-depth-eq-LIMIT : goal.expression-returns-then-depth-eq-LIMIT
 expression-returns-then-depth-eq-LIMIT u c =
     let ws = c.args.source.now in
     let i = c.args.at in
-    let a = terminal_at ws i in
-    let begins : (is a t.If ≡ true) ⊎ (one_of g.begins_simple a ≡ true) = elim c.else-ne.branch [
-      | expression-else-ne-via-then-ne+else-not-begins_simple w ↦ inr (ap (one_of g.begins_simple) (sym c.terminal_at-terminal.ensures) ∙ sym w.if-not-begins_simple.ensures)
-      | expression-else-ne-via-else-ne w ↦ inl (ap (λ z. is z t.If) (sym c.terminal_at-terminal.ensures) ∙ not_is _ _ false w.if-ne.ensures)
+    let a = kind_at ws i in
+    let begins : (is a k.If ≡ true) ⊎ (one_of g.begins_simple a ≡ true) = elim c.else-ne.branch [
+      | expression-else-ne-via-then-ne+else-not-begins_simple w ↦ inr (ap (one_of g.begins_simple) (sym c.kind_at-kind.ensures) ∙ sym w.if-not-begins_simple.ensures)
+      | expression-else-ne-via-else-ne w ↦ inl (ap (λ z. is z k.If) (sym c.kind_at-kind.ensures) ∙ not_is _ _ false w.if-ne.ensures)
     ] in
     deep-expression ws c.args.depth i begins (omega arith)
 
 pub expression-returns-then-eq : goal.expression-returns-then-eq
 expression-returns-then-eq u c =
-    c.conditional.ensures (ap (λ z. is z t.If) (sym c.terminal_at-terminal.ensures) ∙ made_is _ _ true c.if-eq.ensures)
+    c.conditional.ensures (ap (λ z. is z k.If) (sym c.kind_at-kind.ensures) ∙ made_is _ _ true c.if-eq.ensures)
 
 pub expression-returns : goal.expression-returns
 expression-returns u c =
     let ws = c.args.source.now in
     let d = c.args.depth in
     let i = c.args.at in
-    let a = terminal_at ws i in
-    let begins : (is a t.If ≡ true) ⊎ (one_of g.begins_simple a ≡ true) = elim c.else-ne.branch [
-      | expression-else-ne-via-then-ne+else-not-begins_simple w ↦ inr (ap (one_of g.begins_simple) (sym c.terminal_at-terminal.ensures) ∙ sym w.if-not-begins_simple.ensures)
-      | expression-else-ne-via-else-ne w ↦ inl (ap (λ z. is z t.If) (sym c.terminal_at-terminal.ensures) ∙ not_is _ _ false w.if-ne.ensures)
+    let a = kind_at ws i in
+    let begins : (is a k.If ≡ true) ⊎ (one_of g.begins_simple a ≡ true) = elim c.else-ne.branch [
+      | expression-else-ne-via-then-ne+else-not-begins_simple w ↦ inr (ap (one_of g.begins_simple) (sym c.kind_at-kind.ensures) ∙ sym w.if-not-begins_simple.ensures)
+      | expression-else-ne-via-else-ne w ↦ inl (ap (λ z. is z k.If) (sym c.kind_at-kind.ensures) ∙ not_is _ _ false w.if-ne.ensures)
     ] in
-    let other = ap (λ z. is z t.If) (sym c.terminal_at-terminal.ensures) ∙ made_is _ _ false c.if-eq.ensures in
+    let other = ap (λ z. is z k.If) (sym c.kind_at-kind.ensures) ∙ made_is _ _ false c.if-eq.ensures in
     let w0 = open-simple ws d i c.requires.within other (simple-begins ws i begins other) (under-limit d c.requires.shallow c.if-depth-eq-LIMIT.false) in
     passed (GivesLevel ws (d + 1) 13 i) (GivesLevel ws d 14 i)
     (λ x h. level-up 13 x.0 h.0 (to w0 (once h.1)) refl)
@@ -68,7 +67,7 @@ conditional-returns-in_err-next u c =
     let e = c.in_err-next.field-0.0 in
     let r = c.from_residual in
     exit (λ r. GivesLevel ws d 14 i r) r.result e r.ensures.1
-    (stops w0 e (kept-stops ws (d + 1) i (just t.If) e (just_is _ _ _ c.in_err-next.ensures.0) c.in_err-next.ensures.1))
+    (stops w0 e (kept-stops ws (d + 1) i (just k.If) e (just_is _ _ _ c.in_err-next.ensures.0) c.in_err-next.ensures.1))
 
 pub conditional-returns-in_err-condition : goal.conditional-returns-in_err-condition
 conditional-returns-in_err-condition u c =
@@ -97,7 +96,7 @@ conditional-returns-in_err-next-2 u c =
     let e = c.in_err-next-2.field-0.0 in
     let r = c.from_residual-in_err-next-2 in
     exit (λ r. GivesLevel ws d 14 i r) r.result e r.ensures.1
-    (stops w2 e (mark-stops ws (d + 1) c.in_ok-condition.next t.Then e c.in_err-next-2.ensures))
+    (stops w2 e (mark-stops ws (d + 1) c.in_ok-condition.next k.Then e c.in_err-next-2.ensures))
 
 pub conditional-returns-in_err-first : goal.conditional-returns-in_err-first
 conditional-returns-in_err-first u c =
@@ -130,7 +129,7 @@ conditional-returns-in_err-next-3 u c =
     let e = c.in_err-next-3.field-0.0 in
     let r = c.from_residual-in_err-next-3 in
     exit (λ r. GivesLevel ws d 14 i r) r.result e r.ensures.1
-    (stops w4 e (mark-stops ws (d + 1) c.in_ok-first.next t.Else e c.in_err-next-3.ensures))
+    (stops w4 e (mark-stops ws (d + 1) c.in_ok-first.next k.Else e c.in_err-next-3.ensures))
 
 pub conditional-returns-in_err-second : goal.conditional-returns-in_err-second
 conditional-returns-in_err-second u c =
@@ -418,7 +417,7 @@ named-returns-in_err-name u c =
     let d = c.args.depth in
     let i = c.args.at in
     λ h.
-    let m0 = opened ws d i g.Primary name_symbols refl (by_test g.Primary (terminal_at ws i) t.Identifier name_symbols h primary_name) c.requires.within in
+    let m0 = opened ws d i g.Primary name_symbols refl (by_test g.Primary (kind_at ws i) k.Identifier name_symbols h primary_name) c.requires.within in
     let e = c.in_err-name.field-0.0 in
     let r = c.from_residual in
     exit (λ r. GivesLevel ws d 0 i r) r.result e r.ensures.1
@@ -430,7 +429,7 @@ named-returns-in_err-arguments u c =
     let d = c.args.depth in
     let i = c.args.at in
     λ h.
-    let m0 = opened ws d i g.Primary name_symbols refl (by_test g.Primary (terminal_at ws i) t.Identifier name_symbols h primary_name) c.requires.within in
+    let m0 = opened ws d i g.Primary name_symbols refl (by_test g.Primary (kind_at ws i) k.Identifier name_symbols h primary_name) c.requires.within in
     let m1 = to m0 (c.in_ok-name.ensures d) in
     let e = c.in_err-arguments.field-0.0 in
     let r = c.from_residual-in_err-arguments in
@@ -443,7 +442,7 @@ named-returns u c =
     let d = c.args.depth in
     let i = c.args.at in
     λ h.
-    let m0 = opened ws d i g.Primary name_symbols refl (by_test g.Primary (terminal_at ws i) t.Identifier name_symbols h primary_name) c.requires.within in
+    let m0 = opened ws d i g.Primary name_symbols refl (by_test g.Primary (kind_at ws i) k.Identifier name_symbols h primary_name) c.requires.within in
     let m1 = to m0 (c.in_ok-name.ensures d) in
     level-made 0 _ _ (derivation-Named c.in_ok-name.name c.in_ok-arguments.arguments) refl (to m1 c.in_ok-arguments.ensures) refl
 
@@ -453,11 +452,11 @@ parentheses-returns-in_err-next u c =
     let d = c.args.depth in
     let i = c.args.at in
     λ h.
-    let m0 = opened ws d i g.Primary open_symbols refl (by_test g.Primary (terminal_at ws i) t.Open open_symbols h primary_open) c.requires.within in
+    let m0 = opened ws d i g.Primary open_symbols refl (by_test g.Primary (kind_at ws i) k.Open open_symbols h primary_open) c.requires.within in
     let e = c.in_err-next.field-0.0 in
     let r = c.from_residual in
     exit (λ r. GivesLevel ws d 0 i r) r.result e r.ensures.1
-    (stops m0 e (kept-stops ws d i (just t.Open) e (just_is _ _ _ c.in_err-next.ensures.0) c.in_err-next.ensures.1))
+    (stops m0 e (kept-stops ws d i (just k.Open) e (just_is _ _ _ c.in_err-next.ensures.0) c.in_err-next.ensures.1))
 
 pub parentheses-returns-in_err-inner : goal.parentheses-returns-in_err-inner
 parentheses-returns-in_err-inner u c =
@@ -466,7 +465,7 @@ parentheses-returns-in_err-inner u c =
     let i = c.args.at in
     λ h.
     let n = c.token_no-token.result in
-    let m0 = opened ws d i g.Primary open_symbols refl (by_test g.Primary (terminal_at ws i) t.Open open_symbols h primary_open) c.requires.within in
+    let m0 = opened ws d i g.Primary open_symbols refl (by_test g.Primary (kind_at ws i) k.Open open_symbols h primary_open) c.requires.within in
     let m1 = to m0 (kept n.0 c.token_no-token.ensures (took_one ws i c.in_ok-next.next k.Open refl c.in_ok-next.ensures)) in
     let e = c.in_err-inner.field-0.0 in
     let r = c.from_residual-in_err-inner in
@@ -480,13 +479,13 @@ parentheses-returns-in_err-end u c =
     let i = c.args.at in
     λ h.
     let n = c.token_no-token.result in
-    let m0 = opened ws d i g.Primary open_symbols refl (by_test g.Primary (terminal_at ws i) t.Open open_symbols h primary_open) c.requires.within in
+    let m0 = opened ws d i g.Primary open_symbols refl (by_test g.Primary (kind_at ws i) k.Open open_symbols h primary_open) c.requires.within in
     let m1 = to m0 (kept n.0 c.token_no-token.ensures (took_one ws i c.in_ok-next.next k.Open refl c.in_ok-next.ensures)) in
     let m2 = to m1 (once c.in_ok-inner.ensures.1) in
     let e = c.in_err-end.field-0.0 in
     let r = c.from_residual-in_err-end in
     exit (λ r. GivesLevel ws d 0 i r) r.result e r.ensures.1
-    (stops m2 e (mark-stops ws d c.in_ok-inner.next t.Close e c.in_err-end.ensures))
+    (stops m2 e (mark-stops ws d c.in_ok-inner.next k.Close e c.in_err-end.ensures))
 
 pub parentheses-returns : goal.parentheses-returns
 parentheses-returns u c =
@@ -495,7 +494,7 @@ parentheses-returns u c =
     let i = c.args.at in
     λ h.
     let n = c.token_no-token.result in
-    let m0 = opened ws d i g.Primary open_symbols refl (by_test g.Primary (terminal_at ws i) t.Open open_symbols h primary_open) c.requires.within in
+    let m0 = opened ws d i g.Primary open_symbols refl (by_test g.Primary (kind_at ws i) k.Open open_symbols h primary_open) c.requires.within in
     let m1 = to m0 (kept n.0 c.token_no-token.ensures (took_one ws i c.in_ok-next.next k.Open refl c.in_ok-next.ensures)) in
     let m2 = to m1 (once c.in_ok-inner.ensures.1) in
     level-made 0 _ _ (derivation-Parentheses n c.in_ok-inner.inner) refl (to m2 (marked c.in_ok-end.ensures)) refl
@@ -506,11 +505,11 @@ generator-returns-in_err-next u c =
     let d = c.args.depth in
     let i = c.args.at in
     λ h.
-    let m0 = opened ws d i g.Primary new_symbols refl (by_test g.Primary (terminal_at ws i) t.New new_symbols h primary_new) c.requires.within in
+    let m0 = opened ws d i g.Primary new_symbols refl (by_test g.Primary (kind_at ws i) k.New new_symbols h primary_new) c.requires.within in
     let e = c.in_err-next.field-0.0 in
     let r = c.from_residual in
     exit (λ r. GivesLevel ws d 0 i r) r.result e r.ensures.1
-    (stops m0 e (kept-stops ws d i (just t.New) e (just_is _ _ _ c.in_err-next.ensures.0) c.in_err-next.ensures.1))
+    (stops m0 e (kept-stops ws d i (just k.New) e (just_is _ _ _ c.in_err-next.ensures.0) c.in_err-next.ensures.1))
 
 pub generator-returns-in_err-class : goal.generator-returns-in_err-class
 generator-returns-in_err-class u c =
@@ -519,7 +518,7 @@ generator-returns-in_err-class u c =
     let i = c.args.at in
     λ h.
     let n = c.token_no-token.result in
-    let m0 = opened ws d i g.Primary new_symbols refl (by_test g.Primary (terminal_at ws i) t.New new_symbols h primary_new) c.requires.within in
+    let m0 = opened ws d i g.Primary new_symbols refl (by_test g.Primary (kind_at ws i) k.New new_symbols h primary_new) c.requires.within in
     let m1 = to m0 (kept n.0 c.token_no-token.ensures (took_one ws i c.in_ok-next.next k.New refl c.in_ok-next.ensures)) in
     let e = c.in_err-class.field-0.0 in
     let r = c.from_residual-in_err-class in
@@ -533,7 +532,7 @@ generator-returns-in_err-arguments u c =
     let i = c.args.at in
     λ h.
     let n = c.token_no-token.result in
-    let m0 = opened ws d i g.Primary new_symbols refl (by_test g.Primary (terminal_at ws i) t.New new_symbols h primary_new) c.requires.within in
+    let m0 = opened ws d i g.Primary new_symbols refl (by_test g.Primary (kind_at ws i) k.New new_symbols h primary_new) c.requires.within in
     let m1 = to m0 (kept n.0 c.token_no-token.ensures (took_one ws i c.in_ok-next.next k.New refl c.in_ok-next.ensures)) in
     let m2 = to m1 (c.in_ok-class.ensures d) in
     let e = c.in_err-arguments.field-0.0 in
@@ -548,33 +547,33 @@ generator-returns u c =
     let i = c.args.at in
     λ h.
     let n = c.token_no-token.result in
-    let m0 = opened ws d i g.Primary new_symbols refl (by_test g.Primary (terminal_at ws i) t.New new_symbols h primary_new) c.requires.within in
+    let m0 = opened ws d i g.Primary new_symbols refl (by_test g.Primary (kind_at ws i) k.New new_symbols h primary_new) c.requires.within in
     let m1 = to m0 (kept n.0 c.token_no-token.ensures (took_one ws i c.in_ok-next.next k.New refl c.in_ok-next.ensures)) in
     let m2 = to m1 (c.in_ok-class.ensures d) in
     level-made 0 _ _ (derivation-New n c.in_ok-class.class c.in_ok-arguments.arguments) refl (to m2 c.in_ok-arguments.ensures) refl
 
 pub primary-returns-in-Identifier : goal.primary-returns-in-Identifier
 primary-returns-in-Identifier u c =
-    c.named.ensures (is-that t.Identifier _ c.in-Identifier.ensures)
+    c.named.ensures (is-that k.Identifier _ c.in-Identifier.ensures)
 
 pub primary-returns-in-Open : goal.primary-returns-in-Open
 primary-returns-in-Open u c =
-    c.parentheses.ensures (is-that t.Open _ c.in-Open.ensures)
+    c.parentheses.ensures (is-that k.Open _ c.in-Open.ensures)
 
 pub primary-returns-in-New : goal.primary-returns-in-New
 primary-returns-in-New u c =
-    c.generator.ensures (is-that t.New _ c.in-New.ensures)
+    c.generator.ensures (is-that k.New _ c.in-New.ensures)
 
 pub primary-returns-in-This : goal.primary-returns-in-This
 primary-returns-in-This u c =
-    c.local_object.ensures c.args.depth (is-that t.This _ c.in-This.ensures)
+    c.local_object.ensures c.args.depth (is-that k.This _ c.in-This.ensures)
 
 pub primary-returns-in_default : goal.primary-returns-in_default
 primary-returns-in_default u c =
     let ws = c.args.source.now in
     let d = c.args.depth in
     let i = c.args.at in
-    constant-level ws d i c.requires.within c.terminal_at.result c.terminal_at.ensures c.in_default.not-Identifier c.in_default.not-This c.in_default.not-New c.in_default.not-Open c.constant_at.result c.constant_at.ensures
+    constant-level ws d i c.requires.within c.kind_at.result c.kind_at.ensures c.in_default.not-Identifier c.in_default.not-This c.in_default.not-New c.in_default.not-Open c.constant_at.result c.constant_at.ensures
 
 pub named-arguments-requires : goal.named-arguments-requires
 named-arguments-requires u c =

@@ -3,7 +3,7 @@ use Rattle.sim_tree.specs.Grammar as g
 use Rattle.sim_tree.specs.Grammar.{Symbol, Once, Many, Of}
 use Rattle.sim_tree.specs.Derivation.{derivation_of, item, operand_derivation, term_derivation, factor_derivation, selector_derivation}
 use Rattle.sim_tree.proofs.Steps.{Leads}
-use Rattle.sim_expr_parser.specs.Level.{under, below_of, word_kind, many}
+use Rattle.sim_expr_parser.specs.Level.{under, below_of, operator, many}
 use Rattle.sim_expr_parser.specs.Operators.{IsRead}
 use Rattle.sim_expr_parser.specs.Parsing.{listed}
 use Rattle.sim_expr_parser.specs.Recursion.{calls_left, calls}
@@ -89,7 +89,7 @@ decreases-raised-loop-operators l = 14 - l.reached
 
 abbrev pub invariant-operands-loop-next : goal.invariant-operands-loop-next
 invariant-operands-loop-next l = record {
-  goes : Row l.source l.depth (many l.level) l.start (map (λ o. item (under l.level) (word_kind l.level) (operand_derivation o)) l.rest.items) l.at;
+  goes : Row l.source l.depth (many l.level) l.start (map (λ o. item (under l.level) (operator l.level) (operand_derivation o)) l.rest.items) l.at;
   ahead : l.start ≤ l.at;
   within : l.at < length l.source;
 }

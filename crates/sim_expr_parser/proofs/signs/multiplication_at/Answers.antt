@@ -2,7 +2,7 @@ use Rattle.std.proofs.Common.{refl}
 use Rattle.sim_base.specs.declared.token.TokenKind.TheVariants as k
 use Rattle.sim_tree.specs.Grammar.{is}
 use Rattle.sim_expr_parser.specs.Parsing.{multiplications}
-use Rattle.sim_expr_parser.proofs.Terminals.{took}
+use Rattle.sim_expr_parser.proofs.Tokens.{took}
 use Rattle.sim_expr_parser.proofs.signs.multiplication_at.Goals as goal
 
 pub returns-in-Some : goal.returns-in-Some

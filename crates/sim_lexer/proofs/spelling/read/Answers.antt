@@ -1,6 +1,7 @@
 use Rattle.std.proofs.Common.{◌≡◌, List, [], length, ap, ◌∙◌, take, sym, subst, refl, arith, rules}
 use Rattle.std.specs.List.{All}
 use Rattle.std.proofs.lemmas.List.Elements.{All-nil}
+use Rattle.sim_base.specs.Lexeme.{bare}
 use Rattle.sim_base.specs.declared.token.Token.{Token}
 use Rattle.sim_base.specs.declared.token.TokenKind.TheVariants as k
 use Rattle.sim_lexer.specs.Pieces.{piece}
@@ -26,19 +27,19 @@ items-init c = record {
 pub returns-in_default : goal.returns-in_default
 returns-in_default c =
     let at = c.items.at in
-    let tokens : c.add.new.tokens.items ≡ with_next c.items.tokens.items (token_at at k.EndOfSource) =
-    c.in_ok-add.ensures.tokens ∙ ap (with_next c.items.tokens.items) c.token.ensures.token in
+    let tokens : c.add.new.tokens.items ≡ with_next c.items.tokens.items (token_at at (bare k.EndOfSource)) =
+    c.in_ok-add.ensures.tokens ∙ ap (with_next c.items.tokens.items) (c.token.ensures.token ∙ ap (token_at at) c.bare-end.ensures) in
     let none : c.items.rest.now ≡ [] = none_left c.items.rest.now (search rules) in
     record {
       sound = subst (λ (ts : List Token). Reads c.args.source.now (Spelled ts)) (sym tokens) (follows-ends c.items.invariant.follows none);
       ended = record {
         before = c.items.tokens.items;
-        last = token_at at k.EndOfSource;
-        split = tokens ∙ end_behind c.items.tokens.items (token_at at k.EndOfSource) refl;
+        last = token_at at (bare k.EndOfSource);
+        split = tokens ∙ end_behind c.items.tokens.items (token_at at (bare k.EndOfSource)) refl;
         end = refl;
         only = c.items.invariant.inside;
       };
-      few = omega (arith, ap length tokens, few c.items.tokens.items (token_at at k.EndOfSource), c.items.invariant.few);
+      few = omega (arith, ap length tokens, few c.items.tokens.items (token_at at (bare k.EndOfSource)), c.items.invariant.few);
     }
 
 pub split_at-requires : goal.split_at-requires
@@ -52,8 +53,8 @@ pub split_at-requires-in-Lexeme : goal.split_at-requires-in-Lexeme
 split_at-requires-in-Lexeme c =
     let at = c.items.at in
     let rest = c.items.rest.now in
-    let found : IsItem (piece at.begins_line rest) rest (Lexeme c.in-Lexeme.kind c.in-Lexeme.size) = subst (λ (i : Item). IsItem (piece at.begins_line rest) rest i) c.in-Lexeme.is c.in_ok-size.ensures.item in
-    (follows-gives c.items.invariant.follows c.in-Lexeme.kind c.in-Lexeme.size found).1
+    let found : IsItem (piece at.begins_line rest) rest (Lexeme c.in-Lexeme.lexeme c.in-Lexeme.size) = subst (λ (i : Item). IsItem (piece at.begins_line rest) rest i) c.in-Lexeme.is c.in_ok-size.ensures.item in
+    (follows-gives c.items.invariant.follows c.in-Lexeme.lexeme c.in-Lexeme.size found).1
 
 pub items-smaller-in-Skipped : goal.items-smaller-in-Skipped
 items-smaller-in-Skipped c =
@@ -67,10 +68,10 @@ pub items-smaller : goal.items-smaller
 items-smaller c =
     let at = c.items.at in
     let rest = c.items.rest.now in
-    let kind = c.in-Lexeme.kind in
+    let lexeme = c.in-Lexeme.lexeme in
     let size = c.in-Lexeme.size in
-    let found : IsItem (piece at.begins_line rest) rest (Lexeme kind size) = subst (λ (i : Item). IsItem (piece at.begins_line rest) rest i) c.in-Lexeme.is c.in_ok-size.ensures.item in
-    omega (arith, c.split_at-in-Lexeme.ensures.back_len, given-some at.begins_line rest kind size found, (follows-gives c.items.invariant.follows kind size found).1)
+    let found : IsItem (piece at.begins_line rest) rest (Lexeme lexeme size) = subst (λ (i : Item). IsItem (piece at.begins_line rest) rest i) c.in-Lexeme.is c.in_ok-size.ensures.item in
+    omega (arith, c.split_at-in-Lexeme.ensures.back_len, given-some at.begins_line rest lexeme size found, (follows-gives c.items.invariant.follows lexeme size found).1)
 
 -- a separator is passed over
 pub items-preserved-in-Skipped : goal.items-preserved-in-Skipped
@@ -94,19 +95,19 @@ pub items-preserved : goal.items-preserved
 items-preserved c =
     let at = c.items.at in
     let rest = c.items.rest.now in
-    let kind = c.in-Lexeme.kind in
+    let lexeme = c.in-Lexeme.lexeme in
     let size = c.in-Lexeme.size in
     let before = c.items.tokens.items in
-    let found : IsItem (piece at.begins_line rest) rest (Lexeme kind size) = subst (λ (i : Item). IsItem (piece at.begins_line rest) rest i) c.in-Lexeme.is c.in_ok-size.ensures.item in
-    let follows = follows-gives c.items.invariant.follows kind size found in
+    let found : IsItem (piece at.begins_line rest) rest (Lexeme lexeme size) = subst (λ (i : Item). IsItem (piece at.begins_line rest) rest i) c.in-Lexeme.is c.in_ok-size.ensures.item in
+    let follows = follows-gives c.items.invariant.follows lexeme size found in
     let next : c.past-at-in-Lexeme.result ≡ past at (take size rest) = c.past-at-in-Lexeme.ensures.position ∙ ap (past at) c.split_at-in-Lexeme.ensures.front in
-    let tokens : c.add-in-Lexeme.new.tokens.items ≡ with_next before (token_at at kind) = c.in_ok-add-in-Lexeme.ensures.tokens ∙ ap (with_next before) c.token-in-Lexeme.ensures.token in
+    let tokens : c.add-in-Lexeme.new.tokens.items ≡ with_next before (token_at at lexeme) = c.in_ok-add-in-Lexeme.ensures.tokens ∙ ap (with_next before) c.token-in-Lexeme.ensures.token in
     record {
       follows = follows-same follows.0 tokens next c.split_at-in-Lexeme.ensures.back;
       place = omega (arith, c.past-at-in-Lexeme.ensures.place, c.split_at-in-Lexeme.ensures.front_len, c.split_at-in-Lexeme.ensures.back_len, c.items.invariant.place, follows.1);
       line = c.past-at-in-Lexeme.ensures.line;
-      inside = subst (All IsInside) (sym tokens) (inside-next before (token_at at kind) c.items.invariant.inside (given-inside at.begins_line rest kind size found));
-      few = omega (arith, c.split_at-in-Lexeme.ensures.back_len, c.items.invariant.few, given-some at.begins_line rest kind size found, follows.1, ap length tokens, few before (token_at at kind));
+      inside = subst (All IsInside) (sym tokens) (inside-next before (token_at at lexeme) c.items.invariant.inside (given-inside at.begins_line rest lexeme size found));
+      few = omega (arith, c.split_at-in-Lexeme.ensures.back_len, c.items.invariant.few, given-some at.begins_line rest lexeme size found, follows.1, ap length tokens, few before (token_at at lexeme));
     }
 
 pub returns-in-Fault : goal.returns-in-Fault

@@ -1,7 +1,9 @@
 use Rattle.std.proofs.Common.{◌≡◌, ℕ, ◌+◌, List, [], ◌++◌, ap, ◌∙◌, sym, subst, refl, arith, drop, append-nil}
 use Rattle.std.proofs.lemmas.List.{drop-drop}
-use Rattle.sim_lexer.specs.Scanning.{closed, unclosed}
+use Rattle.sim_base.specs.declared.token.Lexeme.{Lexeme}
+use Rattle.sim_lexer.specs.Scanning.{IsText, closed, unclosed}
 use Rattle.sim_lexer.specs.Texts.{Content}
+use Rattle.sim_lexer.specs.declared.item.Item.TheVariants as item
 use Rattle.sim_lexer.proofs.TextLemmas.{known_piece, of_piece, read-more, read-none, read-same}
 use Rattle.sim_lexer.proofs.texts.text_item.Goals as goal
 
@@ -32,11 +34,14 @@ returns-in-Closing c =
     let behind = c.pieces.behind.now in
     let bytes = c.pieces.bytes.items in
     let content : Content (drop 1 all) (bytes ++ []) (drop 1 behind) = c.pieces.invariant.are_read.there [] (drop 1 behind) (of_piece (sym c.in-Closing.ensures.piece) (refl, refl)) in
-    let meant : Content (drop 1 all) c.new.result (drop 1 behind) = subst (λ (bs : List ℕ). Content (drop 1 all) bs (drop 1 behind)) (append-nil bytes ∙ sym c.new.ensures.same) content in
     let left : drop 1 behind ≡ drop (c.pieces.read + 2) all =
     ap (drop 1) c.pieces.invariant.place ∙ drop-drop 1 (1 + c.pieces.read) all ∙ ap (λ (n : ℕ). drop n all) (omega arith) in
+    let meant : Content (drop 1 all) bytes (drop (c.pieces.read + 2) all) =
+    subst (λ (r : List ℕ). Content (drop 1 all) bytes r) left (subst (λ (bs : List ℕ). Content (drop 1 all) bs (drop 1 behind)) (append-nil bytes) content) in
     record {
-      text = closed c.new.result (c.pieces.read + 2) (omega (arith, c.pieces.invariant.whole, c.in-Closing.ensures.within)) (subst (λ (r : List ℕ). Content (drop 1 all) c.new.result r) left meant);
+      text =
+          subst (λ (lexeme : Lexeme). IsText all (item.Lexeme lexeme (c.pieces.read + 2))) (sym c.text.ensures.lexeme)
+          (closed bytes (c.pieces.read + 2) (omega (arith, c.pieces.invariant.whole, c.in-Closing.ensures.within)) meant);
     }
 
 pub returns-in-Bad : goal.returns-in-Bad

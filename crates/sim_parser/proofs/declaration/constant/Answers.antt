@@ -1,60 +1,53 @@
-use Rattle.std.proofs.Common.{◌≡◌, ◌<◌, ◌+◌, length, refl, sym, ap, ◌∙◌, subst, false, rules, SFits, w64}
-use Rattle.std.specs.Prelude.{slice_index_or}
+use Rattle.std.proofs.Common.{◌≡◌, ◌<◌, ◌+◌, length, refl, sym, ap, ◌∙◌, true, false, rules, SFits, subst, w64}
 use Rattle.std.proofs.lemmas.Int.{to_z-of_z}
 use Rattle.sim_base.specs.declared.token.TokenKind.TheVariants as k
+use Rattle.sim_base.specs.declared.token.TokenValue.TheVariants as token_value
 use Rattle.sim_tree.specs.declared.stmt.Constant.TheVariants as constant
-use Rattle.sim_tree.specs.declared.terminal.Terminal.TheVariants as t
 use Rattle.sim_tree.specs.Grammar as g
-use Rattle.sim_tree.specs.Grammar.{is, just}
+use Rattle.sim_tree.specs.Grammar.{is, one_of}
 use Rattle.sim_tree.specs.Reading.{kind_at}
 use Rattle.sim_tree.specs.ProgramDerivation.{constant_derivation}
 use Rattle.sim_tree.specs.Tree.{ReadsPart}
-use Rattle.sim_expr_parser.proofs.Terminals.{kind_read}
-use Rattle.sim_parser.proofs.DeclarationConstants.{constants, not_integer, no_constant, among_at, reads_integer, reads_made, fails_signed, fails_plain}
+use Rattle.sim_tree.proofs.Completion.{is_same}
+use Rattle.sim_expr_parser.proofs.Tables.{just_is}
+use Rattle.sim_expr_parser.proofs.Tokens.{bare_value, made_is}
+use Rattle.sim_parser.proofs.DeclarationConstants.{constants, no_constant, reads_integer, reads_made, fails_signed, fails_plain}
 use Rattle.sim_parser.proofs.declaration.constant.Goals as goal
-use Rattle.sim_parser.proofs.declaration.constant.Goals.{in-Character, in-Text+in_ok-copy-in-Text, in-True, in-False}
+use Rattle.sim_parser.proofs.declaration.constant.Goals.{in-Character, in-Text+in_ok-bytes_at-in-Text, in-True, in-False}
 
-pub returns-in-Integer : goal.returns-in-Integer
-returns-in-Integer c = λ d.
+pub returns-then-eq : goal.returns-then-eq
+returns-then-eq c = λ d.
     let ws = c.args.source.now in
     let i = c.args.at in
     let s = c.leading_sign-sign.result.0 in
     let j = c.leading_sign-sign.result.1 in
     let n = c.token_no-token.result in
-    let x = c.index-tokens-next in
-    let same = c.tokens-tokens.ensures.tokens in
+    let v = c.integer_at-value.result in
     let within : j < length ws = search rules in
-    let fits : SFits w64 c.in-Integer.value = search rules in
-    let kind : kind_at ws j ≡ k.Integer c.in-Integer.value = sym (kind_read ws j x.result within (x.is ∙ ap (λ z. slice_index_or z j x.result) same)) ∙ ap (λ y. y.kind) x.is ∙ c.in-Integer.is in
-    subst (λ z. ReadsPart ws d g.Constant i (constant_derivation (constant.Integer s n z)) (j + 1)) (sym (to_z-of_z w64 c.in-Integer.value fits))
-    (reads_integer ws d i j s n c.in-Integer.value c.tokens-tokens.ensures.whole.ended c.requires.within within c.leading_sign-sign.ensures c.token_no-token.ensures kind)
+    let fits : SFits w64 v = search rules in
+    let read : c.kind_at_token-kind.result ≡ kind_at ws j = c.kind_at_token-kind.ensures ∙ ap (λ l. kind_at l j) c.tokens.ensures.tokens in
+    let kind : kind_at ws j ≡ k.Integer = sym read ∙ is_same _ k.Integer (made_is _ _ true (sym c.if-eq.true ∙ c.eq.ensures)) in
+    subst (λ z. ReadsPart ws d g.Constant i (constant_derivation (constant.Integer s n z)) (j + 1)) (sym (to_z-of_z w64 v fits))
+    (reads_integer ws d i j s n v c.tokens.ensures.whole.ended c.requires.within within c.leading_sign-sign.ensures c.token_no-token.ensures kind (c.integer_at-value.ensures kind))
 
 pub returns-then-is_some : goal.returns-then-is_some
 returns-then-is_some c = λ d.
     let ws = c.args.source.now in
     let j = c.leading_sign-sign.result.1 in
-    let x = c.index-tokens-next in
-    let same = c.tokens-tokens.ensures.tokens in
-    let within : j < length ws = search rules in
-    let kind = (slice_index_or c.tokens-tokens.result.now j x.result).kind in
-    let read = ap (λ y. y.kind) (sym x.is) ∙ kind_read ws j x.result within (x.is ∙ ap (λ z. slice_index_or z j x.result) same) in
-    fails_signed ws d c.args.at j c.leading_sign-sign.result.0 c.requires.within c.leading_sign-sign.ensures (sym c.if-is_some.ensures)
-    (among_at ws j kind (just t.Integer) false read (not_integer kind c.in_default.not-Integer))
+    let read : c.kind_at_token-kind.result ≡ kind_at ws j = c.kind_at_token-kind.ensures ∙ ap (λ l. kind_at l j) c.tokens.ensures.tokens in
+    let other : is (kind_at ws j) k.Integer ≡ false = ap (λ z. is z k.Integer) (sym read) ∙ made_is _ _ false (sym c.if-eq.false ∙ c.eq.ensures) in
+    fails_signed ws d c.args.at j c.leading_sign-sign.result.0 c.requires.within c.leading_sign-sign.ensures (sym c.is_some.ensures ∙ c.if-is_some.true) (just_is _ _ _ other)
 
-pub returns-in_default-kind : goal.returns-in_default-kind
-returns-in_default-kind c = λ d.
+pub returns-in_default : goal.returns-in_default
+returns-in_default c = λ d.
     let ws = c.args.source.now in
     let j = c.leading_sign-sign.result.1 in
-    let x = c.index-tokens-next in
-    let y = c.index-tokens-next-2 in
-    let same = c.tokens-tokens.ensures.tokens in
-    let within : j < length ws = search rules in
-    let kind = (slice_index_or c.tokens-tokens.result.now j y.result).kind in
-    let read-x = ap (λ z. z.kind) (sym x.is) ∙ kind_read ws j x.result within (x.is ∙ ap (λ z. slice_index_or z j x.result) same) in
-    let read = ap (λ z. z.kind) (sym y.is) ∙ kind_read ws j y.result within (y.is ∙ ap (λ z. slice_index_or z j y.result) same) in
-    let n = c.in_default-kind in
-    fails_plain ws d c.args.at j c.leading_sign-sign.result.0 c.leading_sign-sign.ensures (sym c.if-is_some.ensures)
-    (among_at ws j kind constants false read (no_constant kind (λ v e. c.in_default.not-Integer v (read-x ∙ sym read ∙ e)) n.not-Character n.not-Text n.not-True n.not-False))
+    let x = c.kind_at_token-kind.result in
+    let n = c.in_default in
+    let read : x ≡ kind_at ws j = c.kind_at_token-kind.ensures ∙ ap (λ l. kind_at l j) c.tokens.ensures.tokens in
+    let other : is x k.Integer ≡ false = made_is _ _ false (sym c.if-eq.false ∙ c.eq.ensures) in
+    fails_plain ws d c.args.at j c.leading_sign-sign.result.0 c.leading_sign-sign.ensures (sym c.is_some.ensures ∙ c.if-is_some.false)
+    (ap (one_of constants) (sym read) ∙ no_constant x other n.not-Character n.not-Text n.not-True n.not-False)
 
 pub returns : goal.returns
 unfolding is
@@ -62,19 +55,26 @@ returns c = λ d.
     let ws = c.args.source.now in
     let j = c.leading_sign-sign.result.1 in
     let n = c.token_no-token.result in
-    let x = c.index-tokens-next-2 in
-    let same = c.tokens-tokens.ensures.tokens in
     let within : j < length ws = search rules in
-    let kind = (slice_index_or c.tokens-tokens.result.now j x.result).kind in
-    let read = ap (λ y. y.kind) (sym x.is) ∙ kind_read ws j x.result within (x.is ∙ ap (λ z. slice_index_or z j x.result) same) in
-    let e = c.match-tokens-next-2.constant in
-    let none = sym c.if-is_some.ensures in
-    let ended = c.tokens-tokens.ensures.whole.ended in
+    let e = c.match-kind.constant in
+    let read : c.kind_at_token-kind.result ≡ kind_at ws j = c.kind_at_token-kind.ensures ∙ ap (λ l. kind_at l j) c.tokens.ensures.tokens in
+    let none = sym c.is_some.ensures ∙ c.if-is_some.false in
+    let ended = c.tokens.ensures.whole.ended in
     let sign = c.leading_sign-sign.ensures in
-    let made = reads_made ws d c.args.at j c.leading_sign-sign.result.0 n kind in
-    elim c.match-tokens-next-2.branch [
-      | in-Character w ↦ made (k.Character w.in-Character.value) e (constant.Character n w.in-Character.value) ended c.requires.within within sign none read w.in-Character.is c.token_no-token.ensures w.constant-is refl refl refl refl
-      | in-Text+in_ok-copy-in-Text w ↦ made (k.Text w.in_ok-copy-in-Text.field-0) e (constant.Text n w.in_ok-copy-in-Text.field-0) ended c.requires.within within sign none read (w.in-Text.is ∙ ap k.Text (sym w.in_ok-copy-in-Text.ensures.same)) c.token_no-token.ensures w.constant-is refl refl refl refl
-      | in-True w ↦ made k.True e (constant.True n) ended c.requires.within within sign none read w.in-True.is c.token_no-token.ensures w.constant-is refl refl refl refl
-      | in-False w ↦ made k.False e (constant.False n) ended c.requires.within within sign none read w.in-False.is c.token_no-token.ensures w.constant-is refl refl refl refl
+    let number = c.token_no-token.ensures in
+    elim c.match-kind.branch [
+      | in-Character w ↦
+          (let is : kind_at ws j ≡ k.Character = sym read ∙ w.in-Character.is in
+          let v = w.character_at.result in
+          reads_made ws d c.args.at j c.leading_sign-sign.result.0 n k.Character (token_value.Character v) e (constant.Character n v) ended c.requires.within within sign none is (w.character_at.ensures is) number w.constant-is refl refl refl)
+      | in-Text+in_ok-bytes_at-in-Text w ↦
+          (let is : kind_at ws j ≡ k.Text = sym read ∙ w.in-Text.is in
+          let v = w.in_ok-bytes_at-in-Text.field-0 in
+          reads_made ws d c.args.at j c.leading_sign-sign.result.0 n k.Text (token_value.Bytes v) e (constant.Text n v) ended c.requires.within within sign none is (w.in_ok-bytes_at-in-Text.ensures.text is) number w.constant-is refl refl refl)
+      | in-True w ↦
+          (let is : kind_at ws j ≡ k.True = sym read ∙ w.in-True.is in
+          reads_made ws d c.args.at j c.leading_sign-sign.result.0 n k.True token_value.Absent e (constant.True n) ended c.requires.within within sign none is (bare_value ws j k.True refl is) number w.constant-is refl refl refl)
+      | in-False w ↦
+          (let is : kind_at ws j ≡ k.False = sym read ∙ w.in-False.is in
+          reads_made ws d c.args.at j c.leading_sign-sign.result.0 n k.False token_value.Absent e (constant.False n) ended c.requires.within within sign none is (bare_value ws j k.False refl is) number w.constant-is refl refl refl)
     ]

@@ -1,8 +1,8 @@
 use Rattle.std.proofs.Common.{[], ◌∷◌, true, false, refl}
-use Rattle.sim_tree.specs.declared.terminal.Terminal.TheVariants as t
+use Rattle.sim_base.specs.declared.token.TokenKind.TheVariants as k
 use Rattle.sim_tree.specs.Grammar as g
 use Rattle.sim_tree.specs.Grammar.{Of, Maybe, just}
-use Rattle.sim_tree.specs.Reading.{terminal_at, done, node}
+use Rattle.sim_tree.specs.Reading.{kind_at, done, node}
 use Rattle.sim_tree.specs.Derivation.{identifier}
 use Rattle.sim_tree.specs.ProgramDerivation.{constant_derivation, variable_derivation}
 use Rattle.sim_expr_parser.proofs.Tables.{one_row, just_is}
@@ -17,7 +17,7 @@ returns-in_err-name c = λ d.
     let e = c.in_err-name.field-0.0 in
     let r = c.from_residual in
     exit (λ r. GivesPart c.args.source.now d g.Variable c.args.at variable_derivation r) r.result e r.ensures.1
-    (first-stops c.args.source.now d c.args.at g.Variable (just t.Identifier) (Of Maybe g.Value ∷ []) refl refl c.requires.within e (c.in_err-name.ensures d (Of Maybe g.Value ∷ [])))
+    (first-stops c.args.source.now d c.args.at g.Variable (just k.Identifier) (Of Maybe g.Value ∷ []) refl refl c.requires.within e (c.in_err-name.ensures d (Of Maybe g.Value ∷ [])))
 
 pub eat-requires-clause-within : goal.eat-requires-clause-within
 eat-requires-clause-within c = (c.in_ok-name.ensures 0).within
@@ -26,8 +26,8 @@ pub returns-in_default : goal.returns-in_default
 returns-in_default c = λ d.
     let ws = c.args.source.now in
     let name = c.in_ok-name.ensures d in
-    let w1 = opened-past ws d c.args.at c.in_ok-name.next g.Variable (just t.Identifier) (Of Maybe g.Value ∷ []) (identifier c.in_ok-name.name) refl refl c.requires.within name in
-    gone (to w1 (skipped (one_row g.Value (just t.Equal) value_symbols (terminal_at ws c.in_ok-name.next) false refl (just_is _ _ _ c.in_default.ensures)) name.within)) _ refl
+    let w1 = opened-past ws d c.args.at c.in_ok-name.next g.Variable (just k.Identifier) (Of Maybe g.Value ∷ []) (identifier c.in_ok-name.name) refl refl c.requires.within name in
+    gone (to w1 (skipped (one_row g.Value (just k.Equal) value_symbols (kind_at ws c.in_ok-name.next) false refl (just_is _ _ _ c.in_default.ensures)) name.within)) _ refl
 
 pub returns-in_err-constant : goal.returns-in_err-constant
 returns-in_err-constant c = λ d.
@@ -35,8 +35,8 @@ returns-in_err-constant c = λ d.
     let at = c.in_ok-name.next in
     let w = c.in-Some.ensures in
     let name = c.in_ok-name.ensures d in
-    let w1 = opened-past ws d c.args.at at g.Variable (just t.Identifier) (Of Maybe g.Value ∷ []) (identifier c.in_ok-name.name) refl refl c.requires.within name in
-    let m0 = opened ws d at g.Value value_symbols refl (one_row g.Value (just t.Equal) value_symbols (terminal_at ws at) true refl (just_is _ _ _ w.0)) name.within in
+    let w1 = opened-past ws d c.args.at at g.Variable (just k.Identifier) (Of Maybe g.Value ∷ []) (identifier c.in_ok-name.name) refl refl c.requires.within name in
+    let m0 = opened ws d at g.Value value_symbols refl (one_row g.Value (just k.Equal) value_symbols (kind_at ws at) true refl (just_is _ _ _ w.0)) name.within in
     let m1 = to m0 (marked w) in
     let e = c.in_err-constant.field-0.0 in
     let r = c.from_residual-in_err-constant in
@@ -49,7 +49,7 @@ returns c = λ d.
     let at = c.in_ok-name.next in
     let w = c.in-Some.ensures in
     let name = c.in_ok-name.ensures d in
-    let w1 = opened-past ws d c.args.at at g.Variable (just t.Identifier) (Of Maybe g.Value ∷ []) (identifier c.in_ok-name.name) refl refl c.requires.within name in
-    let m0 = opened ws d at g.Value value_symbols refl (one_row g.Value (just t.Equal) value_symbols (terminal_at ws at) true refl (just_is _ _ _ w.0)) name.within in
+    let w1 = opened-past ws d c.args.at at g.Variable (just k.Identifier) (Of Maybe g.Value ∷ []) (identifier c.in_ok-name.name) refl refl c.requires.within name in
+    let m0 = opened ws d at g.Value value_symbols refl (one_row g.Value (just k.Equal) value_symbols (kind_at ws at) true refl (just_is _ _ _ w.0)) name.within in
     let m1 = to m0 (marked w) in
     gone (to w1 (maybe (gone (to m1 (once (c.in_ok-constant.ensures d))) (node g.Constant (constant_derivation c.in_ok-constant.constant) done) refl))) _ refl

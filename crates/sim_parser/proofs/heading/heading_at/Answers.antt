@@ -1,8 +1,8 @@
 use Rattle.std.proofs.Common.{refl, sym, subst, false, []}
-use Rattle.sim_tree.specs.declared.terminal.Terminal.TheVariants as t
+use Rattle.sim_base.specs.declared.token.TokenKind.TheVariants as k
 use Rattle.sim_tree.specs.Grammar as g
 use Rattle.sim_tree.specs.Grammar.{Once}
-use Rattle.sim_tree.specs.Reading.{terminal_at, fails-part}
+use Rattle.sim_tree.specs.Reading.{kind_at, fails-part}
 use Rattle.sim_tree.specs.Claim.{one}
 use Rattle.sim_tree.specs.ProgramDerivation.{heading_derivation}
 use Rattle.sim_expr_parser.specs.Parsing.{Stops}
@@ -18,7 +18,7 @@ returns-in-Some c = λ d.
     let ws = c.args.source.now in
     let i = c.args.at in
     let w = c.in-Some.ensures in
-    gone (to (opened ws d i g.Heading no_parameters_row refl (by_test g.Heading (terminal_at ws i) t.Semicolon no_parameters_row w.0 heading_semicolon) c.requires.within) (marked w)) _
+    gone (to (opened ws d i g.Heading no_parameters_row refl (by_test g.Heading (kind_at ws i) k.Semicolon no_parameters_row w.0 heading_semicolon) c.requires.within) (marked w)) _
     (heading-none c.new.result.items c.new-in-Some.result.items c.new-in-Some-2.result.items c.new.ensures.items c.new-in-Some.ensures.items c.new-in-Some-2.ensures.items)
 
 pub returns-in_err-next : goal.returns-in_err-next
@@ -29,7 +29,7 @@ returns-in_err-next c = λ d.
     let r = c.from_residual in
     let h = c.in_err-next.ensures in
     exit (λ r. GivesPart ws d g.Heading i (λ h. heading_derivation h.parameters.items h.modes.items h.specifications.items) r) r.result e r.ensures.1
-    (subst (λ z. Stops ws d (one g.Heading) i z) (sym h.1) (fails-part (heading-row (terminal_at ws i) false false h.0 c.in_default.ensures) refl))
+    (subst (λ z. Stops ws d (one g.Heading) i z) (sym h.1) (fails-part (heading-row (kind_at ws i) false false h.0 c.in_default.ensures) refl))
 
 pub returns-in_err-parameters : goal.returns-in_err-parameters
 returns-in_err-parameters c = λ d.
@@ -53,7 +53,7 @@ returns-in_err-next-2 c = λ d.
     let e = c.in_err-next-2.field-0.0 in
     let r = c.from_residual-in_err-next-2 in
     exit (λ r. GivesPart ws d g.Heading i (λ h. heading_derivation h.parameters.items h.modes.items h.specifications.items) r) r.result e r.ensures.1
-    (stops w2 e (mark-stops ws d c.in_ok-parameters.next t.Close e c.in_err-next-2.ensures))
+    (stops w2 e (mark-stops ws d c.in_ok-parameters.next k.Close e c.in_err-next-2.ensures))
 
 pub returns-in_err-next-3 : goal.returns-in_err-next-3
 returns-in_err-next-3 c = λ d.
@@ -65,7 +65,7 @@ returns-in_err-next-3 c = λ d.
     let e = c.in_err-next-3.field-0.0 in
     let r = c.from_residual-in_err-next-3 in
     exit (λ r. GivesPart ws d g.Heading i (λ h. heading_derivation h.parameters.items h.modes.items h.specifications.items) r) r.result e r.ensures.1
-    (stops w3 e (mark-stops ws d c.in_ok-next-2.next t.Semicolon e c.in_err-next-3.ensures))
+    (stops w3 e (mark-stops ws d c.in_ok-next-2.next k.Semicolon e c.in_err-next-3.ensures))
 
 pub returns-in_err-modes : goal.returns-in_err-modes
 returns-in_err-modes c = λ d.

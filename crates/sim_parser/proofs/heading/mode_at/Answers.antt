@@ -1,7 +1,7 @@
 use Rattle.std.proofs.Common.{refl}
 use Rattle.sim_base.specs.declared.token.TokenKind.TheVariants as k
 use Rattle.sim_tree.specs.Grammar.{is}
-use Rattle.sim_expr_parser.proofs.Terminals.{took}
+use Rattle.sim_expr_parser.proofs.Tokens.{took}
 use Rattle.sim_parser.specs.Fronts.{modes}
 use Rattle.sim_parser.proofs.heading.mode_at.Goals as goal
 

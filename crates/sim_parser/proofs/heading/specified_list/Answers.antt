@@ -1,6 +1,6 @@
 use Rattle.std.proofs.Common.{◌≡◌, ◌∷◌, [], ◌++◌, length, arith, ap, sym, ◌∙◌, Ok, Err}
 use Rattle.sim_tree.specs.Grammar.{Many, Of, one_of}
-use Rattle.sim_tree.specs.Reading.{terminal_at}
+use Rattle.sim_tree.specs.Reading.{kind_at}
 use Rattle.sim_expr_parser.proofs.Steps.{exit, leads-stops, once-stops}
 use Rattle.sim_parser.specs.Fronts.{GivesSome, begins_specification}
 use Rattle.sim_parser.proofs.HeadingSteps.{rows-start, rows-more, rows-end, more-some, many-stops}
@@ -35,7 +35,7 @@ returns-in_err-next g c = λ d n view b each.
     let l = c.loop-item_at in
     let e = c.in_err-next.field-0.0 in
     let r = c.from_residual-in_err-next in
-    let row = (b (terminal_at ws l.at)).0 (ap (one_of begins_specification) (sym c.terminal_at.ensures) ∙ sym c.loop-item_at-test.ensures) in
+    let row = (b (kind_at ws l.at)).0 (ap (one_of begins_specification) (sym c.kind_at.ensures) ∙ sym c.loop-item_at-test.ensures) in
     exit (λ r. GivesSome ws d n i view r) r.result e r.ensures.1
     (leads-stops (l.invariant.goes d n view b each) e (many-stops ws d l.at n row.0 row.1 e (each l.at (Err e) l.invariant.within c.in_err-next.ensures) []))
 
@@ -64,5 +64,5 @@ pub returns : goal.returns
 returns g c = λ d n view b each.
     let ws = c.args.source.now in
     let l = c.loop-item_at in
-    let none = (b (terminal_at ws l.at)).1 (ap (one_of begins_specification) (sym c.terminal_at.ensures) ∙ sym c.loop-item_at-test.ensures) in
+    let none = (b (kind_at ws l.at)).1 (ap (one_of begins_specification) (sym c.kind_at.ensures) ∙ sym c.loop-item_at-test.ensures) in
     (l.invariant.some, rows-end view l.list.items (l.invariant.goes d n view b each) none l.invariant.ahead l.invariant.within)

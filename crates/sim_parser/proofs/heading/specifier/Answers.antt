@@ -1,13 +1,12 @@
 use Rattle.std.proofs.Common.{refl, true}
 use Rattle.sim_base.specs.declared.token.TokenKind.TheVariants as k
-use Rattle.sim_tree.specs.declared.terminal.Terminal.TheVariants as t
 use Rattle.sim_tree.specs.Grammar as g
 use Rattle.sim_tree.specs.Grammar.{is}
-use Rattle.sim_tree.specs.Reading.{terminal_at}
+use Rattle.sim_tree.specs.Reading.{kind_at}
 use Rattle.sim_tree.specs.ProgramDerivation.{specifier_derivation}
 use Rattle.sim_expr_parser.proofs.Steps.{opened, to, once, kept, exit}
 use Rattle.sim_expr_parser.proofs.Tables.{by_test}
-use Rattle.sim_expr_parser.proofs.Terminals.{took_one}
+use Rattle.sim_expr_parser.proofs.Tokens.{took_one}
 use Rattle.sim_parser.specs.Fronts.{GivesFront, names_row}
 use Rattle.sim_parser.proofs.HeadingSteps.{front, type-began, type-stops, procedure_row, typed_spec_row, spec-row, spec_procedure, spec-kind, no-spec-kind}
 use Rattle.sim_parser.proofs.heading.specifier.Goals as goal
@@ -18,7 +17,7 @@ returns-in-Some c = λ d.
     let i = c.args.at in
     let w = c.in-Some.ensures in
     let n = c.token_no-token.result in
-    front (to (opened ws d i g.Specification procedure_row refl (by_test g.Specification (terminal_at ws i) t.Procedure procedure_row w.0 spec_procedure) c.requires.within) (kept n.0 c.token_no-token.ensures (took_one ws i c.in-Some.next k.Procedure refl w)))
+    front (to (opened ws d i g.Specification procedure_row refl (by_test g.Specification (kind_at ws i) k.Procedure procedure_row w.0 spec_procedure) c.requires.within) (kept n.0 c.token_no-token.ensures (took_one ws i c.in-Some.next k.Procedure refl w)))
 
 pub returns-in_err-element : goal.returns-in_err-element
 returns-in_err-element c = λ d.
@@ -42,7 +41,7 @@ returns-in-Some-eat c = λ d.
     let i = c.args.at in
     let p = c.in_ok-element.ensures d in
     let n = c.token_no-token-2.result in
-    front (to (to (opened ws d i g.Specification typed_spec_row refl (spec-row (terminal_at ws i) true (is (terminal_at ws i) t.Procedure) (type-began p) refl) c.requires.within) (once p))
+    front (to (to (opened ws d i g.Specification typed_spec_row refl (spec-row (kind_at ws i) true (is (kind_at ws i) k.Procedure) (type-began p) refl) c.requires.within) (once p))
     (spec-kind ws d c.in_ok-element.next c.in-Some-eat.end k.Array n refl refl c.in-Some-eat.ensures c.token_no-token-2.ensures p.within))
 
 pub eat-requires-3-clause-within : goal.eat-requires-3-clause-within
@@ -55,7 +54,7 @@ returns-in-Some-eat-2 c = λ d.
     let i = c.args.at in
     let p = c.in_ok-element.ensures d in
     let n = c.token_no-token-2.result in
-    front (to (to (opened ws d i g.Specification typed_spec_row refl (spec-row (terminal_at ws i) true (is (terminal_at ws i) t.Procedure) (type-began p) refl) c.requires.within) (once p))
+    front (to (to (opened ws d i g.Specification typed_spec_row refl (spec-row (kind_at ws i) true (is (kind_at ws i) k.Procedure) (type-began p) refl) c.requires.within) (once p))
     (spec-kind ws d c.in_ok-element.next c.in-Some-eat-2.end k.Procedure n refl refl c.in-Some-eat-2.ensures c.token_no-token-2.ensures p.within))
 
 pub returns : goal.returns
@@ -63,5 +62,5 @@ returns c = λ d.
     let ws = c.args.source.now in
     let i = c.args.at in
     let p = c.in_ok-element.ensures d in
-    front (to (to (opened ws d i g.Specification typed_spec_row refl (spec-row (terminal_at ws i) true (is (terminal_at ws i) t.Procedure) (type-began p) refl) c.requires.within) (once p))
+    front (to (to (opened ws d i g.Specification typed_spec_row refl (spec-row (kind_at ws i) true (is (kind_at ws i) k.Procedure) (type-began p) refl) c.requires.within) (once p))
     (no-spec-kind ws d c.in_ok-element.next c.in_default-eat.ensures c.in_default-eat-2.ensures p.within))

@@ -1,12 +1,11 @@
 use Rattle.std.proofs.Common.{arith, [], refl}
 use Rattle.sim_base.specs.declared.token.TokenKind.TheVariants as k
-use Rattle.sim_tree.specs.declared.terminal.Terminal.TheVariants as t
 use Rattle.sim_tree.specs.Grammar as g
 use Rattle.sim_tree.specs.Grammar.{Once, just}
 use Rattle.sim_tree.specs.ProgramDerivation.{virtual_derivation}
 use Rattle.sim_expr_parser.proofs.Steps.{exit, kept, kept-stops, once, once-stops, marked, mark-stops}
 use Rattle.sim_expr_parser.proofs.Tables.{just_is}
-use Rattle.sim_expr_parser.proofs.Terminals.{took_one}
+use Rattle.sim_expr_parser.proofs.Tokens.{took_one}
 use Rattle.sim_parser.specs.Parsing.{GivesPart}
 use Rattle.sim_parser.specs.Fronts.{names_row}
 use Rattle.sim_parser.proofs.Along.{all, along, along-stops, past}
@@ -32,7 +31,7 @@ returns-in_err-next-clause-gives c = λ d.
     let r = c.from_residual-in_err-next in
     let h = c.in_err-next.ensures in
     exit (λ r. GivesPart ws d g.VirtualSpecification c.args.at virtual_derivation r) r.result e r.ensures.1
-    ((c.in_ok-result.ensures d).fails e (kept-stops ws d c.in_ok-result.next (just t.Procedure) e (just_is _ _ _ h.0) h.1 names_row) [] Once)
+    ((c.in_ok-result.ensures d).fails e (kept-stops ws d c.in_ok-result.next (just k.Procedure) e (just_is _ _ _ h.0) h.1 names_row) [] Once)
 
 pub returns-in_err-names-clause-gives : goal.returns-in_err-names-clause-gives
 returns-in_err-names-clause-gives c = λ d.
@@ -57,7 +56,7 @@ returns-in_err-end-clause-gives c = λ d.
     let n = c.token_no-token.result in
     let b1 = past (along d c.in_ok-result.next procedure_row q.within) (kept n.0 c.token_no-token.ensures (took_one ws c.in_ok-result.next c.in_ok-next.next k.Procedure refl c.in_ok-next.ensures)) in
     exit (λ r. GivesPart ws d g.VirtualSpecification c.args.at virtual_derivation r) r.result e r.ensures.1
-    (q.fails e (along-stops (past b1 (once (c.in_ok-names.ensures d))) e (mark-stops ws d c.in_ok-names.next t.Semicolon e c.in_err-end.ensures)) [] Once)
+    (q.fails e (along-stops (past b1 (once (c.in_ok-names.ensures d))) e (mark-stops ws d c.in_ok-names.next k.Semicolon e c.in_err-end.ensures)) [] Once)
 
 pub returns-clause-gives : goal.returns-clause-gives
 returns-clause-gives c = λ d.

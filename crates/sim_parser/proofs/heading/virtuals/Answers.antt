@@ -1,5 +1,5 @@
 use Rattle.std.proofs.Common.{map, refl, sym, ap}
-use Rattle.sim_tree.specs.declared.terminal.Terminal.TheVariants as t
+use Rattle.sim_base.specs.declared.token.TokenKind.TheVariants as k
 use Rattle.sim_tree.specs.Grammar as g
 use Rattle.sim_tree.specs.Grammar.{Of, Maybe}
 use Rattle.sim_tree.specs.Reading.{done, node}
@@ -24,7 +24,7 @@ returns-in_err-next c = λ d.
     let e = c.in_err-next.field-0.0 in
     let r = c.from_residual in
     exit (λ r. GivesTo ws d (Of Maybe g.Virtuals) i (λ v. virtuals_derivation v.items) r) r.result e r.ensures.1
-    (stops-in Maybe (open-virtual ws d i c.in-Some.next c.requires.within c.in-Some.ensures) e (mark-stops ws d c.in-Some.next t.Colon e c.in_err-next.ensures))
+    (stops-in Maybe (open-virtual ws d i c.in-Some.next c.requires.within c.in-Some.ensures) e (mark-stops ws d c.in-Some.next k.Colon e c.in_err-next.ensures))
 
 pub returns : goal.returns
 returns c = λ d.

@@ -1,6 +1,6 @@
 use Rattle.std.proofs.Common.{◌≡◌, Ok, List, [], ◌∷◌, refl, rules}
 use Rattle.sim_tree.specs.declared.expr.Identifier.{Identifier}
-use Rattle.sim_tree.specs.declared.terminal.Terminal.TheVariants as t
+use Rattle.sim_base.specs.declared.token.TokenKind.TheVariants as k
 use Rattle.sim_tree.specs.Grammar as g
 use Rattle.sim_tree.specs.Grammar.{Of, Many, Kept, just}
 use Rattle.sim_tree.specs.Reading.{done}
@@ -19,12 +19,12 @@ pub returns : goal.returns
 returns c = λ d.
     let ws = c.args.source.now in
     let i = c.args.start in
-    kept-part ws d i g.Identifiers (just t.Identifier) (Of Many g.NextIdentifier ∷ []) (λ v. ids v.items) refl refl c.requires.within c.comma_list.result
-    (items-all ws d i (Kept (just t.Identifier)) g.NextIdentifier identifier (λ v. ids v.items) (λ v. same v.items) c.comma_list.result
-    (c.comma_list.ensures d (Kept (just t.Identifier)) g.NextIdentifier identifier (refl, refl) (λ j r h p. let here : ReadsAt ws (Kept (just t.Identifier)) identifier j r = search rules in here.each d)))
+    kept-part ws d i g.Identifiers (just k.Identifier) (Of Many g.NextIdentifier ∷ []) (λ v. ids v.items) refl refl c.requires.within c.comma_list.result
+    (items-all ws d i (Kept (just k.Identifier)) g.NextIdentifier identifier (λ v. ids v.items) (λ v. same v.items) c.comma_list.result
+    (c.comma_list.ensures d (Kept (just k.Identifier)) g.NextIdentifier identifier (refl, refl) (λ j r h p. let here : ReadsAt ws (Kept (just k.Identifier)) identifier j r = search rules in here.each d)))
 
 pub comma_list-requires-clause-reader : goal.comma_list-requires-clause-reader
 comma_list-requires-clause-reader c = record {
   callable = λ i h. search rules;
-  ahead = λ i x j h p. let here : ReadsAt c.args.source.now (Kept (just t.Identifier)) identifier i (Ok (x, j)) = search rules in ((here.each 0).ahead, (here.each 0).within);
+  ahead = λ i x j h p. let here : ReadsAt c.args.source.now (Kept (just k.Identifier)) identifier i (Ok (x, j)) = search rules in ((here.each 0).ahead, (here.each 0).within);
 }

@@ -1,9 +1,8 @@
 use Rattle.std.proofs.Common.{refl}
 use Rattle.sim_base.specs.declared.token.TokenKind.TheVariants as k
-use Rattle.sim_tree.specs.declared.terminal.Terminal.TheVariants as t
 use Rattle.sim_tree.specs.Grammar as g
 use Rattle.sim_tree.specs.Grammar.{is, right_side}
-use Rattle.sim_tree.specs.Reading.{terminal_at, leaf, done}
+use Rattle.sim_tree.specs.Reading.{kind_at, done, bare_leaf}
 use Rattle.sim_tree.specs.Derivation.{identifier}
 use Rattle.sim_tree.specs.ProgramDerivation.{type_derivation}
 use Rattle.sim_expr_parser.proofs.Steps.{to, stops, gone, marked, mark-stops, exit}
@@ -32,7 +31,7 @@ returns-in_err-next c = λ d.
     let ws = c.args.source.now in
     let i = c.args.at in
     let e = c.in_err-next.field-0.0 in
-    let none = no-types (terminal_at ws i) c.in_default.ensures c.in_default-eat.ensures c.in_default-eat-2.ensures c.in_default-eat-3.ensures c.in_err-next.ensures.0 in
+    let none = no-types (kind_at ws i) c.in_default.ensures c.in_default-eat.ensures c.in_default-eat-2.ensures c.in_default-eat-3.ensures c.in_err-next.ensures.0 in
     exit (λ r. GivesPart ws d g.TypeName i type_derivation r) c.from_residual.result e c.from_residual.ensures.1
     (no-type-stops ws d i e none c.in_err-next.ensures.1)
 
@@ -44,7 +43,7 @@ returns-in_err-next-2 c = λ d.
     let r = c.from_residual-in_err-next-2 in
     let w0 = opened-ref ws d i c.in_ok-next.next c.token_no-token.result c.in_ok-next.ensures c.token_no-token.ensures c.requires.within in
     exit (λ r. GivesPart ws d g.TypeName i type_derivation r) r.result e r.ensures.1
-    (stops w0 e (mark-stops ws d c.in_ok-next.next t.Open e c.in_err-next-2.ensures))
+    (stops w0 e (mark-stops ws d c.in_ok-next.next k.Open e c.in_err-next-2.ensures))
 
 pub returns-in_err-class : goal.returns-in_err-class
 returns-in_err-class c = λ d.
@@ -69,7 +68,7 @@ returns-in_err-end c = λ d.
     let w0 = opened-ref ws d i c.in_ok-next.next c.token_no-token.result c.in_ok-next.ensures c.token_no-token.ensures c.requires.within in
     let w2 = to (to w0 (marked c.in_ok-next-2.ensures)) (c.in_ok-class.ensures d) in
     exit (λ r. GivesPart ws d g.TypeName i type_derivation r) r.result e r.ensures.1
-    (stops w2 e (mark-stops ws d c.in_ok-class.next t.Close e c.in_err-end.ensures))
+    (stops w2 e (mark-stops ws d c.in_ok-class.next k.Close e c.in_err-end.ensures))
 
 pub returns : goal.returns
 returns c = λ d.
@@ -78,4 +77,4 @@ returns c = λ d.
     let n = c.token_no-token.result in
     let w0 = opened-ref ws d i c.in_ok-next.next n c.in_ok-next.ensures c.token_no-token.ensures c.requires.within in
     let w2 = to (to w0 (marked c.in_ok-next-2.ensures)) (c.in_ok-class.ensures d) in
-    gone (to w2 (marked c.in_ok-end.ensures)) (leaf n.0 k.Ref (identifier c.in_ok-class.class done)) refl
+    gone (to w2 (marked c.in_ok-end.ensures)) (bare_leaf n.0 k.Ref (identifier c.in_ok-class.class done)) refl

@@ -1,5 +1,5 @@
 use Rattle.std.proofs.Common.{◌∙◌, sym, ap}
-use Rattle.sim_tree.specs.Reading.{leaf}
+use Rattle.sim_tree.specs.Reading.{bare_leaf}
 use Rattle.sim_tree.specs.ProgramDerivation.{activation_kind, expr, statement_derivation, timing_derivation}
 use Rattle.sim_tree.proofs.StatementLemmas.{derivation-Activation}
 use Rattle.sim_expr_parser.proofs.Steps.{exit, once}
@@ -43,4 +43,4 @@ returns c =
     let time = c.in_ok-timing.timing in
     let w2 = past (past (along d at activation_row c.requires.within) (c.in_ok-activation.ensures d)) (once c.in_ok-process.ensures.1) in
     left w2 (timing_derivation time) c.in_ok-timing.ensures _
-    (ap (λ i. leaf i (activation_kind word) (expr process (timing_derivation time))) (sym c.token_no-token.ensures) ∙ sym (derivation-Activation n word process time))
+    (ap (λ i. bare_leaf i (activation_kind word) (expr process (timing_derivation time))) (sym c.token_no-token.ensures) ∙ sym (derivation-Activation n word process time))

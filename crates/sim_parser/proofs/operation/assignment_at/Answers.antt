@@ -1,7 +1,7 @@
 use Rattle.std.proofs.Common.{refl}
 use Rattle.sim_base.specs.declared.token.TokenKind.TheVariants as k
 use Rattle.sim_tree.specs.Grammar.{is, assignments}
-use Rattle.sim_expr_parser.proofs.Terminals.{took}
+use Rattle.sim_expr_parser.proofs.Tokens.{took}
 use Rattle.sim_parser.proofs.operation.assignment_at.Goals as goal
 
 pub returns-in-Some : goal.returns-in-Some

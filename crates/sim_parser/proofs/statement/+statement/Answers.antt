@@ -5,7 +5,7 @@ use Rattle.std.proofs.Common.{◌≡◌, true, false, [], ◌∷◌, Some, refl,
 use Rattle.sim_base.specs.declared.token.TokenKind.TheVariants as k
 use Rattle.sim_expr_parser.proofs.Steps.{exit, gone, kept, marked, maybe, once, opened, passed, skipped, stops-at, stops-in, to}
 use Rattle.sim_expr_parser.proofs.Tables.{under-limit}
-use Rattle.sim_expr_parser.proofs.Terminals.{made_is, took_one}
+use Rattle.sim_expr_parser.proofs.Tokens.{made_is, took_one}
 use Rattle.sim_parser.proofs.Exits.{here, here_kept, here_mark, here_part, out, past_kept, past_mark, past_part, past_to, rest}
 use Rattle.sim_parser.proofs.Along.{all, along, along-ends, along-stops, left, past}
 use Rattle.sim_parser.proofs.StatementRows.{after_head, block_at, branch_no_end, branch_row, branch_uncounted, for_at, from_inside, identified_at, if_at, inner_at, inside, inspect_at, nothing_read, operation_begins, operation_stands, too_deep, while_at, activate_at, reactivate_at}
@@ -18,13 +18,12 @@ use Rattle.sim_tree.proofs.StatementLemmas.{derivation-Block, derivation-Empty, 
 use Rattle.sim_tree.specs.Claim.{one}
 use Rattle.sim_tree.specs.Grammar as g
 use Rattle.sim_tree.specs.Grammar.{Once, Maybe, Many, Of, Kept, Mark, is, just, one_of, right_side, begins_statement}
-use Rattle.sim_tree.specs.Reading.{done, leaf, node, place, terminal_at}
+use Rattle.sim_tree.specs.Reading.{done, leaf, node, place, kind_at, bare_leaf}
 use Rattle.sim_tree.specs.Derivation.{Derivation, arguments, identifier, raise, row, selector_derivation, derivation_of}
 use Rattle.sim_tree.specs.ProgramDerivation.{acted, assigned_derivation, block_derivation, statement_derivation}
 use Rattle.sim_tree.specs.Tree.{ReadsPart}
 use Rattle.sim_tree.specs.declared.program.BlockPrefix.{BlockPrefix}
 use Rattle.sim_tree.specs.declared.stmt.Stmt.TheVariants as s
-use Rattle.sim_tree.specs.declared.terminal.Terminal.TheVariants as t
 use Rattle.sim_parser.proofs.statement.+statement.Goals as goal
 use Rattle.sim_parser.proofs.statement.+statement.Goals.{for_statement-in-Values, for_statement-in-References}
 use Rattle.sim_parser.proofs.statement.+statement.Answers.Inspections as inspections
@@ -94,7 +93,7 @@ if_statement-returns u c =
     left w4 (branch_derivation branch.Else o) c.in_ok-else_branch.ensures (statement_derivation (s.If n e a o)) (if_derivation n e c.in_ok-first.first a o c.in_ok-then_branch.ensures.ok)
 
 pub optional_branch-eat-requires-clause-no_end : goal.optional_branch-eat-requires-clause-no_end
-optional_branch-eat-requires-clause-no_end u c = ap (is t.EndOfSource) c.word.ensures ∙ branch_no_end c.args.branch
+optional_branch-eat-requires-clause-no_end u c = ap (is k.EndOfSource) c.word.ensures ∙ branch_no_end c.args.branch
 
 pub optional_branch-returns-in_default : goal.optional_branch-returns-in_default
 optional_branch-returns-in_default u c =
@@ -102,7 +101,7 @@ optional_branch-returns-in_default u c =
     let d = c.args.depth in
     let i = c.args.at in
     let b = c.args.branch in
-    let none = branch_row b (terminal_at ws i) false (ap (is (terminal_at ws i)) (sym c.word.ensures) ∙ c.in_default.ensures) in
+    let none = branch_row b (kind_at ws i) false (ap (is (kind_at ws i)) (sym c.word.ensures) ∙ c.in_default.ensures) in
     all (past (along d i (Of Maybe (branch_part b) ∷ []) c.requires.within) (skipped none c.requires.within)) done refl
 
 pub optional_branch-returns-in_err-body : goal.optional_branch-returns-in_err-body
@@ -112,8 +111,8 @@ optional_branch-returns-in_err-body u c =
     let i = c.args.at in
     let b = c.args.branch in
     let w = c.in-Some.ensures in
-    let h = ap (is (terminal_at ws i)) (sym c.word.ensures) ∙ w.0 in
-    let m0 = opened ws d i (branch_part b) (Mark (branch_word b) ∷ one g.Statement) (branch_uncounted b) (branch_row b (terminal_at ws i) true h) c.requires.within in
+    let h = ap (is (kind_at ws i)) (sym c.word.ensures) ∙ w.0 in
+    let m0 = opened ws d i (branch_part b) (Mark (branch_word b) ∷ one g.Statement) (branch_uncounted b) (branch_row b (kind_at ws i) true h) c.requires.within in
     let m1 = to m0 (marked (h, w.1, w.2)) in
     let e = c.in_err-body.field-0.0 in
     let r = c.from_residual in
@@ -127,8 +126,8 @@ optional_branch-returns u c =
     let i = c.args.at in
     let b = c.args.branch in
     let w = c.in-Some.ensures in
-    let h = ap (is (terminal_at ws i)) (sym c.word.ensures) ∙ w.0 in
-    let m0 = opened ws d i (branch_part b) (Mark (branch_word b) ∷ one g.Statement) (branch_uncounted b) (branch_row b (terminal_at ws i) true h) c.requires.within in
+    let h = ap (is (kind_at ws i)) (sym c.word.ensures) ∙ w.0 in
+    let m0 = opened ws d i (branch_part b) (Mark (branch_word b) ∷ one g.Statement) (branch_uncounted b) (branch_row b (kind_at ws i) true h) c.requires.within in
     let m1 = to m0 (marked (h, w.1, w.2)) in
     let m2 = to m1 (once c.in_ok-body.ensures) in
     let x = c.in_ok-body.body in
@@ -226,8 +225,8 @@ identified_statement-returns-in_err-block u c =
     let i = c.args.at in
     let w2 = past (past (along d i identified_row c.requires.within) (c.in_ok-name.ensures d)) c.in_ok-arguments.ensures in
     let j = c.in_ok-arguments.next in
-    let begin = ap (λ z. is z t.Begin) (sym c.terminal_at.ensures) ∙ made_is _ _ true c.if-eq.ensures in
-    let m0 = opened ws d j g.AfterFirstOperand (one g.Compound) refl (after_head (terminal_at ws j) true begin) w2.within in
+    let begin = ap (λ z. is z k.Begin) (sym c.kind_at.ensures) ∙ made_is _ _ true c.if-eq.ensures in
+    let m0 = opened ws d j g.AfterFirstOperand (one g.Compound) refl (after_head (kind_at ws j) true begin) w2.within in
     let e = c.in_err-block.field-0.0 in
     let r = c.from_residual-in_err-block in
     exit (λ r. GivesAll ws d identified_row i statement_derivation r) r.result e r.ensures.1
@@ -240,8 +239,8 @@ identified_statement-returns-then-eq u c =
     let i = c.args.at in
     let w2 = past (past (along d i identified_row c.requires.within) (c.in_ok-name.ensures d)) c.in_ok-arguments.ensures in
     let j = c.in_ok-arguments.next in
-    let begin = ap (λ z. is z t.Begin) (sym c.terminal_at.ensures) ∙ made_is _ _ true c.if-eq.ensures in
-    let m0 = opened ws d j g.AfterFirstOperand (one g.Compound) refl (after_head (terminal_at ws j) true begin) w2.within in
+    let begin = ap (λ z. is z k.Begin) (sym c.kind_at.ensures) ∙ made_is _ _ true c.if-eq.ensures in
+    let m0 = opened ws d j g.AfterFirstOperand (one g.Compound) refl (after_head (kind_at ws j) true begin) w2.within in
     let b = c.in_ok-block.block in
     let m1 = gone (to m0 (once c.in_ok-block.ensures)) (node g.Compound (block_derivation b) done) refl in
     let p : BlockPrefix = record { class = c.in_ok-name.name; arguments = c.in_ok-arguments.arguments } in
@@ -254,8 +253,8 @@ identified_statement-returns-in_err-selectors u c =
     let i = c.args.at in
     let w2 = past (past (along d i identified_row c.requires.within) (c.in_ok-name.ensures d)) c.in_ok-arguments.ensures in
     let j = c.in_ok-arguments.next in
-    let begin = ap (λ z. is z t.Begin) (sym c.terminal_at.ensures) ∙ made_is _ _ false c.if-eq.ensures in
-    let m0 = opened ws d j g.AfterFirstOperand (Of Many g.Selection ∷ Of Many g.Assigned ∷ []) refl (after_head (terminal_at ws j) false begin) w2.within in
+    let begin = ap (λ z. is z k.Begin) (sym c.kind_at.ensures) ∙ made_is _ _ false c.if-eq.ensures in
+    let m0 = opened ws d j g.AfterFirstOperand (Of Many g.Selection ∷ Of Many g.Assigned ∷ []) refl (after_head (kind_at ws j) false begin) w2.within in
     let e = c.in_err-selectors.field-0.0 in
     let r = c.from_residual-in_err-selectors in
     exit (λ r. GivesAll ws d identified_row i statement_derivation r) r.result e r.ensures.1
@@ -268,8 +267,8 @@ identified_statement-returns-in_err-rest u c =
     let i = c.args.at in
     let w2 = past (past (along d i identified_row c.requires.within) (c.in_ok-name.ensures d)) c.in_ok-arguments.ensures in
     let j = c.in_ok-arguments.next in
-    let begin = ap (λ z. is z t.Begin) (sym c.terminal_at.ensures) ∙ made_is _ _ false c.if-eq.ensures in
-    let m0 = opened ws d j g.AfterFirstOperand (Of Many g.Selection ∷ Of Many g.Assigned ∷ []) refl (after_head (terminal_at ws j) false begin) w2.within in
+    let begin = ap (λ z. is z k.Begin) (sym c.kind_at.ensures) ∙ made_is _ _ false c.if-eq.ensures in
+    let m0 = opened ws d j g.AfterFirstOperand (Of Many g.Selection ∷ Of Many g.Assigned ∷ []) refl (after_head (kind_at ws j) false begin) w2.within in
     let m1 = to m0 c.in_ok-selectors.ensures in
     let e = c.in_err-rest.field-0.0 in
     let r = c.from_residual-in_err-rest in
@@ -283,8 +282,8 @@ identified_statement-returns u c =
     let i = c.args.at in
     let w2 = past (past (along d i identified_row c.requires.within) (c.in_ok-name.ensures d)) c.in_ok-arguments.ensures in
     let j = c.in_ok-arguments.next in
-    let begin = ap (λ z. is z t.Begin) (sym c.terminal_at.ensures) ∙ made_is _ _ false c.if-eq.ensures in
-    let m0 = opened ws d j g.AfterFirstOperand (Of Many g.Selection ∷ Of Many g.Assigned ∷ []) refl (after_head (terminal_at ws j) false begin) w2.within in
+    let begin = ap (λ z. is z k.Begin) (sym c.kind_at.ensures) ∙ made_is _ _ false c.if-eq.ensures in
+    let m0 = opened ws d j g.AfterFirstOperand (Of Many g.Selection ∷ Of Many g.Assigned ∷ []) refl (after_head (kind_at ws j) false begin) w2.within in
     let m2 = to (to m0 c.in_ok-selectors.ensures) c.in_ok-rest.ensures in
     let x = c.in_ok-name.name in
     let l = c.in_ok-arguments.arguments in
@@ -304,67 +303,67 @@ statement-returns-then-not-begins_statement u c =
     let d = c.args.depth in
     let i = c.args.at in
     let n = c.token_no-token.result in
-    let none = ap (one_of begins) (sym c.terminal_at.ensures) ∙ sym c.begins_statement.ensures ∙ c.if-not-begins_statement.true in
+    let none = ap (one_of begins) (sym c.kind_at.ensures) ∙ sym c.begins_statement.ensures ∙ c.if-not-begins_statement.true in
     subst (λ z. ReadsPart ws d g.Statement i z i) (ap (λ z. place z done) (sym c.token_no-token.ensures) ∙ sym (derivation-Empty n)) (nothing_read ws d i none c.requires.within)
 
 pub statement-returns-then-depth-eq-LIMIT : goal.statement-returns-then-depth-eq-LIMIT
 statement-returns-then-depth-eq-LIMIT u c =
-    let b = ap (one_of begins) (sym c.terminal_at.ensures) ∙ sym c.begins_statement.ensures ∙ c.if-not-begins_statement.false in
+    let b = ap (one_of begins) (sym c.kind_at.ensures) ∙ sym c.begins_statement.ensures ∙ c.if-not-begins_statement.false in
     too_deep c.args.source.now c.args.depth c.args.at b (omega arith)
 
 pub statement-returns : goal.statement-returns
 statement-returns u c =
-    let b = ap (one_of begins) (sym c.terminal_at.ensures) ∙ sym c.begins_statement.ensures ∙ c.if-not-begins_statement.false in
+    let b = ap (one_of begins) (sym c.kind_at.ensures) ∙ sym c.begins_statement.ensures ∙ c.if-not-begins_statement.false in
     from_inside c.args.source.now c.args.depth c.args.at b (under-limit c.args.depth c.requires.shallow c.if-depth-eq-LIMIT.false) c.begun_statement.result c.begun_statement.ensures
 
 pub begun_statement-returns-in-Begin : goal.begun_statement-returns-in-Begin
 begun_statement-returns-in-Begin u c =
-    inside c.args.source.now c.args.depth c.args.at (one g.Compound) (ap (right_side g.Statement) (sym c.terminal_at.ensures ∙ c.in-Begin.is) ∙ block_at) c.block_statement.result c.block_statement.ensures
+    inside c.args.source.now c.args.depth c.args.at (one g.Compound) (ap (right_side g.Statement) (sym c.kind_at.ensures ∙ c.in-Begin.is) ∙ block_at) c.block_statement.result c.block_statement.ensures
 
 pub begun_statement-returns-in-Identifier : goal.begun_statement-returns-in-Identifier
 begun_statement-returns-in-Identifier u c =
-    inside c.args.source.now c.args.depth c.args.at identified_row (ap (right_side g.Statement) (sym c.terminal_at.ensures ∙ c.in-Identifier.is) ∙ identified_at) c.identified_statement.result c.identified_statement.ensures
+    inside c.args.source.now c.args.depth c.args.at identified_row (ap (right_side g.Statement) (sym c.kind_at.ensures ∙ c.in-Identifier.is) ∙ identified_at) c.identified_statement.result c.identified_statement.ensures
 
 pub begun_statement-returns-in-If : goal.begun_statement-returns-in-If
 begun_statement-returns-in-If u c =
-    inside c.args.source.now c.args.depth c.args.at if_row (ap (right_side g.Statement) (sym c.terminal_at.ensures ∙ c.in-If.is) ∙ if_at) c.if_statement.result c.if_statement.ensures
+    inside c.args.source.now c.args.depth c.args.at if_row (ap (right_side g.Statement) (sym c.kind_at.ensures ∙ c.in-If.is) ∙ if_at) c.if_statement.result c.if_statement.ensures
 
 pub begun_statement-returns-in-While : goal.begun_statement-returns-in-While
 begun_statement-returns-in-While u c =
-    inside c.args.source.now c.args.depth c.args.at while_row (ap (right_side g.Statement) (sym c.terminal_at.ensures ∙ c.in-While.is) ∙ while_at) c.while_statement.result c.while_statement.ensures
+    inside c.args.source.now c.args.depth c.args.at while_row (ap (right_side g.Statement) (sym c.kind_at.ensures ∙ c.in-While.is) ∙ while_at) c.while_statement.result c.while_statement.ensures
 
 pub begun_statement-returns-in-For : goal.begun_statement-returns-in-For
 begun_statement-returns-in-For u c =
-    inside c.args.source.now c.args.depth c.args.at for_row (ap (right_side g.Statement) (sym c.terminal_at.ensures ∙ c.in-For.is) ∙ for_at) c.for_statement.result c.for_statement.ensures
+    inside c.args.source.now c.args.depth c.args.at for_row (ap (right_side g.Statement) (sym c.kind_at.ensures ∙ c.in-For.is) ∙ for_at) c.for_statement.result c.for_statement.ensures
 
 pub begun_statement-returns-in-Inspect : goal.begun_statement-returns-in-Inspect
 begun_statement-returns-in-Inspect u c =
-    inside c.args.source.now c.args.depth c.args.at inspect_row (ap (right_side g.Statement) (sym c.terminal_at.ensures ∙ c.in-Inspect.is) ∙ inspect_at) c.inspect_statement.result c.inspect_statement.ensures
+    inside c.args.source.now c.args.depth c.args.at inspect_row (ap (right_side g.Statement) (sym c.kind_at.ensures ∙ c.in-Inspect.is) ∙ inspect_at) c.inspect_statement.result c.inspect_statement.ensures
 
 pub begun_statement-returns-in-Inner : goal.begun_statement-returns-in-Inner
 begun_statement-returns-in-Inner u c =
-    inside c.args.source.now c.args.depth c.args.at (Kept (just t.Inner) ∷ []) (ap (right_side g.Statement) (sym c.terminal_at.ensures ∙ c.in-Inner.is) ∙ inner_at) c.inner_statement.result
+    inside c.args.source.now c.args.depth c.args.at (Kept (just k.Inner) ∷ []) (ap (right_side g.Statement) (sym c.kind_at.ensures ∙ c.in-Inner.is) ∙ inner_at) c.inner_statement.result
     (c.inner_statement.ensures c.args.depth)
 
 pub begun_statement-returns-in-Activate : goal.begun_statement-returns-in-Activate
 begun_statement-returns-in-Activate u c =
     let ws = c.args.source.now in
     let i = c.args.at in
-    let at : right_side g.Statement c.terminal_at.result ≡ Some activation_row = elim c.in-Activate.is [
+    let at : right_side g.Statement c.kind_at.result ≡ Some activation_row = elim c.in-Activate.is [
       | inl e ↦ ap (right_side g.Statement) e ∙ activate_at
       | inr e ↦ ap (right_side g.Statement) e ∙ reactivate_at
     ] in
-    inside ws c.args.depth i activation_row (ap (right_side g.Statement) (sym c.terminal_at.ensures) ∙ at) c.activation_statement.result c.activation_statement.ensures
+    inside ws c.args.depth i activation_row (ap (right_side g.Statement) (sym c.kind_at.ensures) ∙ at) c.activation_statement.result c.activation_statement.ensures
 
 pub begun_statement-returns-in_default : goal.begun_statement-returns-in_default
 begun_statement-returns-in_default u c =
     let ws = c.args.source.now in
     let i = c.args.at in
-    let a = c.terminal_at.result in
+    let a = c.kind_at.result in
     let n = c.in_default in
-    let b = ap (one_of begins) c.terminal_at.ensures ∙ c.requires.begins in
+    let b = ap (one_of begins) c.kind_at.ensures ∙ c.requires.begins in
     let h = operation_begins a b n.not-Begin n.not-Identifier n.not-Inner n.not-If n.not-While n.not-For n.not-Inspect n.not-Activate n.not-Reactivate in
-    inside ws c.args.depth i operation_row (ap (right_side g.Statement) (sym c.terminal_at.ensures) ∙ operation_stands a h) c.operation_statement.result c.operation_statement.ensures
+    inside ws c.args.depth i operation_row (ap (right_side g.Statement) (sym c.kind_at.ensures) ∙ operation_stands a h) c.operation_statement.result c.operation_statement.ensures
 
 pub for_statement-returns : goal.for_statement-returns
 for_statement-returns u c =
@@ -380,12 +379,12 @@ for_statement-returns u c =
     let y = c.in_ok-body.body in
     let a = c.in_ok-body-2.body in
     let m = c.match-list-3.statement in
-    let made : leaf n.0 k.For (identifier x (node g.ForList (for_list_derivation c.in_ok-list.list) (node g.Statement (statement_derivation y) done))) ≡ statement_derivation m = elim c.match-list-3.branch [
+    let made : bare_leaf n.0 k.For (identifier x (node g.ForList (for_list_derivation c.in_ok-list.list) (node g.Statement (statement_derivation y) done))) ≡ statement_derivation m = elim c.match-list-3.branch [
       | for_statement-in-Values w ↦
-          ap (λ z. leaf n.0 k.For (identifier x (node g.ForList (for_list_derivation z) (node g.Statement (statement_derivation y) done)))) w.in-Values.is
+          ap (λ z. bare_leaf n.0 k.For (identifier x (node g.ForList (for_list_derivation z) (node g.Statement (statement_derivation y) done)))) w.in-Values.is
           ∙ for_derivation n x w.in-Values.sign w.in-Values.elements y a c.in_ok-body-2.ensures.ok ∙ ap statement_derivation (sym w.statement-is)
       | for_statement-in-References w ↦
-          ap (λ z. leaf n.0 k.For (identifier x (node g.ForList (for_list_derivation z) (node g.Statement (statement_derivation y) done)))) w.in-References.is
+          ap (λ z. bare_leaf n.0 k.For (identifier x (node g.ForList (for_list_derivation z) (node g.Statement (statement_derivation y) done)))) w.in-References.is
           ∙ for_reference_derivation n x w.in-References.sign w.in-References.elements y a c.in_ok-body-2.ensures.ok ∙ ap statement_derivation (sym w.statement-is)
     ] in
     left w3 (node g.Statement (statement_derivation y) done) c.in_ok-body.ensures (statement_derivation m) made

@@ -1,8 +1,8 @@
 use Rattle.std.proofs.Common.{◌≡◌, ◌+◌, List, length, refl, sym, ap, ◌∙◌, subst}
-use Rattle.sim_base.specs.declared.token.TokenKind.{TokenKind}
+use Rattle.sim_base.specs.declared.token.Lexeme.{Lexeme}
 use Rattle.sim_tree.specs.Grammar as g
 use Rattle.sim_tree.specs.Grammar.{right_side, is}
-use Rattle.sim_tree.specs.Reading.{Forest, done, node, kind_at, terminal_at}
+use Rattle.sim_tree.specs.Reading.{Forest, done, node, kind_at, value_at}
 use Rattle.sim_tree.specs.Claim.{one}
 use Rattle.sim_tree.specs.Examples.{source}
 use Rattle.sim_tree.specs.ProgramDerivation.{program_derivation}
@@ -21,10 +21,10 @@ insides : (f h : Forest) → node g.Program f done ≡ node g.Program h done →
 insides f h e = cc
 
 -- what the grammar computes, read back
-has : {kinds : List TokenKind} {program : Program} (f : Forest) → run 200 limit (source kinds) 0 (one g.Program) 0 ≡ Read (node g.Program f done) (length kinds + 1)
-    → program_read f ≡ program → HasSyntax kinds program
-has {kinds} {program} f e is =
-    let ws = source kinds in
+has : {lexemes : List Lexeme} {program : Program} (f : Forest) → run 200 limit (source lexemes) 0 (one g.Program) 0 ≡ Read (node g.Program f done) (length lexemes + 1)
+    → program_read f ≡ program → HasSyntax lexemes program
+has {lexemes} {program} f e is =
+    let ws = source lexemes in
     let P : Answer → Type 0 = Sound limit ws 0 (one g.Program) 0 in
     let reads = subst P e (sound limit ws 200 0 (one g.Program) 0) in
     record {
@@ -36,21 +36,21 @@ has {kinds} {program} f e is =
     }
 
 pub returns-clause-sum : goal.returns-clause-sum
-unfolding run right_side is kind_at terminal_at
+unfolding run right_side is kind_at value_at
 returns-clause-sum c = has _ refl refl
 
 pub returns-clause-chain : goal.returns-clause-chain
-unfolding run right_side is kind_at terminal_at
+unfolding run right_side is kind_at value_at
 returns-clause-chain c = has _ refl refl
 
 pub returns-clause-procedure : goal.returns-clause-procedure
-unfolding run right_side is kind_at terminal_at
+unfolding run right_side is kind_at value_at
 returns-clause-procedure c = has _ refl refl
 
 pub returns-clause-connection : goal.returns-clause-connection
-unfolding run right_side is kind_at terminal_at
+unfolding run right_side is kind_at value_at
 returns-clause-connection c = has _ refl refl
 
 pub returns-clause-prefixed : goal.returns-clause-prefixed
-unfolding run right_side is kind_at terminal_at
+unfolding run right_side is kind_at value_at
 returns-clause-prefixed c = has _ refl refl

@@ -1,17 +1,16 @@
 -- Levels of operators and their operands.
-use Rattle.std.proofs.Common.{◌≡◌, ◌≤◌, ◌+◌, ◌-◌, true, false, [], ◌∷◌, Some, None, refl, map, sym, ap, ◌∙◌, subst, arith, Ok, lit≤, add-one}
+use Rattle.std.proofs.Common.{◌≡◌, ◌+◌, ◌-◌, true, false, [], ◌∷◌, Some, None, refl, map, sym, ap, ◌∙◌, subst, arith, Ok, lit≤, add-one}
 use Rattle.std.specs.Prelude.{nat_le}
-use Rattle.sim_tree.specs.declared.terminal.Terminal.TheVariants as t
+use Rattle.sim_base.specs.declared.token.TokenKind.TheVariants as k
 use Rattle.sim_tree.specs.Grammar as g
 use Rattle.sim_tree.specs.Grammar.{Once, Maybe, Many, Of, Kept, is, one_of, signs}
-use Rattle.sim_tree.specs.Reading.{done, leaf, node, terminal_at}
+use Rattle.sim_tree.specs.Reading.{done, node, kind_at, bare_leaf}
 use Rattle.sim_tree.specs.Claim.{one}
-use Rattle.sim_tree.specs.Derivation.{derivation_of, raise, row, item, operand_derivation, term_derivation, factor_derivation, sign_kind, multiplication_kind, relation_kind, membership_kind, identifier, level_part, whole}
+use Rattle.sim_tree.specs.Derivation.{derivation_of, raise, row, item, operand_derivation, term_derivation, factor_derivation, sign_kind, multiplication_kind, relation_kind, membership_kind, identifier, level_part}
 use Rattle.sim_tree.proofs.DerivationLemmas.{derivation-Member, derivation-Related, derivation-Sum, derivation-Product, derivation-Not, derivation-operand, derivation-term, derivation-factor}
-use Rattle.sim_expr_parser.specs.Level.{under, word_kind, many}
+use Rattle.sim_expr_parser.specs.Level.{under, operator, many}
 use Rattle.sim_expr_parser.specs.Parsing.{GivesLevel, GivesRow, multiplications}
 use Rattle.sim_expr_parser.proofs.Tables.{no_end, related, related_symbols, member_symbols, test_alone, only, one_row, open-item, no-item, took-item}
-use Rattle.sim_tree.proofs.Steps.{start}
 use Rattle.sim_expr_parser.specs.Level.{below_of, level_of}
 use Rattle.sim_expr_parser.specs.declared.operators.Operators.TheVariants as operators
 use Rattle.sim_expr_parser.specs.Operators.{GivesTail, IsRead}
@@ -27,7 +26,7 @@ up_to_level-returns-in_err-negated u c =
     let d = c.args.depth in
     let i = c.args.at in
     let top = c.args.top in
-    let w = and-split (nat_le 7 top) (is (terminal_at ws i) t.Not) (sym c.if-begins_with_not.ensures) in
+    let w = and-split (nat_le 7 top) (is (kind_at ws i) k.Not) (sym c.if-begins_with_not.ensures) in
     let e = c.in_err-negated.field-0.0 in
     let r = c.from_residual in
     exit (λ r. GivesLevel ws d top i r) r.result e r.ensures.1
@@ -38,7 +37,7 @@ up_to_level-returns-then-begins_with_not u c =
     let ws = c.args.source.now in
     let i = c.args.at in
     let top = c.args.top in
-    let w = and-split (nat_le 7 top) (is (terminal_at ws i) t.Not) (sym c.if-begins_with_not.ensures) in
+    let w = and-split (nat_le 7 top) (is (kind_at ws i) k.Not) (sym c.if-begins_with_not.ensures) in
     let p = c.in_ok-negated.ensures w.1 in
     c.raised.ensures i (record { low = p.0; part = p.1; plain = negated-plain ws i top })
 
@@ -48,8 +47,8 @@ up_to_level-returns-in_err-sum u c =
     let d = c.args.depth in
     let i = c.args.at in
     let top = c.args.top in
-    let w = and-split (nat_le 4 top) (one_of signs (terminal_at ws i)) (sym c.if-begins_with_sign.ensures) in
-    let not = and-not 7 top (is (terminal_at ws i) t.Not) (sym c.if-begins_with_not.ensures) in
+    let w = and-split (nat_le 4 top) (one_of signs (kind_at ws i)) (sym c.if-begins_with_sign.ensures) in
+    let not = and-not 7 top (is (kind_at ws i) k.Not) (sym c.if-begins_with_not.ensures) in
     let e = c.in_err-sum.field-0.0 in
     let r = c.from_residual-in_err-sum in
     exit (λ r. GivesLevel ws d top i r) r.result e r.ensures.1
@@ -60,8 +59,8 @@ up_to_level-returns-then-begins_with_sign u c =
     let ws = c.args.source.now in
     let i = c.args.at in
     let top = c.args.top in
-    let w = and-split (nat_le 4 top) (one_of signs (terminal_at ws i)) (sym c.if-begins_with_sign.ensures) in
-    let not = and-not 7 top (is (terminal_at ws i) t.Not) (sym c.if-begins_with_not.ensures) in
+    let w = and-split (nat_le 4 top) (one_of signs (kind_at ws i)) (sym c.if-begins_with_sign.ensures) in
+    let not = and-not 7 top (is (kind_at ws i) k.Not) (sym c.if-begins_with_not.ensures) in
     let p = c.in_ok-sum.ensures w.1 in
     c.raised-then-begins_with_sign.ensures i (record { low = p.0; part = p.1; plain = signed-plain ws i top not })
 
@@ -71,7 +70,7 @@ up_to_level-returns-in_err-operand u c =
     let d = c.args.depth in
     let i = c.args.at in
     let top = c.args.top in
-    let plain = bare-plain ws i top (and-not 4 top (one_of signs (terminal_at ws i)) (sym c.if-begins_with_sign.ensures)) (and-not 7 top (is (terminal_at ws i) t.Not) (sym c.if-begins_with_not.ensures)) in
+    let plain = bare-plain ws i top (and-not 4 top (one_of signs (kind_at ws i)) (sym c.if-begins_with_sign.ensures)) (and-not 7 top (is (kind_at ws i) k.Not) (sym c.if-begins_with_not.ensures)) in
     let e = c.in_err-operand.field-0.0 in
     let r = c.from_residual-in_err-operand in
     exit (λ r. GivesLevel ws d top i r) r.result e r.ensures.1
@@ -82,7 +81,7 @@ up_to_level-returns u c =
     let ws = c.args.source.now in
     let i = c.args.at in
     let top = c.args.top in
-    let plain = bare-plain ws i top (and-not 4 top (one_of signs (terminal_at ws i)) (sym c.if-begins_with_sign.ensures)) (and-not 7 top (is (terminal_at ws i) t.Not) (sym c.if-begins_with_not.ensures)) in
+    let plain = bare-plain ws i top (and-not 4 top (one_of signs (kind_at ws i)) (sym c.if-begins_with_sign.ensures)) (and-not 7 top (is (kind_at ws i) k.Not) (sym c.if-begins_with_not.ensures)) in
     let p = c.in_ok-operand.ensures in
     c.raised-2.ensures i (record { low = p.0; part = p.1; plain = plain })
 
@@ -186,7 +185,7 @@ extended-returns-in_ok-terms-in-Signs u c =
     let v = c.in_ok-terms-in-Signs.terms in
     let fs = map term_derivation v.items in
     let read = c.in_ok-terms-in-Signs.ensures in
-    λ h. let some = some-read fs read (tail-stands (terminal_at ws i) operators.Signs (h ∙ ap Some c.in-Signs.is)) in
+    λ h. let some = some-read fs read (tail-stands (kind_at ws i) operators.Signs (h ∙ ap Some c.in-Signs.is)) in
     let made = derivation-Sum None y v ∙ summed-some None (derivation_of y.value) fs some in
     tail-at {o = operators.Signs} c.in-Signs.is (record { tail = λ f. row g.NextTerm fs f; reads = read; level_is = ap (λ s. s.level) made; inside_is = ap (λ s. s.inside) made })
 
@@ -198,7 +197,7 @@ extended-returns-in_ok-factors-in-Multiplications u c =
     let v = c.in_ok-factors-in-Multiplications.factors in
     let fs = map factor_derivation v.items in
     let read = c.in_ok-factors-in-Multiplications.ensures in
-    λ h. let some = some-read fs read (tail-stands (terminal_at ws i) operators.Multiplications (h ∙ ap Some c.in-Multiplications.is)) in
+    λ h. let some = some-read fs read (tail-stands (kind_at ws i) operators.Multiplications (h ∙ ap Some c.in-Multiplications.is)) in
     let made = derivation-Product y v ∙ multiplied-some (derivation_of y.value) fs some in
     tail-at {o = operators.Multiplications} c.in-Multiplications.is (record { tail = λ f. row g.NextFactor fs f; reads = read; level_is = ap (λ s. s.level) made; inside_is = ap (λ s. s.inside) made })
 
@@ -210,10 +209,10 @@ extended-returns-in_ok-operands-in-Single u c =
     let lv = c.in-Single.level in
     let v = c.in_ok-operands-in-Single.operands in
     let x = under lv in
-    let kind = word_kind lv in
+    let kind = operator lv in
     let fs = map (λ o. item x kind (operand_derivation o)) v.items in
     let read = c.in_ok-operands-in-Single.ensures in
-    λ h. let some = mapped-some (λ o. item x kind (operand_derivation o)) v.items (some-read fs read (tail-stands (terminal_at ws i) (operators.Single lv) (h ∙ ap Some c.in-Single.is))) in
+    λ h. let some = mapped-some (λ o. item x kind (operand_derivation o)) v.items (some-read fs read (tail-stands (kind_at ws i) (operators.Single lv) (h ∙ ap Some c.in-Single.is))) in
     let made = c.node.ensures ∙ operated-some x kind (many lv) (derivation_of y.value) (map operand_derivation v.items) (some-mapped operand_derivation v.items some) in
     tail-at {o = operators.Single lv} c.in-Single.is (record {
       tail = λ f. row (many lv) fs f;
@@ -226,7 +225,7 @@ pub operands-loop-next-init : goal.operands-loop-next-init
 operands-loop-next-init u c =
     let lv = c.args.level in
     record {
-      goes = row-start (λ o. item (under lv) (word_kind lv) (operand_derivation o)) c.new-rest.result.items c.new-rest.ensures.items;
+      goes = row-start (λ o. item (under lv) (operator lv) (operand_derivation o)) c.new-rest.result.items c.new-rest.ensures.items;
       ahead = omega arith;
       within = c.requires.within;
     }
@@ -236,10 +235,10 @@ operands-returns u c =
     let ws = c.args.source.now in
     let lv = c.args.level in
     let l = c.loop-next in
-    row-end (λ o. item (under lv) (word_kind lv) (operand_derivation o)) l.rest.items l.invariant.goes (no-item lv (terminal_at ws l.at) (ap (λ z. is (terminal_at ws l.at) z) (sym c.operator.ensures) ∙ c.in_default.ensures)) l.invariant.ahead l.invariant.within
+    row-end (λ o. item (under lv) (operator lv) (operand_derivation o)) l.rest.items l.invariant.goes (no-item lv (kind_at ws l.at) (ap (λ z. is (kind_at ws l.at) z) (sym c.operator.ensures) ∙ c.in_default.ensures)) l.invariant.ahead l.invariant.within
 
 pub operands-eat-requires-clause-no_end : goal.operands-eat-requires-clause-no_end
-operands-eat-requires-clause-no_end u c = ap (is t.EndOfSource) c.operator.ensures ∙ no_end c.args.level
+operands-eat-requires-clause-no_end u c = ap (is k.EndOfSource) c.operator.ensures ∙ no_end c.args.level
 
 pub operands-returns-in_err-operand : goal.operands-returns-in_err-operand
 operands-returns-in_err-operand u c =
@@ -249,12 +248,12 @@ operands-returns-in_err-operand u c =
     let l = c.loop-next in
     let at = l.at in
     let w = c.in-Some.ensures in
-    let wi = ap (λ z. is (terminal_at ws at) z) (sym c.operator.ensures) ∙ w.0 in
+    let wi = ap (λ z. is (kind_at ws at) z) (sym c.operator.ensures) ∙ w.0 in
     let e = c.in_err-operand.field-0.0 in
     let r = c.from_residual in
     let m0 = open-item lv ws d at wi l.invariant.within in
     let m1 = to m0 (kept at refl (took-item lv ws at c.in-Some.next (wi, w.1, w.2))) in
-    exit (λ r. GivesRow ws d (many lv) c.args.start (λ v. map (λ o. item (under lv) (word_kind lv) (operand_derivation o)) v.items) r) r.result e r.ensures.1
+    exit (λ r. GivesRow ws d (many lv) c.args.start (λ v. map (λ o. item (under lv) (operator lv) (operand_derivation o)) v.items) r) r.result e r.ensures.1
     (row-stops ws d c.args.start at (many lv) _ l.invariant.goes e (stops-in Many m1 e (once-stops ws d c.in-Some.next (level_part (under lv)) e (subst (λ l. Stops ws d (one (level_part l)) c.in-Some.next e) c.operand.ensures.number c.in_err-operand.ensures))))
 
 pub operands-loop-next-preserved : goal.operands-loop-next-preserved
@@ -265,13 +264,13 @@ operands-loop-next-preserved u c =
     let l = c.loop-next in
     let at = l.at in
     let w = c.in-Some.ensures in
-    let wi = ap (λ z. is (terminal_at ws at) z) (sym c.operator.ensures) ∙ w.0 in
+    let wi = ap (λ z. is (kind_at ws at) z) (sym c.operator.ensures) ∙ w.0 in
     let n = c.token_no-token.result in
     let m0 = open-item lv ws d at wi l.invariant.within in
     let p = (subst (λ l. GivesLevel ws d l c.in-Some.next (Ok (c.in_ok-operand.operand, c.in_ok-operand.end))) c.operand.ensures.number c.in_ok-operand.ensures).1 in
     let m2 = to (to m0 (kept n.0 c.token_no-token.ensures (took-item lv ws at c.in-Some.next (wi, w.1, w.2)))) (once p) in
     record {
-      goes = row-more (λ o. item (under lv) (word_kind lv) (operand_derivation o)) l.rest.items c.add.new.list.items _ (leaf n.0 (word_kind lv) (node (level_part (under lv)) (raise (under lv) (derivation_of c.in_ok-operand.operand)) done)) l.invariant.goes (gone m2 (leaf n.0 (word_kind lv) (node (level_part (under lv)) (raise (under lv) (derivation_of c.in_ok-operand.operand)) done)) refl) c.in_ok-add.ensures (ap (item (under lv) (word_kind lv)) (derivation-operand n c.in_ok-operand.operand));
+      goes = row-more (λ o. item (under lv) (operator lv) (operand_derivation o)) l.rest.items c.add.new.list.items _ (bare_leaf n.0 (operator lv) (node (level_part (under lv)) (raise (under lv) (derivation_of c.in_ok-operand.operand)) done)) l.invariant.goes (gone m2 (bare_leaf n.0 (operator lv) (node (level_part (under lv)) (raise (under lv) (derivation_of c.in_ok-operand.operand)) done)) refl) c.in_ok-add.ensures (ap (item (under lv) (operator lv)) (derivation-operand n c.in_ok-operand.operand));
       ahead = omega (arith, l.invariant.ahead, w.1, p.ahead);
       within = p.within;
     }
@@ -282,7 +281,7 @@ negation-returns-in_err-marks u c =
     let d = c.args.depth in
     let i = c.args.at in
     let sy = Of Many g.NotSign ∷ Of Once g.Relation ∷ [] in
-    let w0 = opened ws d i g.Negation sy refl (only g.Negation sy (terminal_at ws i) refl) c.requires.within in
+    let w0 = opened ws d i g.Negation sy refl (only g.Negation sy (kind_at ws i) refl) c.requires.within in
     let e = c.in_err-marks.field-0.0 in
     let r = c.from_residual in
     λ h. exit (λ r. GivesLevel ws d 7 i r) r.result e r.ensures.1
@@ -294,7 +293,7 @@ negation-returns-in_err-operand u c =
     let d = c.args.depth in
     let i = c.args.at in
     let sy = Of Many g.NotSign ∷ Of Once g.Relation ∷ [] in
-    let w0 = opened ws d i g.Negation sy refl (only g.Negation sy (terminal_at ws i) refl) c.requires.within in
+    let w0 = opened ws d i g.Negation sy refl (only g.Negation sy (kind_at ws i) refl) c.requires.within in
     let w1 = to w0 (c.in_ok-marks.ensures d) in
     let e = c.in_err-operand.field-0.0 in
     let r = c.from_residual-in_err-operand in
@@ -307,7 +306,7 @@ negation-returns u c =
     let d = c.args.depth in
     let i = c.args.at in
     let sy = Of Many g.NotSign ∷ Of Once g.Relation ∷ [] in
-    let w0 = opened ws d i g.Negation sy refl (only g.Negation sy (terminal_at ws i) refl) c.requires.within in
+    let w0 = opened ws d i g.Negation sy refl (only g.Negation sy (kind_at ws i) refl) c.requires.within in
     let w1 = to w0 (c.in_ok-marks.ensures d) in
     let w2 = to w1 (once c.in_ok-operand.ensures.1) in
     let v = c.in_ok-marks.marks in
@@ -327,7 +326,7 @@ relation-returns-in_err-class u c =
     let i = c.args.at in
     let n = c.token_no-token.result in
     let took = c.in-Some.ensures in
-    let m0 = opened ws d i g.RelationTail member_symbols refl (test_alone (terminal_at ws i) took.among) c.requires.within in
+    let m0 = opened ws d i g.RelationTail member_symbols refl (test_alone (kind_at ws i) took.among) c.requires.within in
     let m1 = to m0 (kept n.0 c.token_no-token.ensures took) in
     let e = c.in_err-class.field-0.0 in
     let r = c.from_residual in
@@ -341,11 +340,11 @@ relation-returns-in-Some u c =
     let i = c.args.at in
     let n = c.token_no-token.result in
     let took = c.in-Some.ensures in
-    let m0 = opened ws d i g.RelationTail member_symbols refl (test_alone (terminal_at ws i) took.among) c.requires.within in
+    let m0 = opened ws d i g.RelationTail member_symbols refl (test_alone (kind_at ws i) took.among) c.requires.within in
     let m1 = to m0 (kept n.0 c.token_no-token.ensures took) in
     let m = c.in-Some.membership in
     let class = c.in_ok-class.class in
-    let inside = leaf n.0 (membership_kind m) (identifier class done) in
+    let inside = bare_leaf n.0 (membership_kind m) (identifier class done) in
     let m2 = to m1 (c.in_ok-class.ensures d) in
     λ h. record {
       tail = λ f. node g.RelationTail inside f;
@@ -358,7 +357,7 @@ pub relation-returns-in_default-relation_at : goal.relation-returns-in_default-r
 relation-returns-in_default-relation_at u c =
     let ws = c.args.source.now in
     let i = c.args.at in
-    λ h. absurd (relation-stands (terminal_at ws i) h c.in_default.ensures c.in_default-relation_at.ensures)
+    λ h. absurd (relation-stands (kind_at ws i) h c.in_default.ensures c.in_default-relation_at.ensures)
 
 pub relation-returns-in_err-right : goal.relation-returns-in_err-right
 relation-returns-in_err-right u c =
@@ -367,7 +366,7 @@ relation-returns-in_err-right u c =
     let i = c.args.at in
     let n = c.token_no-token.result in
     let took = c.in-Some-relation_at.ensures in
-    let m0 = opened ws d i g.RelationTail related_symbols refl (related (terminal_at ws i) true _ took.among refl) c.requires.within in
+    let m0 = opened ws d i g.RelationTail related_symbols refl (related (kind_at ws i) true _ took.among refl) c.requires.within in
     let m1 = to m0 (kept n.0 c.token_no-token.ensures took) in
     let e = c.in_err-right.field-0.0 in
     let r = c.from_residual-in_err-right in
@@ -381,12 +380,12 @@ relation-returns u c =
     let i = c.args.at in
     let n = c.token_no-token.result in
     let took = c.in-Some-relation_at.ensures in
-    let m0 = opened ws d i g.RelationTail related_symbols refl (related (terminal_at ws i) true _ took.among refl) c.requires.within in
+    let m0 = opened ws d i g.RelationTail related_symbols refl (related (kind_at ws i) true _ took.among refl) c.requires.within in
     let m1 = to m0 (kept n.0 c.token_no-token.ensures took) in
     let m = c.in-Some-relation_at.relation in
     let right = c.in_ok-right.right in
     let m2 = to m1 (once c.in_ok-right.ensures.1) in
-    let inside = leaf n.0 (relation_kind m) (node g.Concatenation (raise 5 (derivation_of right.value)) done) in
+    let inside = bare_leaf n.0 (relation_kind m) (node g.Concatenation (raise 5 (derivation_of right.value)) done) in
     λ h. record {
       tail = λ f. node g.RelationTail inside f;
       reads = maybe (gone m2 inside refl);
@@ -407,7 +406,7 @@ signed_sum-returns-in_err-first u c =
     let sy = Of Maybe g.LeadingSign ∷ Of Once g.Term ∷ Of Many g.NextTerm ∷ [] in
     let sign = c.leading_sign-sign.result.0 in
     let start = c.leading_sign-sign.result.1 in
-    let w0 = opened ws d i g.Sum sy refl (only g.Sum sy (terminal_at ws i) refl) c.requires.within in
+    let w0 = opened ws d i g.Sum sy refl (only g.Sum sy (kind_at ws i) refl) c.requires.within in
     let w1 = to w0 (sign-to ws d i start sign c.leading_sign-sign.ensures c.requires.within) in
     let e = c.in_err-first.field-0.0 in
     let r = c.from_residual in
@@ -422,7 +421,7 @@ signed_sum-returns-in_err-rest u c =
     let sy = Of Maybe g.LeadingSign ∷ Of Once g.Term ∷ Of Many g.NextTerm ∷ [] in
     let sign = c.leading_sign-sign.result.0 in
     let start = c.leading_sign-sign.result.1 in
-    let w0 = opened ws d i g.Sum sy refl (only g.Sum sy (terminal_at ws i) refl) c.requires.within in
+    let w0 = opened ws d i g.Sum sy refl (only g.Sum sy (kind_at ws i) refl) c.requires.within in
     let w1 = to w0 (sign-to ws d i start sign c.leading_sign-sign.ensures c.requires.within) in
     let w2 = to w1 (once c.in_ok-first.ensures.1) in
     let e = c.in_err-rest.field-0.0 in
@@ -438,7 +437,7 @@ signed_sum-returns u c =
     let sy = Of Maybe g.LeadingSign ∷ Of Once g.Term ∷ Of Many g.NextTerm ∷ [] in
     let sign = c.leading_sign-sign.result.0 in
     let start = c.leading_sign-sign.result.1 in
-    let w0 = opened ws d i g.Sum sy refl (only g.Sum sy (terminal_at ws i) refl) c.requires.within in
+    let w0 = opened ws d i g.Sum sy refl (only g.Sum sy (kind_at ws i) refl) c.requires.within in
     let w1 = to w0 (sign-to ws d i start sign c.leading_sign-sign.ensures c.requires.within) in
     let w2 = to w1 (once c.in_ok-first.ensures.1) in
     let w3 = to w2 c.in_ok-rest.ensures in
@@ -464,7 +463,7 @@ terms-returns-in_err-term u c =
     let w = c.in-Some.ensures in
     let e = c.in_err-term.field-0.0 in
     let r = c.from_residual in
-    let m0 = opened ws d at g.NextTerm (Kept signs ∷ Of Once g.Term ∷ []) refl (one_row g.NextTerm signs (Kept signs ∷ Of Once g.Term ∷ []) (terminal_at ws at) true refl w.among) l.invariant.within in
+    let m0 = opened ws d at g.NextTerm (Kept signs ∷ Of Once g.Term ∷ []) refl (one_row g.NextTerm signs (Kept signs ∷ Of Once g.Term ∷ []) (kind_at ws at) true refl w.among) l.invariant.within in
     let m1 = to m0 (kept at refl w) in
     exit (λ r. GivesRow ws d g.NextTerm c.args.start (λ v. map term_derivation v.items) r) r.result e r.ensures.1
     (row-stops ws d c.args.start at g.NextTerm _ l.invariant.goes e (stops-in Many m1 e (once-stops ws d c.in-Some.next g.Term e c.in_err-term.ensures)))
@@ -477,11 +476,11 @@ terms-loop-sign-preserved u c =
     let at = l.at in
     let w = c.in-Some.ensures in
     let n = c.token_no-token.result in
-    let m0 = opened ws d at g.NextTerm (Kept signs ∷ Of Once g.Term ∷ []) refl (one_row g.NextTerm signs (Kept signs ∷ Of Once g.Term ∷ []) (terminal_at ws at) true refl w.among) l.invariant.within in
+    let m0 = opened ws d at g.NextTerm (Kept signs ∷ Of Once g.Term ∷ []) refl (one_row g.NextTerm signs (Kept signs ∷ Of Once g.Term ∷ []) (kind_at ws at) true refl w.among) l.invariant.within in
     let p = c.in_ok-term.ensures.1 in
     let m2 = to (to m0 (kept n.0 c.token_no-token.ensures w)) (once p) in
     record {
-      goes = row-more term_derivation l.rest.items c.add.new.list.items _ (leaf n.0 (sign_kind c.in-Some.sign) (node g.Term (raise 3 (derivation_of c.in_ok-term.term)) done)) l.invariant.goes (gone m2 (leaf n.0 (sign_kind c.in-Some.sign) (node g.Term (raise 3 (derivation_of c.in_ok-term.term)) done)) refl) c.in_ok-add.ensures (derivation-term n c.in-Some.sign c.in_ok-term.term);
+      goes = row-more term_derivation l.rest.items c.add.new.list.items _ (bare_leaf n.0 (sign_kind c.in-Some.sign) (node g.Term (raise 3 (derivation_of c.in_ok-term.term)) done)) l.invariant.goes (gone m2 (bare_leaf n.0 (sign_kind c.in-Some.sign) (node g.Term (raise 3 (derivation_of c.in_ok-term.term)) done)) refl) c.in_ok-add.ensures (derivation-term n c.in-Some.sign c.in_ok-term.term);
       ahead = omega (arith, l.invariant.ahead, w.ahead, p.ahead);
       within = p.within;
     }
@@ -490,7 +489,7 @@ pub terms-returns : goal.terms-returns
 terms-returns u c =
     let ws = c.args.source.now in
     let l = c.loop-sign in
-    row-end term_derivation l.rest.items l.invariant.goes (one_row g.NextTerm signs (Kept signs ∷ Of Once g.Term ∷ []) (terminal_at ws l.at) false refl c.in_default.ensures) l.invariant.ahead l.invariant.within
+    row-end term_derivation l.rest.items l.invariant.goes (one_row g.NextTerm signs (Kept signs ∷ Of Once g.Term ∷ []) (kind_at ws l.at) false refl c.in_default.ensures) l.invariant.ahead l.invariant.within
 
 pub factors-loop-operator-init : goal.factors-loop-operator-init
 factors-loop-operator-init u c =
@@ -509,7 +508,7 @@ factors-returns-in_err-factor u c =
     let w = c.in-Some.ensures in
     let e = c.in_err-factor.field-0.0 in
     let r = c.from_residual in
-    let m0 = opened ws d at g.NextFactor (Kept multiplications ∷ Of Once g.Factor ∷ []) refl (one_row g.NextFactor multiplications (Kept multiplications ∷ Of Once g.Factor ∷ []) (terminal_at ws at) true refl w.among) l.invariant.within in
+    let m0 = opened ws d at g.NextFactor (Kept multiplications ∷ Of Once g.Factor ∷ []) refl (one_row g.NextFactor multiplications (Kept multiplications ∷ Of Once g.Factor ∷ []) (kind_at ws at) true refl w.among) l.invariant.within in
     let m1 = to m0 (kept at refl w) in
     exit (λ r. GivesRow ws d g.NextFactor c.args.start (λ v. map factor_derivation v.items) r) r.result e r.ensures.1
     (row-stops ws d c.args.start at g.NextFactor _ l.invariant.goes e (stops-in Many m1 e (once-stops ws d c.in-Some.next g.Factor e c.in_err-factor.ensures)))
@@ -522,11 +521,11 @@ factors-loop-operator-preserved u c =
     let at = l.at in
     let w = c.in-Some.ensures in
     let n = c.token_no-token.result in
-    let m0 = opened ws d at g.NextFactor (Kept multiplications ∷ Of Once g.Factor ∷ []) refl (one_row g.NextFactor multiplications (Kept multiplications ∷ Of Once g.Factor ∷ []) (terminal_at ws at) true refl w.among) l.invariant.within in
+    let m0 = opened ws d at g.NextFactor (Kept multiplications ∷ Of Once g.Factor ∷ []) refl (one_row g.NextFactor multiplications (Kept multiplications ∷ Of Once g.Factor ∷ []) (kind_at ws at) true refl w.among) l.invariant.within in
     let p = c.in_ok-factor.ensures.1 in
     let m2 = to (to m0 (kept n.0 c.token_no-token.ensures w)) (once p) in
     record {
-      goes = row-more factor_derivation l.rest.items c.add.new.list.items _ (leaf n.0 (multiplication_kind c.in-Some.operator) (node g.Factor (raise 2 (derivation_of c.in_ok-factor.factor)) done)) l.invariant.goes (gone m2 (leaf n.0 (multiplication_kind c.in-Some.operator) (node g.Factor (raise 2 (derivation_of c.in_ok-factor.factor)) done)) refl) c.in_ok-add.ensures (derivation-factor n c.in-Some.operator c.in_ok-factor.factor);
+      goes = row-more factor_derivation l.rest.items c.add.new.list.items _ (bare_leaf n.0 (multiplication_kind c.in-Some.operator) (node g.Factor (raise 2 (derivation_of c.in_ok-factor.factor)) done)) l.invariant.goes (gone m2 (bare_leaf n.0 (multiplication_kind c.in-Some.operator) (node g.Factor (raise 2 (derivation_of c.in_ok-factor.factor)) done)) refl) c.in_ok-add.ensures (derivation-factor n c.in-Some.operator c.in_ok-factor.factor);
       ahead = omega (arith, l.invariant.ahead, w.ahead, p.ahead);
       within = p.within;
     }
@@ -535,4 +534,4 @@ pub factors-returns : goal.factors-returns
 factors-returns u c =
     let ws = c.args.source.now in
     let l = c.loop-operator in
-    row-end factor_derivation l.rest.items l.invariant.goes (one_row g.NextFactor multiplications (Kept multiplications ∷ Of Once g.Factor ∷ []) (terminal_at ws l.at) false refl c.in_default.ensures) l.invariant.ahead l.invariant.within
+    row-end factor_derivation l.rest.items l.invariant.goes (one_row g.NextFactor multiplications (Kept multiplications ∷ Of Once g.Factor ∷ []) (kind_at ws l.at) false refl c.in_default.ensures) l.invariant.ahead l.invariant.within

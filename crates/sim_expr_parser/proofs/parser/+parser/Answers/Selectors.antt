@@ -1,18 +1,17 @@
 -- Selectors, and lists of actual parameters.
-use Rattle.std.proofs.Common.{◌≡◌, length, ◌+◌, ◌-◌, true, false, [], ◌∷◌, ◌++◌, refl, map, sym, ap, ◌∙◌, subst, arith, length-append, Ok}
+use Rattle.std.proofs.Common.{◌≡◌, length, true, false, [], ◌∷◌, ◌++◌, refl, map, sym, ap, ◌∙◌, subst, arith, length-append, Ok}
 use Rattle.std.proofs.lemmas.Bool.{eqb-true}
 use Rattle.std.specs.Prelude.{vec_len}
 use Rattle.sim_base.specs.declared.token.TokenKind.TheVariants as k
-use Rattle.sim_tree.specs.declared.terminal.Terminal.TheVariants as t
 use Rattle.sim_tree.specs.Grammar as g
 use Rattle.sim_tree.specs.Grammar.{Once, Maybe, Many, Of, Mark, is, just}
-use Rattle.sim_tree.specs.Reading.{done, node, terminal_at, reads-skip, after-skip}
+use Rattle.sim_tree.specs.Reading.{done, node, kind_at, reads-skip, after-skip}
 use Rattle.sim_tree.specs.Derivation.{derivation_of, raise, row, selector_derivation, whole, argument, arguments}
 use Rattle.sim_tree.proofs.DerivationLemmas.{derivation-Dot, derivation-Qua, derivation-Postfix}
 use Rattle.sim_expr_parser.specs.Parsing.{listed, GivesLevel, GivesRow, GivesTo, GivesNext, GivesList}
 use Rattle.sim_expr_parser.proofs.Tables.{by_test, args_symbols, more_symbols, dot_symbols, qua_symbols, selected_dot, selected_qua, no_selected, only, one_row, just_is}
 use Rattle.sim_tree.proofs.Steps.{start, past-one, leads-as}
-use Rattle.sim_expr_parser.proofs.Terminals.{took_one}
+use Rattle.sim_expr_parser.proofs.Tokens.{took_one}
 use Rattle.sim_expr_parser.proofs.Shapes.{arguments-some, listed-more, selected-some, some-mapped}
 use Rattle.sim_expr_parser.proofs.Steps.{to-as, to-list, stops-at, leads-stops, opened, to, stops, stops-in, gone, level-made, level-up, once, maybe, skipped, marked, kept, once-stops, mark-stops, exit, row-start, row-more, row-end, row-stops, no-items, some-items}
 use Rattle.sim_expr_parser.proofs.parser.+parser.Goals as goal
@@ -23,7 +22,7 @@ postfix-returns-in_err-first u c =
     let d = c.args.depth in
     let i = c.args.at in
     let sy = Of Once g.Primary ∷ Of Many g.Selection ∷ [] in
-    let w0 = opened ws d i g.Postfix sy refl (only g.Postfix sy (terminal_at ws i) refl) c.requires.within in
+    let w0 = opened ws d i g.Postfix sy refl (only g.Postfix sy (kind_at ws i) refl) c.requires.within in
     let e = c.in_err-first.field-0.0 in
     let r = c.from_residual in
     exit (λ r. GivesLevel ws d 1 i r) r.result e r.ensures.1
@@ -35,7 +34,7 @@ postfix-returns-in_err-rest u c =
     let d = c.args.depth in
     let i = c.args.at in
     let sy = Of Once g.Primary ∷ Of Many g.Selection ∷ [] in
-    let w0 = opened ws d i g.Postfix sy refl (only g.Postfix sy (terminal_at ws i) refl) c.requires.within in
+    let w0 = opened ws d i g.Postfix sy refl (only g.Postfix sy (kind_at ws i) refl) c.requires.within in
     let w1 = to w0 (once c.in_ok-first.ensures.1) in
     let e = c.in_err-rest.field-0.0 in
     let r = c.from_residual-in_err-rest in
@@ -48,7 +47,7 @@ postfix-returns-then-is_empty u c =
     let d = c.args.depth in
     let i = c.args.at in
     let sy = Of Once g.Primary ∷ Of Many g.Selection ∷ [] in
-    let w0 = opened ws d i g.Postfix sy refl (only g.Postfix sy (terminal_at ws i) refl) c.requires.within in
+    let w0 = opened ws d i g.Postfix sy refl (only g.Postfix sy (kind_at ws i) refl) c.requires.within in
     let w1 = to w0 (once c.in_ok-first.ensures.1) in
     let w2 = to w1 c.in_ok-rest.ensures in
     let none = no-items c.in_ok-rest.rest.items (sym c.in_ok-rest.rest.ok.0 ∙ eqb-true (vec_len c.in_ok-rest.rest) 0 (sym c.if-is_empty.ensures)) in
@@ -60,7 +59,7 @@ postfix-returns u c =
     let d = c.args.depth in
     let i = c.args.at in
     let sy = Of Once g.Primary ∷ Of Many g.Selection ∷ [] in
-    let w0 = opened ws d i g.Postfix sy refl (only g.Postfix sy (terminal_at ws i) refl) c.requires.within in
+    let w0 = opened ws d i g.Postfix sy refl (only g.Postfix sy (kind_at ws i) refl) c.requires.within in
     let w1 = to w0 (once c.in_ok-first.ensures.1) in
     let w2 = to w1 c.in_ok-rest.ensures in
     let some = some-items c.in_ok-rest.rest.items (vec_len c.in_ok-rest.rest) c.in_ok-rest.rest.ok.0 (sym c.if-is_empty.ensures) in
@@ -113,7 +112,7 @@ selector-returns-in_err-name u c =
     let i = c.args.at in
     let w = c.in-Some.ensures in
     let n = c.token_no-token.result in
-    let m0 = opened ws d i g.Selection dot_symbols refl (by_test g.Selection (terminal_at ws i) t.Dot dot_symbols w.0 selected_dot) c.requires.within in
+    let m0 = opened ws d i g.Selection dot_symbols refl (by_test g.Selection (kind_at ws i) k.Dot dot_symbols w.0 selected_dot) c.requires.within in
     let m1 = to m0 (kept n.0 c.token_no-token.ensures (took_one ws i c.in-Some.next k.Dot refl w)) in
     let e = c.in_err-name.field-0.0 in
     let r = c.from_residual in
@@ -127,7 +126,7 @@ selector-returns-in_err-arguments u c =
     let i = c.args.at in
     let w = c.in-Some.ensures in
     let n = c.token_no-token.result in
-    let m0 = opened ws d i g.Selection dot_symbols refl (by_test g.Selection (terminal_at ws i) t.Dot dot_symbols w.0 selected_dot) c.requires.within in
+    let m0 = opened ws d i g.Selection dot_symbols refl (by_test g.Selection (kind_at ws i) k.Dot dot_symbols w.0 selected_dot) c.requires.within in
     let m1 = to m0 (kept n.0 c.token_no-token.ensures (took_one ws i c.in-Some.next k.Dot refl w)) in
     let m2 = to m1 (c.in_ok-name.ensures d) in
     let e = c.in_err-arguments.field-0.0 in
@@ -142,7 +141,7 @@ selector-returns-in-Some u c =
     let i = c.args.at in
     let w = c.in-Some.ensures in
     let n = c.token_no-token.result in
-    let m0 = opened ws d i g.Selection dot_symbols refl (by_test g.Selection (terminal_at ws i) t.Dot dot_symbols w.0 selected_dot) c.requires.within in
+    let m0 = opened ws d i g.Selection dot_symbols refl (by_test g.Selection (kind_at ws i) k.Dot dot_symbols w.0 selected_dot) c.requires.within in
     let m1 = to m0 (kept n.0 c.token_no-token.ensures (took_one ws i c.in-Some.next k.Dot refl w)) in
     let m2 = to m1 (c.in_ok-name.ensures d) in
     let m3 = to m2 c.in_ok-arguments.ensures in
@@ -152,7 +151,7 @@ pub selector-returns-in_default-eat : goal.selector-returns-in_default-eat
 selector-returns-in_default-eat u c =
     let ws = c.args.source.now in
     let i = c.args.at in
-    no_selected (terminal_at ws i) c.in_default.ensures c.in_default-eat.ensures
+    no_selected (kind_at ws i) c.in_default.ensures c.in_default-eat.ensures
 
 pub selector-returns-in_err-class : goal.selector-returns-in_err-class
 selector-returns-in_err-class u c =
@@ -161,7 +160,7 @@ selector-returns-in_err-class u c =
     let i = c.args.at in
     let w = c.in-Some-eat.ensures in
     let n = c.token_no-token.result in
-    let m0 = opened ws d i g.Selection qua_symbols refl (by_test g.Selection (terminal_at ws i) t.Qua qua_symbols w.0 selected_qua) c.requires.within in
+    let m0 = opened ws d i g.Selection qua_symbols refl (by_test g.Selection (kind_at ws i) k.Qua qua_symbols w.0 selected_qua) c.requires.within in
     let m1 = to m0 (kept n.0 c.token_no-token.ensures (took_one ws i c.in-Some-eat.next k.Qua refl w)) in
     let e = c.in_err-class.field-0.0 in
     let r = c.from_residual-in_err-class in
@@ -175,7 +174,7 @@ selector-returns u c =
     let i = c.args.at in
     let w = c.in-Some-eat.ensures in
     let n = c.token_no-token.result in
-    let m0 = opened ws d i g.Selection qua_symbols refl (by_test g.Selection (terminal_at ws i) t.Qua qua_symbols w.0 selected_qua) c.requires.within in
+    let m0 = opened ws d i g.Selection qua_symbols refl (by_test g.Selection (kind_at ws i) k.Qua qua_symbols w.0 selected_qua) c.requires.within in
     let m1 = to m0 (kept n.0 c.token_no-token.ensures (took_one ws i c.in-Some-eat.next k.Qua refl w)) in
     let m2 = to m1 (c.in_ok-class.ensures d) in
     (omega (arith, w.1, (c.in_ok-class.ensures d).ahead), gone m2 _ (sym (derivation-Qua n c.in_ok-class.class)))
@@ -185,7 +184,7 @@ arguments-returns-in_default u c =
     let ws = c.args.source.now in
     let i = c.args.at in
     to-as (λ f. f) (arguments (map derivation_of c.new.result.items)) (λ f. ap (λ l. arguments (map derivation_of l) f) (sym c.new.ensures.items))
-    (skipped (one_row g.Arguments (just t.Open) args_symbols (terminal_at ws i) false refl (just_is _ _ _ c.in_default.ensures)) c.requires.within)
+    (skipped (one_row g.Arguments (just k.Open) args_symbols (kind_at ws i) false refl (just_is _ _ _ c.in_default.ensures)) c.requires.within)
 
 pub arguments-returns-in_err-list : goal.arguments-returns-in_err-list
 arguments-returns-in_err-list u c =
@@ -193,12 +192,12 @@ arguments-returns-in_err-list u c =
     let d = c.args.depth in
     let i = c.args.at in
     let w = c.in-Some.ensures in
-    let m0 = opened ws d i g.Arguments args_symbols refl (one_row g.Arguments (just t.Open) args_symbols (terminal_at ws i) true refl (just_is _ _ _ w.0)) c.requires.within in
+    let m0 = opened ws d i g.Arguments args_symbols refl (one_row g.Arguments (just k.Open) args_symbols (kind_at ws i) true refl (just_is _ _ _ w.0)) c.requires.within in
     let m1 = to m0 (marked w) in
     let e = c.in_err-list.field-0.0 in
     let r = c.from_residual in
     exit (λ r. GivesTo ws d (Of Maybe g.Arguments) i (λ v. arguments (map derivation_of v.items)) r) r.result e r.ensures.1
-    (stops-at Maybe m1 e (c.in_err-list.ensures (Mark t.Close ∷ [])))
+    (stops-at Maybe m1 e (c.in_err-list.ensures (Mark k.Close ∷ [])))
 
 pub arguments-returns-in_err-end : goal.arguments-returns-in_err-end
 arguments-returns-in_err-end u c =
@@ -206,13 +205,13 @@ arguments-returns-in_err-end u c =
     let d = c.args.depth in
     let i = c.args.at in
     let w = c.in-Some.ensures in
-    let m0 = opened ws d i g.Arguments args_symbols refl (one_row g.Arguments (just t.Open) args_symbols (terminal_at ws i) true refl (just_is _ _ _ w.0)) c.requires.within in
+    let m0 = opened ws d i g.Arguments args_symbols refl (one_row g.Arguments (just k.Open) args_symbols (kind_at ws i) true refl (just_is _ _ _ w.0)) c.requires.within in
     let m1 = to m0 (marked w) in
     let m2 = to-list m1 c.in_ok-list.ensures.1 in
     let e = c.in_err-end.field-0.0 in
     let r = c.from_residual-in_err-end in
     exit (λ r. GivesTo ws d (Of Maybe g.Arguments) i (λ v. arguments (map derivation_of v.items)) r) r.result e r.ensures.1
-    (stops-in Maybe m2 e (mark-stops ws d c.in_ok-list.next t.Close e c.in_err-end.ensures))
+    (stops-in Maybe m2 e (mark-stops ws d c.in_ok-list.next k.Close e c.in_err-end.ensures))
 
 pub arguments-returns : goal.arguments-returns
 arguments-returns u c =
@@ -220,7 +219,7 @@ arguments-returns u c =
     let d = c.args.depth in
     let i = c.args.at in
     let w = c.in-Some.ensures in
-    let m0 = opened ws d i g.Arguments args_symbols refl (one_row g.Arguments (just t.Open) args_symbols (terminal_at ws i) true refl (just_is _ _ _ w.0)) c.requires.within in
+    let m0 = opened ws d i g.Arguments args_symbols refl (one_row g.Arguments (just k.Open) args_symbols (kind_at ws i) true refl (just_is _ _ _ w.0)) c.requires.within in
     let m1 = to m0 (marked w) in
     let m2 = to-list m1 c.in_ok-list.ensures.1 in
     let m3 = to m2 (marked c.in_ok-end.ensures) in
@@ -261,7 +260,7 @@ argument_list-returns-in_err-argument u c =
     let l = c.loop-next in
     let at = l.at in
     let w = c.in-Some.ensures in
-    let m0 = opened ws d at g.NextArgument more_symbols refl (one_row g.NextArgument (just t.Comma) more_symbols (terminal_at ws at) true refl (just_is _ _ _ w.0)) l.invariant.within in
+    let m0 = opened ws d at g.NextArgument more_symbols refl (one_row g.NextArgument (just k.Comma) more_symbols (kind_at ws at) true refl (just_is _ _ _ w.0)) l.invariant.within in
     let m1 = to m0 (marked w) in
     let e = c.in_err-argument.field-0.0 in
     let r = c.from_residual-in_err-argument in
@@ -275,7 +274,7 @@ argument_list-loop-next-preserved u c =
     let l = c.loop-next in
     let at = l.at in
     let w = c.in-Some.ensures in
-    let m0 = opened ws d at g.NextArgument more_symbols refl (one_row g.NextArgument (just t.Comma) more_symbols (terminal_at ws at) true refl (just_is _ _ _ w.0)) l.invariant.within in
+    let m0 = opened ws d at g.NextArgument more_symbols refl (one_row g.NextArgument (just k.Comma) more_symbols (kind_at ws at) true refl (just_is _ _ _ w.0)) l.invariant.within in
     let m1 = to m0 (marked w) in
     let x = c.in_ok-argument.argument in
     let p = c.in_ok-argument.ensures.1 in
@@ -293,7 +292,7 @@ pub argument_list-returns : goal.argument_list-returns
 argument_list-returns u c =
     let ws = c.args.source.now in
     let l = c.loop-next in
-    let none = one_row g.NextArgument (just t.Comma) more_symbols (terminal_at ws l.at) false refl (just_is _ _ _ c.in_default.ensures) in (
+    let none = one_row g.NextArgument (just k.Comma) more_symbols (kind_at ws l.at) false refl (just_is _ _ _ c.in_default.ensures) in (
       l.invariant.some,
       record {
         reads = λ s f m q. (l.invariant.goes s).reads f m (reads-skip none refl q);

@@ -1,26 +1,23 @@
 -- Declarations and their lists.
-use Rattle.std.proofs.Common.{true, false, [], ◌∷◌, refl, map, sym, ap, ◌∙◌, subst, arith, Ok}
+use Rattle.std.proofs.Common.{[], ◌∷◌, refl, map, sym, ap, ◌∙◌, subst, arith, Ok}
 use Rattle.std.proofs.lemmas.Bool.{false≢true}
 use Rattle.sim_base.specs.declared.token.TokenKind.TheVariants as k
 use Rattle.sim_expr_parser.proofs.Steps.{exit, gone, kept, once, once-stops, opened, passed, stops-at, stops-in, to, stops}
 use Rattle.sim_expr_parser.proofs.Tables.{by_test, only}
-use Rattle.sim_expr_parser.proofs.Terminals.{took_one}
+use Rattle.sim_expr_parser.proofs.Tokens.{took_one}
 use Rattle.sim_expr_parser.specs.Parsing.{ReadsTo}
 use Rattle.sim_parser.proofs.Exits.{here, here_part, out_part, past_part, past_to}
 use Rattle.sim_parser.proofs.Along.{closed-by}
 use Rattle.sim_parser.proofs.BlockSteps.{at_place, declares_more, declares_none, kept_one, part_ahead, to_closed, type_stops, unexpected}
 use Rattle.sim_parser.proofs.BlockTables.{after_class, array_row, block_declares, block_named, class_row, cls_row, decl_class, decl_procedure, decl_typed, declaring_row, named_row, no_typed, plain_class_row, proc_row, procedure_row, type_begins, typed_array, typed_procedure, typed_row, typed_variables, variables_row}
-use Rattle.sim_parser.proofs.StatementRows.{inside}
-use Rattle.sim_parser.specs.Parsing.{begins, GivesDecl, GivesDeclaration, GivesDeclarations, GivesTyped, ReadsDeclarations, begins_declaration, declared}
+use Rattle.sim_parser.specs.Parsing.{GivesDecl, GivesDeclaration, GivesDeclarations, GivesTyped, ReadsDeclarations, begins_declaration, declared}
 use Rattle.sim_tree.proofs.DerivationLemmas.{map-append}
 use Rattle.sim_tree.proofs.StatementLemmas.{derivation-Arrays, derivation-Class, derivation-Class-prefixed, derivation-Procedure, derivation-Procedure-typed, derivation-Variables, derivation-class, derivation-procedure}
-use Rattle.sim_tree.proofs.Steps.{start}
 use Rattle.sim_tree.specs.Grammar as g
 use Rattle.sim_tree.specs.Grammar.{Once, Kept, is, just, one_of}
-use Rattle.sim_tree.specs.Reading.{done, leaf, node, place, terminal_at, reads-done}
-use Rattle.sim_tree.specs.Derivation.{identifier, row, derivation_of}
+use Rattle.sim_tree.specs.Reading.{done, node, place, kind_at, reads-done, bare_leaf}
+use Rattle.sim_tree.specs.Derivation.{identifier, row}
 use Rattle.sim_tree.specs.ProgramDerivation.{statement_derivation, class_derivation, declaration_derivation, heading_derivation, procedure_derivation, protection_derivation, segments_derivation, type_derivation, variables_derivation, virtuals_derivation}
-use Rattle.sim_tree.specs.declared.terminal.Terminal.TheVariants as t
 use Rattle.sim_parser.proofs.statement.+statement.Goals as goal
 
 pub declarations-loop-list-init : goal.declarations-loop-list-init
@@ -66,7 +63,7 @@ declaration-returns-in_err-prefix u c =
     let i = c.args.at in
     let j = c.in-Some.word in
     let f = c.in-Some.ensures in
-    let w0 = opened ws d i g.Block named_row refl (by_test g.Block (terminal_at ws i) t.Identifier named_row f.0 block_named) c.requires.within in
+    let w0 = opened ws d i g.Block named_row refl (by_test g.Block (kind_at ws i) k.Identifier named_row f.0 block_named) c.requires.within in
     let e = c.in_err-prefix.field-0.0 in
     let r = c.from_residual in
     exit (λ r. GivesDeclaration ws d i r) r.result e r.ensures.1
@@ -86,11 +83,11 @@ declaration-returns-in_err-class u c =
     let i = c.args.at in
     let j = c.in-Some.word in
     let f = c.in-Some.ensures in
-    let w0 = opened ws d i g.Block named_row refl (by_test g.Block (terminal_at ws i) t.Identifier named_row f.0 block_named) c.requires.within in
+    let w0 = opened ws d i g.Block named_row refl (by_test g.Block (kind_at ws i) k.Identifier named_row f.0 block_named) c.requires.within in
     let x = c.in_ok-prefix.ensures d in
     let same = kept_one (x.reads [] done _ reads-done) in
-    let w1 = to w0 (subst (λ z. ReadsTo ws d (Kept (just t.Identifier)) i (identifier c.in_ok-prefix.prefix) z) (same ∙ sym f.1) x) in
-    let m0 = opened ws d j g.AfterIdentifier class_row refl (by_test g.AfterIdentifier (terminal_at ws j) t.Class class_row f.3 after_class) f.2 in
+    let w1 = to w0 (subst (λ z. ReadsTo ws d (Kept (just k.Identifier)) i (identifier c.in_ok-prefix.prefix) z) (same ∙ sym f.1) x) in
+    let m0 = opened ws d j g.AfterIdentifier class_row refl (by_test g.AfterIdentifier (kind_at ws j) k.Class class_row f.3 after_class) f.2 in
     let m1 = to m0 (kept j refl (took_one ws j c.in_ok-next.next k.Class refl c.in_ok-next.ensures)) in
     let e = c.in_err-class.field-0.0 in
     let r = c.from_residual-in_err-class in
@@ -104,11 +101,11 @@ declaration-returns-in_err-end u c =
     let i = c.args.at in
     let j = c.in-Some.word in
     let f = c.in-Some.ensures in
-    let w0 = opened ws d i g.Block named_row refl (by_test g.Block (terminal_at ws i) t.Identifier named_row f.0 block_named) c.requires.within in
+    let w0 = opened ws d i g.Block named_row refl (by_test g.Block (kind_at ws i) k.Identifier named_row f.0 block_named) c.requires.within in
     let x = c.in_ok-prefix.ensures d in
     let same = kept_one (x.reads [] done _ reads-done) in
-    let w1 = to w0 (subst (λ z. ReadsTo ws d (Kept (just t.Identifier)) i (identifier c.in_ok-prefix.prefix) z) (same ∙ sym f.1) x) in
-    let m0 = opened ws d j g.AfterIdentifier class_row refl (by_test g.AfterIdentifier (terminal_at ws j) t.Class class_row f.3 after_class) f.2 in
+    let w1 = to w0 (subst (λ z. ReadsTo ws d (Kept (just k.Identifier)) i (identifier c.in_ok-prefix.prefix) z) (same ∙ sym f.1) x) in
+    let m0 = opened ws d j g.AfterIdentifier class_row refl (by_test g.AfterIdentifier (kind_at ws j) k.Class class_row f.3 after_class) f.2 in
     let m1 = to m0 (kept j refl (took_one ws j c.in_ok-next.next k.Class refl c.in_ok-next.ensures)) in
     let m2 = to m1 (once c.in_ok-class.ensures) in
     let e = c.in_err-end.field-0.0 in
@@ -123,11 +120,11 @@ declaration-returns-in-Some u c =
     let i = c.args.at in
     let j = c.in-Some.word in
     let f = c.in-Some.ensures in
-    let w0 = opened ws d i g.Block named_row refl (by_test g.Block (terminal_at ws i) t.Identifier named_row f.0 block_named) c.requires.within in
+    let w0 = opened ws d i g.Block named_row refl (by_test g.Block (kind_at ws i) k.Identifier named_row f.0 block_named) c.requires.within in
     let x = c.in_ok-prefix.ensures d in
     let same = kept_one (x.reads [] done _ reads-done) in
-    let w1 = to w0 (subst (λ z. ReadsTo ws d (Kept (just t.Identifier)) i (identifier c.in_ok-prefix.prefix) z) (same ∙ sym f.1) x) in
-    let m0 = opened ws d j g.AfterIdentifier class_row refl (by_test g.AfterIdentifier (terminal_at ws j) t.Class class_row f.3 after_class) f.2 in
+    let w1 = to w0 (subst (λ z. ReadsTo ws d (Kept (just k.Identifier)) i (identifier c.in_ok-prefix.prefix) z) (same ∙ sym f.1) x) in
+    let m0 = opened ws d j g.AfterIdentifier class_row refl (by_test g.AfterIdentifier (kind_at ws j) k.Class class_row f.3 after_class) f.2 in
     let n = c.token_no-token.result in
     let m1 = to m0 (kept n.0 c.token_no-token.ensures (took_one ws j c.in_ok-next.next k.Class refl c.in_ok-next.ensures)) in
     let m2 = to m1 (once c.in_ok-class.ensures) in
@@ -149,7 +146,7 @@ declaration-returns-then-not-begins_declaration u c =
     let d = c.args.depth in
     let i = c.args.at in
     record {
-      plain = ap (one_of begins_declaration) (sym c.terminal_at.ensures) ∙ sym c.if-not-begins_declaration.ensures;
+      plain = ap (one_of begins_declaration) (sym c.kind_at.ensures) ∙ sym c.if-not-begins_declaration.ensures;
       prefixed = c.in_default.ensures;
     }
 
@@ -158,8 +155,8 @@ declaration-returns-in_err-declared u c =
     let ws = c.args.source.now in
     let d = c.args.depth in
     let i = c.args.at in
-    let h = ap (one_of begins_declaration) (sym c.terminal_at.ensures) ∙ sym c.if-not-begins_declaration.ensures in
-    let w0 = opened ws d i g.Block declaring_row refl (block_declares (terminal_at ws i) h) c.requires.within in
+    let h = ap (one_of begins_declaration) (sym c.kind_at.ensures) ∙ sym c.if-not-begins_declaration.ensures in
+    let w0 = opened ws d i g.Block declaring_row refl (block_declares (kind_at ws i) h) c.requires.within in
     let e = c.in_err-declared.field-0.0 in
     let r = c.from_residual-in_err-declared in
     exit (λ r. GivesDeclaration ws d i r) r.result e r.ensures.1
@@ -170,8 +167,8 @@ declaration-returns-in_err-end-2 u c =
     let ws = c.args.source.now in
     let d = c.args.depth in
     let i = c.args.at in
-    let h = ap (one_of begins_declaration) (sym c.terminal_at.ensures) ∙ sym c.if-not-begins_declaration.ensures in
-    let w0 = opened ws d i g.Block declaring_row refl (block_declares (terminal_at ws i) h) c.requires.within in
+    let h = ap (one_of begins_declaration) (sym c.kind_at.ensures) ∙ sym c.if-not-begins_declaration.ensures in
+    let w0 = opened ws d i g.Block declaring_row refl (block_declares (kind_at ws i) h) c.requires.within in
     let w1 = to w0 (once c.in_ok-declared.ensures.part) in
     let e = c.in_err-end-2.field-0.0 in
     let r = c.from_residual-in_err-end-2 in
@@ -183,8 +180,8 @@ declaration-returns u c =
     let ws = c.args.source.now in
     let d = c.args.depth in
     let i = c.args.at in
-    let h = ap (one_of begins_declaration) (sym c.terminal_at.ensures) ∙ sym c.if-not-begins_declaration.ensures in
-    let w0 = opened ws d i g.Block declaring_row refl (block_declares (terminal_at ws i) h) c.requires.within in
+    let h = ap (one_of begins_declaration) (sym c.kind_at.ensures) ∙ sym c.if-not-begins_declaration.ensures in
+    let w0 = opened ws d i g.Block declaring_row refl (block_declares (kind_at ws i) h) c.requires.within in
     let p = c.in_ok-declared.ensures in
     let w1 = to w0 (once p.part) in
     let closed = c.in_ok-end-2.ensures d in
@@ -203,7 +200,7 @@ plain_declaration-returns-in_err-procedure u c =
     let ws = c.args.source.now in
     let d = c.args.depth in
     let i = c.args.at in
-    let w0 = opened ws d i g.Declaration procedure_row refl (by_test g.Declaration (terminal_at ws i) t.Procedure procedure_row c.in-Some.ensures.0 decl_procedure) c.requires.within in
+    let w0 = opened ws d i g.Declaration procedure_row refl (by_test g.Declaration (kind_at ws i) k.Procedure procedure_row c.in-Some.ensures.0 decl_procedure) c.requires.within in
     let w1 = to w0 (kept i refl (took_one ws i c.in-Some.next k.Procedure refl c.in-Some.ensures)) in
     let e = c.in_err-procedure.field-0.0 in
     let r = c.from_residual in
@@ -216,17 +213,17 @@ plain_declaration-returns-in-Some u c =
     let d = c.args.depth in
     let i = c.args.at in
     let n = c.token_no-token.result in
-    let w0 = opened ws d i g.Declaration procedure_row refl (by_test g.Declaration (terminal_at ws i) t.Procedure procedure_row c.in-Some.ensures.0 decl_procedure) c.requires.within in
+    let w0 = opened ws d i g.Declaration procedure_row refl (by_test g.Declaration (kind_at ws i) k.Procedure procedure_row c.in-Some.ensures.0 decl_procedure) c.requires.within in
     let w1 = to w0 (kept n.0 c.token_no-token.ensures (took_one ws i c.in-Some.next k.Procedure refl c.in-Some.ensures)) in
     let p = c.in_ok-procedure.procedure in
-    record { inside = leaf n.0 k.Procedure (node g.Procedure (procedure_derivation p) done); derivation_is = derivation-Procedure n p; part = gone (to w1 (once c.in_ok-procedure.ensures)) _ refl }
+    record { inside = bare_leaf n.0 k.Procedure (node g.Procedure (procedure_derivation p) done); derivation_is = derivation-Procedure n p; part = gone (to w1 (once c.in_ok-procedure.ensures)) _ refl }
 
 pub plain_declaration-returns-in_err-class : goal.plain_declaration-returns-in_err-class
 plain_declaration-returns-in_err-class u c =
     let ws = c.args.source.now in
     let d = c.args.depth in
     let i = c.args.at in
-    let w0 = opened ws d i g.Declaration plain_class_row refl (by_test g.Declaration (terminal_at ws i) t.Class plain_class_row c.in-Some-eat.ensures.0 decl_class) c.requires.within in
+    let w0 = opened ws d i g.Declaration plain_class_row refl (by_test g.Declaration (kind_at ws i) k.Class plain_class_row c.in-Some-eat.ensures.0 decl_class) c.requires.within in
     let w1 = to w0 (kept i refl (took_one ws i c.in-Some-eat.next k.Class refl c.in-Some-eat.ensures)) in
     let e = c.in_err-class.field-0.0 in
     let r = c.from_residual-in_err-class in
@@ -239,10 +236,10 @@ plain_declaration-returns-in-Some-eat u c =
     let d = c.args.depth in
     let i = c.args.at in
     let n = c.token_no-token.result in
-    let w0 = opened ws d i g.Declaration plain_class_row refl (by_test g.Declaration (terminal_at ws i) t.Class plain_class_row c.in-Some-eat.ensures.0 decl_class) c.requires.within in
+    let w0 = opened ws d i g.Declaration plain_class_row refl (by_test g.Declaration (kind_at ws i) k.Class plain_class_row c.in-Some-eat.ensures.0 decl_class) c.requires.within in
     let w1 = to w0 (kept n.0 c.token_no-token.ensures (took_one ws i c.in-Some-eat.next k.Class refl c.in-Some-eat.ensures)) in
     let p = c.in_ok-class.class in
-    record { inside = leaf n.0 k.Class (node g.Class (class_derivation p) done); derivation_is = derivation-Class n p; part = gone (to w1 (once c.in_ok-class.ensures)) _ refl }
+    record { inside = bare_leaf n.0 k.Class (node g.Class (class_derivation p) done); derivation_is = derivation-Class n p; part = gone (to w1 (once c.in_ok-class.ensures)) _ refl }
 
 pub plain_declaration-returns-in_err-name : goal.plain_declaration-returns-in_err-name
 plain_declaration-returns-in_err-name u c =
@@ -260,7 +257,7 @@ plain_declaration-returns u c =
     let d = c.args.depth in
     let i = c.args.at in
     let p = c.in_ok-name.ensures d in
-    let w0 = opened ws d i g.Declaration typed_row refl (decl_typed (terminal_at ws i) (type_begins (terminal_at ws i) p.right p.begins)) c.requires.within in
+    let w0 = opened ws d i g.Declaration typed_row refl (decl_typed (kind_at ws i) (type_begins (kind_at ws i) p.right p.begins)) c.requires.within in
     let w1 = to w0 (once p) in
     let x = c.in_ok-name.name in
     passed (GivesTyped x ws d c.in_ok-name.next) (GivesDecl ws d i)
@@ -273,7 +270,7 @@ typed_declaration-returns-in_err-procedure u c =
     let d = c.args.depth in
     let i = c.args.at in
     let x = c.args.type_name in
-    let w0 = opened ws d i g.TypedDeclaration procedure_row refl (by_test g.TypedDeclaration (terminal_at ws i) t.Procedure procedure_row c.in-Some.ensures.0 typed_procedure) c.requires.within in
+    let w0 = opened ws d i g.TypedDeclaration procedure_row refl (by_test g.TypedDeclaration (kind_at ws i) k.Procedure procedure_row c.in-Some.ensures.0 typed_procedure) c.requires.within in
     let w1 = to w0 (kept i refl (took_one ws i c.in-Some.next k.Procedure refl c.in-Some.ensures)) in
     let e = c.in_err-procedure.field-0.0 in
     let r = c.from_residual in
@@ -287,10 +284,10 @@ typed_declaration-returns-in-Some u c =
     let i = c.args.at in
     let n = c.token_no-token.result in
     let x = c.args.type_name in
-    let w0 = opened ws d i g.TypedDeclaration procedure_row refl (by_test g.TypedDeclaration (terminal_at ws i) t.Procedure procedure_row c.in-Some.ensures.0 typed_procedure) c.requires.within in
+    let w0 = opened ws d i g.TypedDeclaration procedure_row refl (by_test g.TypedDeclaration (kind_at ws i) k.Procedure procedure_row c.in-Some.ensures.0 typed_procedure) c.requires.within in
     let w1 = to w0 (kept n.0 c.token_no-token.ensures (took_one ws i c.in-Some.next k.Procedure refl c.in-Some.ensures)) in
     let p = c.in_ok-procedure.procedure in
-    record { inside = leaf n.0 k.Procedure (node g.Procedure (procedure_derivation p) done); derivation_is = derivation-Procedure-typed x n p; part = gone (to w1 (once c.in_ok-procedure.ensures)) _ refl }
+    record { inside = bare_leaf n.0 k.Procedure (node g.Procedure (procedure_derivation p) done); derivation_is = derivation-Procedure-typed x n p; part = gone (to w1 (once c.in_ok-procedure.ensures)) _ refl }
 
 pub typed_declaration-returns-in_err-segments : goal.typed_declaration-returns-in_err-segments
 typed_declaration-returns-in_err-segments u c =
@@ -298,7 +295,7 @@ typed_declaration-returns-in_err-segments u c =
     let d = c.args.depth in
     let i = c.args.at in
     let x = c.args.type_name in
-    let w0 = opened ws d i g.TypedDeclaration array_row refl (by_test g.TypedDeclaration (terminal_at ws i) t.Array array_row c.in-Some-eat.ensures.0 typed_array) c.requires.within in
+    let w0 = opened ws d i g.TypedDeclaration array_row refl (by_test g.TypedDeclaration (kind_at ws i) k.Array array_row c.in-Some-eat.ensures.0 typed_array) c.requires.within in
     let w1 = to w0 (kept i refl (took_one ws i c.in-Some-eat.next k.Array refl c.in-Some-eat.ensures)) in
     let e = c.in_err-segments.field-0.0 in
     let r = c.from_residual-in_err-segments in
@@ -312,10 +309,10 @@ typed_declaration-returns-in-Some-eat u c =
     let i = c.args.at in
     let n = c.token_no-token.result in
     let x = c.args.type_name in
-    let w0 = opened ws d i g.TypedDeclaration array_row refl (by_test g.TypedDeclaration (terminal_at ws i) t.Array array_row c.in-Some-eat.ensures.0 typed_array) c.requires.within in
+    let w0 = opened ws d i g.TypedDeclaration array_row refl (by_test g.TypedDeclaration (kind_at ws i) k.Array array_row c.in-Some-eat.ensures.0 typed_array) c.requires.within in
     let w1 = to w0 (kept n.0 c.token_no-token.ensures (took_one ws i c.in-Some-eat.next k.Array refl c.in-Some-eat.ensures)) in
     let v = c.in_ok-segments.segments in
-    record { inside = leaf n.0 k.Array (segments_derivation v.items); derivation_is = derivation-Arrays x n v; part = closed-by w1 (segments_derivation v.items) c.in_ok-segments.ensures _ refl }
+    record { inside = bare_leaf n.0 k.Array (segments_derivation v.items); derivation_is = derivation-Arrays x n v; part = closed-by w1 (segments_derivation v.items) c.in_ok-segments.ensures _ refl }
 
 pub typed_declaration-returns-in_err-expect : goal.typed_declaration-returns-in_err-expect
 typed_declaration-returns-in_err-expect u c =
@@ -326,7 +323,7 @@ typed_declaration-returns-in_err-expect u c =
     let e = c.in_err-expect.field-0.0 in
     let r = c.from_residual-in_err-expect in
     exit (λ r. GivesTyped x ws d i r) r.result e r.ensures.1
-    (unexpected ws d i g.TypedDeclaration e c.in_err-expect.ensures.1 (no_typed (terminal_at ws i) c.in_default.ensures c.in_default-eat.ensures c.in_err-expect.ensures.0))
+    (unexpected ws d i g.TypedDeclaration e c.in_err-expect.ensures.1 (no_typed (kind_at ws i) c.in_default.ensures c.in_default-eat.ensures c.in_err-expect.ensures.0))
 
 pub typed_declaration-returns-in_err-variables : goal.typed_declaration-returns-in_err-variables
 typed_declaration-returns-in_err-variables u c =
@@ -334,7 +331,7 @@ typed_declaration-returns-in_err-variables u c =
     let d = c.args.depth in
     let i = c.args.at in
     let x = c.args.type_name in
-    let w0 = opened ws d i g.TypedDeclaration variables_row refl (by_test g.TypedDeclaration (terminal_at ws i) t.Identifier variables_row c.in_ok-expect.ensures.0 typed_variables) c.requires.within in
+    let w0 = opened ws d i g.TypedDeclaration variables_row refl (by_test g.TypedDeclaration (kind_at ws i) k.Identifier variables_row c.in_ok-expect.ensures.0 typed_variables) c.requires.within in
     let e = c.in_err-variables.field-0.0 in
     let r = c.from_residual-in_err-variables in
     exit (λ r. GivesTyped x ws d i r) r.result e r.ensures.1
@@ -346,26 +343,26 @@ typed_declaration-returns u c =
     let d = c.args.depth in
     let i = c.args.at in
     let x = c.args.type_name in
-    let w0 = opened ws d i g.TypedDeclaration variables_row refl (by_test g.TypedDeclaration (terminal_at ws i) t.Identifier variables_row c.in_ok-expect.ensures.0 typed_variables) c.requires.within in
+    let w0 = opened ws d i g.TypedDeclaration variables_row refl (by_test g.TypedDeclaration (kind_at ws i) k.Identifier variables_row c.in_ok-expect.ensures.0 typed_variables) c.requires.within in
     let v = c.in_ok-variables.variables in
     record { inside = variables_derivation v.items; derivation_is = derivation-Variables x v; part = closed-by w0 (variables_derivation v.items) (c.in_ok-variables.ensures d) _ refl }
 
 pub procedure-returns-in_err-name : goal.procedure-returns-in_err-name
 procedure-returns-in_err-name u c =
     let r = c.from_residual in
-    out_part c.args.source.now c.args.depth c.args.at g.Procedure proc_row refl (only g.Procedure proc_row (terminal_at c.args.source.now c.args.at) refl) c.requires.within procedure_derivation r.result c.in_err-name.field-0.0 r.ensures.1
+    out_part c.args.source.now c.args.depth c.args.at g.Procedure proc_row refl (only g.Procedure proc_row (kind_at c.args.source.now c.args.at) refl) c.requires.within procedure_derivation r.result c.in_err-name.field-0.0 r.ensures.1
     (here (c.in_err-name.ensures c.args.depth))
 
 pub procedure-returns-in_err-heading : goal.procedure-returns-in_err-heading
 procedure-returns-in_err-heading u c =
     let r = c.from_residual-in_err-heading in
-    out_part c.args.source.now c.args.depth c.args.at g.Procedure proc_row refl (only g.Procedure proc_row (terminal_at c.args.source.now c.args.at) refl) c.requires.within procedure_derivation r.result c.in_err-heading.field-0.0 r.ensures.1
+    out_part c.args.source.now c.args.depth c.args.at g.Procedure proc_row refl (only g.Procedure proc_row (kind_at c.args.source.now c.args.at) refl) c.requires.within procedure_derivation r.result c.in_err-heading.field-0.0 r.ensures.1
     (past_to (c.in_ok-name.ensures c.args.depth) (here_part (c.in_err-heading.ensures c.args.depth)))
 
 pub procedure-returns-in_err-body : goal.procedure-returns-in_err-body
 procedure-returns-in_err-body u c =
     let r = c.from_residual-in_err-body in
-    out_part c.args.source.now c.args.depth c.args.at g.Procedure proc_row refl (only g.Procedure proc_row (terminal_at c.args.source.now c.args.at) refl) c.requires.within procedure_derivation r.result c.in_err-body.field-0.0 r.ensures.1
+    out_part c.args.source.now c.args.depth c.args.at g.Procedure proc_row refl (only g.Procedure proc_row (kind_at c.args.source.now c.args.at) refl) c.requires.within procedure_derivation r.result c.in_err-body.field-0.0 r.ensures.1
     (past_to (c.in_ok-name.ensures c.args.depth) (past_part (c.in_ok-heading.ensures c.args.depth) (here_part c.in_err-body.ensures)))
 
 pub procedure-returns : goal.procedure-returns
@@ -373,7 +370,7 @@ procedure-returns u c =
     let ws = c.args.source.now in
     let d = c.args.depth in
     let i = c.args.at in
-    let w0 = opened ws d i g.Procedure proc_row refl (only g.Procedure proc_row (terminal_at ws i) refl) c.requires.within in
+    let w0 = opened ws d i g.Procedure proc_row refl (only g.Procedure proc_row (kind_at ws i) refl) c.requires.within in
     let w1 = to w0 (c.in_ok-name.ensures d) in
     let w2 = to w1 (once (c.in_ok-heading.ensures d)) in
     let x = c.in_ok-name.name in
@@ -388,31 +385,31 @@ procedure-returns u c =
 pub class-returns-in_err-name : goal.class-returns-in_err-name
 class-returns-in_err-name u c =
     let r = c.from_residual in
-    out_part c.args.source.now c.args.depth c.args.at g.Class cls_row refl (only g.Class cls_row (terminal_at c.args.source.now c.args.at) refl) c.requires.within class_derivation r.result c.in_err-name.field-0.0 r.ensures.1
+    out_part c.args.source.now c.args.depth c.args.at g.Class cls_row refl (only g.Class cls_row (kind_at c.args.source.now c.args.at) refl) c.requires.within class_derivation r.result c.in_err-name.field-0.0 r.ensures.1
     (here (c.in_err-name.ensures c.args.depth))
 
 pub class-returns-in_err-heading : goal.class-returns-in_err-heading
 class-returns-in_err-heading u c =
     let r = c.from_residual-in_err-heading in
-    out_part c.args.source.now c.args.depth c.args.at g.Class cls_row refl (only g.Class cls_row (terminal_at c.args.source.now c.args.at) refl) c.requires.within class_derivation r.result c.in_err-heading.field-0.0 r.ensures.1
+    out_part c.args.source.now c.args.depth c.args.at g.Class cls_row refl (only g.Class cls_row (kind_at c.args.source.now c.args.at) refl) c.requires.within class_derivation r.result c.in_err-heading.field-0.0 r.ensures.1
     (past_to (c.in_ok-name.ensures c.args.depth) (here_part (c.in_err-heading.ensures c.args.depth)))
 
 pub class-returns-in_err-protections : goal.class-returns-in_err-protections
 class-returns-in_err-protections u c =
     let r = c.from_residual-in_err-protections in
-    out_part c.args.source.now c.args.depth c.args.at g.Class cls_row refl (only g.Class cls_row (terminal_at c.args.source.now c.args.at) refl) c.requires.within class_derivation r.result c.in_err-protections.field-0.0 r.ensures.1
+    out_part c.args.source.now c.args.depth c.args.at g.Class cls_row refl (only g.Class cls_row (kind_at c.args.source.now c.args.at) refl) c.requires.within class_derivation r.result c.in_err-protections.field-0.0 r.ensures.1
     (past_to (c.in_ok-name.ensures c.args.depth) (past_part (c.in_ok-heading.ensures c.args.depth) (here (c.in_err-protections.ensures c.args.depth))))
 
 pub class-returns-in_err-virtuals : goal.class-returns-in_err-virtuals
 class-returns-in_err-virtuals u c =
     let r = c.from_residual-in_err-virtuals in
-    out_part c.args.source.now c.args.depth c.args.at g.Class cls_row refl (only g.Class cls_row (terminal_at c.args.source.now c.args.at) refl) c.requires.within class_derivation r.result c.in_err-virtuals.field-0.0 r.ensures.1
+    out_part c.args.source.now c.args.depth c.args.at g.Class cls_row refl (only g.Class cls_row (kind_at c.args.source.now c.args.at) refl) c.requires.within class_derivation r.result c.in_err-virtuals.field-0.0 r.ensures.1
     (past_to (c.in_ok-name.ensures c.args.depth) (past_part (c.in_ok-heading.ensures c.args.depth) (past_to (c.in_ok-protections.ensures c.args.depth) (here (c.in_err-virtuals.ensures c.args.depth)))))
 
 pub class-returns-in_err-body : goal.class-returns-in_err-body
 class-returns-in_err-body u c =
     let r = c.from_residual-in_err-body in
-    out_part c.args.source.now c.args.depth c.args.at g.Class cls_row refl (only g.Class cls_row (terminal_at c.args.source.now c.args.at) refl) c.requires.within class_derivation r.result c.in_err-body.field-0.0 r.ensures.1
+    out_part c.args.source.now c.args.depth c.args.at g.Class cls_row refl (only g.Class cls_row (kind_at c.args.source.now c.args.at) refl) c.requires.within class_derivation r.result c.in_err-body.field-0.0 r.ensures.1
     (past_to (c.in_ok-name.ensures c.args.depth) (past_part (c.in_ok-heading.ensures c.args.depth) (past_to (c.in_ok-protections.ensures c.args.depth) (past_to (c.in_ok-virtuals.ensures c.args.depth) (here_part c.in_err-body.ensures)))))
 
 pub class-returns : goal.class-returns
@@ -420,7 +417,7 @@ class-returns u c =
     let ws = c.args.source.now in
     let d = c.args.depth in
     let i = c.args.at in
-    let w0 = opened ws d i g.Class cls_row refl (only g.Class cls_row (terminal_at ws i) refl) c.requires.within in
+    let w0 = opened ws d i g.Class cls_row refl (only g.Class cls_row (kind_at ws i) refl) c.requires.within in
     let w1 = to w0 (c.in_ok-name.ensures d) in
     let w2 = to w1 (once (c.in_ok-heading.ensures d)) in
     let w3 = to w2 (c.in_ok-protections.ensures d) in

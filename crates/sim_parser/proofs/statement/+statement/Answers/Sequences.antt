@@ -4,7 +4,7 @@ use Rattle.sim_base.specs.declared.token.TokenKind.TheVariants as k
 use Rattle.sim_expr_parser.proofs.Shapes.{some-mapped}
 use Rattle.sim_expr_parser.proofs.Steps.{exit, gone, kept, marked, once, once-stops, opened, stops-in, to, leads-stops}
 use Rattle.sim_expr_parser.proofs.Tables.{by_test, just_is, one_row}
-use Rattle.sim_expr_parser.proofs.Terminals.{took_one}
+use Rattle.sim_expr_parser.proofs.Tokens.{took_one}
 use Rattle.sim_expr_parser.specs.Parsing.{Stops}
 use Rattle.sim_expr_parser.specs.declared.refusal.Stop.TheVariants as stop
 use Rattle.sim_parser.proofs.Exits.{here_part, out_part, past_kept, past_to}
@@ -17,10 +17,8 @@ use Rattle.sim_tree.proofs.Steps.{leads-as, past-one, start}
 use Rattle.sim_tree.specs.Claim.{one}
 use Rattle.sim_tree.specs.Grammar as g
 use Rattle.sim_tree.specs.Grammar.{Many, Of, is, just, one_of, begins_statement}
-use Rattle.sim_tree.specs.Reading.{done, leaf, node, terminal_at, Unexpected, reads-done, reads-skip, after-skip, fails-kept, fails-part}
+use Rattle.sim_tree.specs.Reading.{done, node, kind_at, Unexpected, reads-done, reads-skip, after-skip, fails-kept, fails-part, bare_leaf}
 use Rattle.sim_tree.specs.ProgramDerivation.{block_derivation, statement_derivation, declaration_derivation, next_statement, statements as statements_derivation}
-use Rattle.sim_tree.specs.declared.stmt.Stmt.TheVariants as s
-use Rattle.sim_tree.specs.declared.terminal.Terminal.TheVariants as t
 use Rattle.sim_parser.proofs.statement.+statement.Goals as goal
 
 pub compound-returns-in_err-next : goal.compound-returns-in_err-next
@@ -31,18 +29,18 @@ compound-returns-in_err-next u c =
     let e = c.in_err-next.field-0.0 in
     let r = c.from_residual in
     exit (λ r. GivesPart ws d g.Compound i block_derivation r) r.result e r.ensures.1
-    (unexpected ws d i g.Compound e c.in_err-next.ensures.1 (one_row g.Compound (just t.Begin) compound_row (terminal_at ws i) false refl (just_is _ _ _ c.in_err-next.ensures.0)))
+    (unexpected ws d i g.Compound e c.in_err-next.ensures.1 (one_row g.Compound (just k.Begin) compound_row (kind_at ws i) false refl (just_is _ _ _ c.in_err-next.ensures.0)))
 
 pub compound-returns-in_err-declarations : goal.compound-returns-in_err-declarations
 compound-returns-in_err-declarations u c =
     let r = c.from_residual-in_err-declarations in
-    out_part c.args.source.now c.args.depth c.args.at g.Compound compound_row refl (one_row g.Compound (just t.Begin) compound_row (terminal_at c.args.source.now c.args.at) true refl (just_is _ _ _ c.in_ok-next.ensures.0)) c.requires.within block_derivation r.result c.in_err-declarations.field-0.0 r.ensures.1
+    out_part c.args.source.now c.args.depth c.args.at g.Compound compound_row refl (one_row g.Compound (just k.Begin) compound_row (kind_at c.args.source.now c.args.at) true refl (just_is _ _ _ c.in_ok-next.ensures.0)) c.requires.within block_derivation r.result c.in_err-declarations.field-0.0 r.ensures.1
     (past_kept c.in_ok-next.ensures (past_to (c.past_semicolons-next.ensures c.args.depth) (here_part c.in_err-declarations.ensures)))
 
 pub compound-returns-in_err-sequence : goal.compound-returns-in_err-sequence
 compound-returns-in_err-sequence u c =
     let r = c.from_residual-in_err-sequence in
-    out_part c.args.source.now c.args.depth c.args.at g.Compound compound_row refl (one_row g.Compound (just t.Begin) compound_row (terminal_at c.args.source.now c.args.at) true refl (just_is _ _ _ c.in_ok-next.ensures.0)) c.requires.within block_derivation r.result c.in_err-sequence.field-0.0 r.ensures.1
+    out_part c.args.source.now c.args.depth c.args.at g.Compound compound_row refl (one_row g.Compound (just k.Begin) compound_row (kind_at c.args.source.now c.args.at) true refl (just_is _ _ _ c.in_ok-next.ensures.0)) c.requires.within block_derivation r.result c.in_err-sequence.field-0.0 r.ensures.1
     (past_kept c.in_ok-next.ensures (past_to (c.past_semicolons-next.ensures c.args.depth) (here_part (c.in_ok-declarations.ensures.0.fails c.in_err-sequence.field-0.0 c.in_err-sequence.ensures))))
 
 pub compound-returns : goal.compound-returns
@@ -51,7 +49,7 @@ compound-returns u c =
     let d = c.args.depth in
     let i = c.args.at in
     let n = c.token_no-token.result in
-    let w0 = opened ws d i g.Compound compound_row refl (one_row g.Compound (just t.Begin) compound_row (terminal_at ws i) true refl (just_is _ _ _ c.in_ok-next.ensures.0)) c.requires.within in
+    let w0 = opened ws d i g.Compound compound_row refl (one_row g.Compound (just k.Begin) compound_row (kind_at ws i) true refl (just_is _ _ _ c.in_ok-next.ensures.0)) c.requires.within in
     let w1 = to w0 (kept n.0 c.token_no-token.ensures (took_one ws i c.in_ok-next.next k.Begin refl c.in_ok-next.ensures)) in
     let w2 = to w1 (c.past_semicolons-next.ensures d) in
     let ds = c.in_ok-declarations.declarations in
@@ -59,7 +57,7 @@ compound-returns u c =
     let p = c.in_ok-declarations.ensures.0.reads _ _ c.in_ok-sequence.ensures in
     let fs = map statement_derivation q.statements.items in
     gone (to w2 (once p)) _
-    (ap (λ z. leaf n.0 k.Begin (node g.Block z done)) (contents_declared (map declaration_derivation ds.items) fs q.end.0) ∙ sym (derivation-block n ds q.statements q.end))
+    (ap (λ z. bare_leaf n.0 k.Begin (node g.Block z done)) (contents_declared (map declaration_derivation ds.items) fs q.end.0) ∙ sym (derivation-block n ds q.statements q.end))
 
 pub sequence_at-returns-in-Some : goal.sequence_at-returns-in-Some
 sequence_at-returns-in-Some u c =
@@ -68,7 +66,7 @@ sequence_at-returns-in-Some u c =
     let i = c.args.at in
     let w = c.in-Some.ensures in
     let n = c.token_no-end.result in
-    let w0 = opened ws d i g.Block end_row refl (by_test g.Block (terminal_at ws i) t.End end_row w.0 block_ends) c.requires.within in
+    let w0 = opened ws d i g.Block end_row refl (by_test g.Block (kind_at ws i) k.End end_row w.0 block_ends) c.requires.within in
     let w1 = to w0 (kept n.0 c.token_no-end.ensures (took_one ws i c.in-Some.next k.End refl w)) in
     gone w1 _ (ap (λ z. statements_derivation (map statement_derivation z) n.0) (sym c.new-statements.ensures.items))
 
@@ -77,16 +75,16 @@ sequence_at-returns-then-not-begins_statement u c =
     let ws = c.args.source.now in
     let d = c.args.depth in
     let i = c.args.at in
-    let b = ap (one_of begins) (sym c.terminal_at.ensures) ∙ sym c.if-not-begins_statement.ensures in
-    let a = terminal_at ws i in
-    fails-part (no_block a c.requires.no_declaration.plain (or_left (is a t.Identifier) (one_of begins_statement a) b) c.in_default.ensures (or_right (is a t.Identifier) (one_of begins_statement a) b)) refl
+    let b = ap (one_of begins) (sym c.kind_at.ensures) ∙ sym c.if-not-begins_statement.ensures in
+    let a = kind_at ws i in
+    fails-part (no_block a c.requires.no_declaration.plain (or_left (is a k.Identifier) (one_of begins_statement a) b) c.in_default.ensures (or_right (is a k.Identifier) (one_of begins_statement a) b)) refl
 
 pub sequence_at-returns-in_err-statements : goal.sequence_at-returns-in_err-statements
 sequence_at-returns-in_err-statements u c =
     let ws = c.args.source.now in
     let d = c.args.depth in
     let i = c.args.at in
-    let b = ap (one_of begins) (sym c.terminal_at.ensures) ∙ sym c.if-not-begins_statement.ensures in
+    let b = ap (one_of begins) (sym c.kind_at.ensures) ∙ sym c.if-not-begins_statement.ensures in
     let e = c.in_err-statements.field-0.0 in
     let r = c.from_residual in
     exit (λ r. GivesPart ws d g.Block i (λ s. statements_derivation (map statement_derivation s.statements.items) s.end.0) r) r.result e r.ensures.1
@@ -97,7 +95,7 @@ sequence_at-returns-in_err-next u c =
     let ws = c.args.source.now in
     let d = c.args.depth in
     let i = c.args.at in
-    let b = ap (one_of begins) (sym c.terminal_at.ensures) ∙ sym c.if-not-begins_statement.ensures in
+    let b = ap (one_of begins) (sym c.kind_at.ensures) ∙ sym c.if-not-begins_statement.ensures in
     let j = c.in_ok-statements.next in
     let e = c.in_err-next.field-0.0 in
     let r = c.from_residual-in_err-next in
@@ -109,14 +107,14 @@ sequence_at-returns u c =
     let ws = c.args.source.now in
     let d = c.args.depth in
     let i = c.args.at in
-    let b = ap (one_of begins) (sym c.terminal_at.ensures) ∙ sym c.if-not-begins_statement.ensures in
+    let b = ap (one_of begins) (sym c.kind_at.ensures) ∙ sym c.if-not-begins_statement.ensures in
     let j = c.in_ok-statements.next in
     let n = c.token_no-end-2.result in
     let q = c.in_ok-statements.ensures in
     let v = c.in_ok-statements.statements in
     let w = c.in_ok-next.ensures in
     let read = (kept {ws = ws} {d = d} n.0 c.token_no-end-2.ensures (took_one ws j c.in_ok-next.next k.End refl w)).reads [] done c.in_ok-next.next reads-done in
-    sequence_reads ws d i c.requires.no_declaration b c.in_default.ensures (map statement_derivation v.items) n.0 (some-mapped statement_derivation v.items q.0) (q.1.reads end_row (leaf n.0 k.End done) c.in_ok-next.next read) (omega (arith, q.1.ahead, w.1)) w.2
+    sequence_reads ws d i c.requires.no_declaration b c.in_default.ensures (map statement_derivation v.items) n.0 (some-mapped statement_derivation v.items q.0) (q.1.reads end_row (bare_leaf n.0 k.End done) c.in_ok-next.next read) (omega (arith, q.1.ahead, w.1)) w.2
 
 pub statements-returns-in_err-first : goal.statements-returns-in_err-first
 statements-returns-in_err-first u c =
@@ -152,7 +150,7 @@ statements-returns-in_err-following u c =
     let l = c.loop-next in
     let at = l.at in
     let w = c.in-Some.ensures in
-    let m0 = opened ws d at g.NextStatement next_row refl (one_row g.NextStatement (just t.Semicolon) next_row (terminal_at ws at) true refl (just_is _ _ _ w.0)) l.invariant.within in
+    let m0 = opened ws d at g.NextStatement next_row refl (one_row g.NextStatement (just k.Semicolon) next_row (kind_at ws at) true refl (just_is _ _ _ w.0)) l.invariant.within in
     let m1 = to m0 (marked w) in
     let e = c.in_err-following.field-0.0 in
     let r = c.from_residual-in_err-following in
@@ -167,7 +165,7 @@ statements-loop-next-preserved u c =
     let l = c.loop-next in
     let at = l.at in
     let w = c.in-Some.ensures in
-    let m0 = opened ws d at g.NextStatement next_row refl (one_row g.NextStatement (just t.Semicolon) next_row (terminal_at ws at) true refl (just_is _ _ _ w.0)) l.invariant.within in
+    let m0 = opened ws d at g.NextStatement next_row refl (one_row g.NextStatement (just k.Semicolon) next_row (kind_at ws at) true refl (just_is _ _ _ w.0)) l.invariant.within in
     let m1 = to m0 (marked w) in
     let x = c.in_ok-following.following in
     let p = c.in_ok-following.ensures in
@@ -187,7 +185,7 @@ statements-returns u c =
     let d = c.args.depth in
     let i = c.args.start in
     let l = c.loop-next in
-    let none = one_row g.NextStatement (just t.Semicolon) next_row (terminal_at ws l.at) false refl (just_is _ _ _ c.in_default.ensures) in (
+    let none = one_row g.NextStatement (just k.Semicolon) next_row (kind_at ws l.at) false refl (just_is _ _ _ c.in_default.ensures) in (
       l.invariant.some,
       record {
         reads = λ s f m q. (l.invariant.goes s).reads f m (reads-skip none refl q);
