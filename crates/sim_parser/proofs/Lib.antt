@@ -9,6 +9,7 @@ pub mod ElementsTables
 pub mod Exits
 pub mod HeadingSteps
 pub mod ListSteps
+pub mod Mapped
 pub mod NameSteps
 pub mod OperationTables
 pub mod ProgramSteps

@@ -9,6 +9,7 @@ ghost use Rattle.sim_parser.specs.Parsing.{GivesAll, GivesPart};
 ghost use Rattle.sim_parser.specs.Elements.{for_list_derivation};
 
 use crate::lists::comma_list;
+use crate::pairs::expression_pair;
 use sim_base::{TokenKind, TokenNo};
 use sim_expr_parser::{LIMIT, Source, Stop, expression};
 use sim_tree::{ForElement, ReferenceElement};
@@ -62,32 +63,28 @@ fn for_element(source: &Source, at: usize, depth: u32) -> Result<(ForElement, us
     let (value, next) = expression(source, at, depth)?;
     let token = source.token_no(next);
     if let Some(next) = source.eat(next, TokenKind::Step) {
-        let (step, next) = expression(source, next, depth)?;
-        let next = source.expect(next, TokenKind::Until)?;
-        let (limit, end) = expression(source, next, depth)?;
         let start = value;
-        return Ok((
-            ForElement::Step {
+        return expression_pair(source, next, depth, TokenKind::Until).map(|((step, limit), end)| {
+            let element = ForElement::Step {
                 start,
                 token,
                 step,
                 limit,
-            },
-            end,
-        ));
+            };
+            (element, end)
+        });
     }
     let Some(next) = source.eat(next, TokenKind::While) else {
         return Ok((ForElement::Value { value }, next));
     };
-    let (condition, end) = expression(source, next, depth)?;
-    Ok((
-        ForElement::While {
+    expression(source, next, depth).map(|(condition, end)| {
+        let element = ForElement::While {
             value,
             token,
             condition,
-        },
-        end,
-    ))
+        };
+        (element, end)
+    })
 }
 
 // The elements over references, at least one.
@@ -118,13 +115,12 @@ fn reference_element(
     let Some(next) = source.eat(next, TokenKind::While) else {
         return Ok((ReferenceElement::Value { value }, next));
     };
-    let (condition, end) = expression(source, next, depth)?;
-    Ok((
-        ReferenceElement::While {
+    expression(source, next, depth).map(|(condition, end)| {
+        let element = ReferenceElement::While {
             value,
             token,
             condition,
-        },
-        end,
-    ))
+        };
+        (element, end)
+    })
 }

@@ -7,6 +7,7 @@ mod heading;
 mod lists;
 mod names;
 mod operation;
+mod pairs;
 mod program;
 mod statement;
 mod words;

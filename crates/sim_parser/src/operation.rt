@@ -93,16 +93,15 @@ pub fn activation_statement(source: &Source, at: usize, depth: u32) -> Result<(S
     let token = source.token_no(at);
     let (activation, next) = activation_at(source, at)?;
     let (process, next) = expression(source, next, depth)?;
-    let (timing, end) = timing(source, next, depth)?;
-    Ok((
-        Stmt::Activation {
+    timing(source, next, depth).map(|(timing, end)| {
+        let statement = Stmt::Activation {
             token,
             activation,
             process,
             timing,
-        },
-        end,
-    ))
+        };
+        (statement, end)
+    })
 }
 
 // The word of an activation, and the index after it.
