@@ -12,11 +12,12 @@ use std::alloc::{AllocError, Global};
 use std::{fs, io};
 
 // The models of data/, in the order in which they are shown, each with the file that it reads as its input, if it reads any.
-const MODELS: [(&str, Option<&str>); 14] = [
+const MODELS: [(&str, Option<&str>); 15] = [
     ("first.sim", None),
     ("arithmetic.sim", None),
     ("fields.sim", None),
     ("long_lines.sim", None),
+    ("separators.sim", None),
     ("overflow.sim", None),
     ("wide_field.sim", None),
     ("undeclared.sim", None),
@@ -30,12 +31,14 @@ const MODELS: [(&str, Option<&str>); 14] = [
 ];
 
 // The collections of data/ whose sources are run, in the order in which they are shown.
-const COLLECTIONS: [&str; 5] = [
+const COLLECTIONS: [&str; 7] = [
     "messages.cases",
     "programs.cases",
+    "tokens.cases",
     "grammar.cases",
     "whole_language.cases",
     "texts.cases",
+    "numbers.cases",
 ];
 
 // The collections of data/ whose sources are checked, not run. They come last.

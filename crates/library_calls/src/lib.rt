@@ -1,5 +1,5 @@
-//! Tests of the public calls of the libraries: values, texts, images, sets, event notices and scheduling. They stand here, above all,
-//! so that a change of a test proves no other crate again, and a crate without tests is proved once.
+//! Happy paths of the calls of the libraries that take memory, with ample of it, and what no clause says of their inputs. They stand
+//! here, above all, so that a change of a test proves no other crate again, and a crate without tests is proved once.
 #![tactic(auto)]
 
 #[cfg(test)]
@@ -8,5 +8,3 @@ mod images;
 mod scheduling;
 #[cfg(test)]
 mod texts;
-#[cfg(test)]
-mod values;

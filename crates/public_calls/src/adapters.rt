@@ -1,11 +1,10 @@
-// The adapters over files of the system, over a file that fails in mid-read, and over a reader and a writer that are
-// interrupted and then fail.
+// The adapters over files of the system, and over a reader and a writer that are interrupted and then fail.
 
-use crate::broken_files::BrokenFiles;
 use sim_ends::{Input, Output, RealFiles};
 use sim_ports::{Files, Sink, Source};
 use std::fs;
 use std::io::{self, ErrorKind, Read, Write};
+use std::rt::Files as FileSystem;
 use std::test::Fail;
 
 // It is interrupted at its first call, takes or gives one byte at the second, and none at the third; then it fails.
@@ -45,72 +44,46 @@ impl Write for Stuttering {
     }
 }
 
+// How many bytes a first read of up to two gives of the file of this name: none where the read fails, and none at all where no such file
+// opens.
+fn first_read<R: FileSystem>(rt: &R, name: String) -> Option<Option<usize>> {
+    let mut files = RealFiles::new(rt);
+    if files.select(name).is_err() {
+        return None;
+    }
+    let mut piece = [0u8; 2];
+    Some(files.read(&mut piece).ok())
+}
+
 #[test]
 fn files_of_the_system(rt: HostRuntime) -> Result<(), Fail> {
-    let name = "sim_ends_test.txt";
-    let with_blanks = " sim_ends  test .txt";
-    fs::write(&rt, name, "abc")?;
-    fs::write(&rt, with_blanks, "de")?;
-    // The name, whether it opens, and what a read of up to two bytes gives. A directory opens, and no read of it succeeds.
-    let rows: [(&str, bool, Option<&[u8]>); 6] = [
-        (name, true, Some(b"ab")),
-        (with_blanks, true, Some(b"de")),
-        (" sim_ends_test.txt", false, None),
-        ("sim_ends_test.txt ", false, None),
-        ("sim_ends_test_that_is_missing.txt", false, None),
-        (".", true, None),
-    ];
-    for (at, opens, given) in rows {
-        let chosen = String::from_str(rt.alloc(), at)?;
-        let mut files = RealFiles::new(&rt);
-        if files.select(chosen).is_err() {
-            assert!(rt; !opens, "select {at}");
-            continue;
-        }
-        assert!(rt; opens, "select {at}");
-        let mut piece = [0u8; 2];
-        match files.read(&mut piece) {
-            Ok(count) => assert_eq!(rt; Some(&piece[..count]), given, "read {at}"),
-            Err(_) => assert!(rt; given.is_none(), "read {at}"),
-        }
+    fs::write(&rt, "sim_ends_test.txt", "abc")?;
+    fs::write(&rt, " sim_ends  test .txt", "d")?;
+    // A directory opens, and no read of it succeeds.
+    for (name, count) in [
+        ("sim_ends_test.txt", Some(Some(2))),
+        (" sim_ends  test .txt", Some(Some(1))),
+        (" sim_ends_test.txt", None),
+        ("sim_ends_test.txt ", None),
+        (".", Some(None)),
+    ] {
+        let chosen = String::from_str(rt.alloc(), name).expect(&rt, "memory is ample");
+        let found = first_read(&rt, chosen);
+        assert!(rt; found == count, "{name}");
     }
-    fs::remove_file(&rt, name)?;
-    fs::remove_file(&rt, with_blanks)?;
+    fs::remove_file(&rt, "sim_ends_test.txt")?;
+    fs::remove_file(&rt, " sim_ends  test .txt")?;
     Ok(())
 }
 
+// An interrupted call is made again, a read of nothing is the end of the input, a write of nothing is a fault.
 #[test]
-fn a_file_that_fails_in_mid_read(rt: HostRuntime) -> Result<(), Fail> {
-    let system = BrokenFiles;
-    let mut files = RealFiles::new(&system);
-    let mut piece = [0u8; 2];
-    let name = String::from_str(rt.alloc(), "any")?;
-    let opens = files.select(name).is_ok();
-    assert!(rt; opens);
-    if opens {
-        // The read after the first two bytes fails, and is neither the end of the file nor tried again.
-        assert_eq!(rt; files.read(&mut piece).ok(), Some(2));
-        assert_eq!(rt; files.read(&mut piece).ok(), None);
-    }
-    Ok(())
-}
-
-#[test]
-fn inputs_and_outputs(rt: HostRuntime) -> Result<(), Fail> {
-    let mut input = Input::new(b"abc".as_slice());
-    let mut piece = [0u8; 2];
-    assert_eq!(rt; input.read(&mut piece).ok(), Some(2));
-    assert_eq!(rt; piece.as_slice(), b"ab".as_slice());
-    assert_eq!(rt; input.read(&mut piece).ok(), Some(1));
-    assert_eq!(rt; input.read(&mut piece).ok(), Some(0));
-    let mut output = Output::new(Vec::new(rt.alloc()));
-    assert_eq!(rt; output.write(b"abc").ok(), Some(3));
-    // An interrupted call is made again, a read of nothing is the end of the input, a write of nothing is a fault.
+fn readers_and_writers_that_fail(rt: HostRuntime) {
     let mut input = Input::new(Stuttering { call: 0 });
     let mut output = Output::new(Stuttering { call: 0 });
+    let mut piece = [0u8; 2];
     for (given, taken) in [(Some(1), Some(1)), (Some(0), None), (None, None)] {
-        assert_eq!(rt; input.read(&mut piece).ok(), given);
-        assert_eq!(rt; output.write(b"abc").ok(), taken);
+        assert!(rt; input.read(&mut piece).ok() == given);
+        assert!(rt; output.write(b"abc").ok() == taken);
     }
-    Ok(())
 }

@@ -2,39 +2,12 @@
 
 ghost use Rattle.std.specs.Prelude.{◌<◌, length};
 
-use sim_base::{Limits, Line, RunError};
+use sim_base::{Limits, Line};
 use sim_driver::{Command, bind};
 use sim_ports::{MemSink, MemSource};
 use sim_run::{RunEnd, compile_and_run};
 use std::alloc::Global;
 use std::process::Abort;
-use std::test::Fail;
-
-// A program with its limits, and what it is to write and how to end.
-#[derive(Clone, Copy)]
-struct Row<'a> {
-    source: &'a [u8],
-    storage: u32,
-    ticks: u64,
-    out_length: u16,
-    out: &'a [u8],
-    ending: RunEnd,
-}
-
-// The factorials of a number too large for their storage or for the integers.
-const FACTORIAL_166: &[u8] =
-    b"begin integer procedure f(n); integer n; f := if n = 0 then 1 else n*f(n-1); outint(f(166),20); outimage end";
-
-const FACTORIAL_165: &[u8] =
-    b"begin integer procedure f(n); integer n; f := if n = 0 then 1 else n*f(n-1); outint(f(165),20); outimage end";
-// What a sub-block gives back is there for the next one.
-const SUB_BLOCKS: &[u8] =
-    b"begin integer i; for i := 1 step 1 until 50 do begin integer array a(1:900); a(i) := i end; outint(i, 4); outimage end";
-
-// A text longer than the image stands on two lines.
-const LONG_TEXT: &[u8] = b"begin outtext(\"ab\"); outtext(\"abcdefgh\") end";
-
-const ENDLESS: &[u8] = b"begin while true do; end";
 
 // How the run of a short source ends; none where it has no end of its own.
 fn run_source(
@@ -52,79 +25,33 @@ fn run_source(
     }
 }
 
-fn check_row(rt: &impl Abort, alloc: Global, number: usize, row: Row) -> Result<(), Fail> {
+// Runs a short source in few words and ticks, with lines of five characters, and compares how it ends and what it writes.
+fn check_run(rt: &impl Abort, alloc: Global, source: &[u8], ending: RunEnd, written: &[u8]) {
     let limits = Limits {
-        storage: row.storage,
-        ticks: row.ticks,
+        storage: 20,
+        ticks: 100,
         in_length: 80,
-        out_length: row.out_length,
+        out_length: 5,
     };
-    let mut input = MemSource::new(alloc, b"", &[])?;
-    let mut out = MemSink::new(alloc, &[], 4096)?;
-    let ending = if row.source.len() < 1000 {
-        run_source(alloc, row.source, &limits, &mut input, &mut out)
-    } else {
-        None
-    };
-    assert!(rt; ending == Some(row.ending), "ending of row {number}");
-    assert!(rt; out.bytes() == row.out, "output of row {number}");
-    Ok(())
+    let mut input = MemSource::new(alloc, b"", &[]).expect(rt, "memory is ample");
+    let mut out = MemSink::new(alloc, &[], 50).expect(rt, "memory is ample");
+    assert!(rt; source.len() < 1000);
+    let ended = run_source(alloc, source, &limits, &mut input, &mut out);
+    assert!(rt; ended == Some(ending));
+    assert!(rt; out.bytes() == written);
 }
 
 #[test]
-fn limits(rt: HostRuntime) -> Result<(), Fail> {
-    let line = Line(1);
-    let rows = [
-        Row {
-            source: FACTORIAL_166,
-            storage: 1000,
-            ticks: 100_000,
-            out_length: 132,
-            out: b"",
-            ending: RunEnd::StorageExhausted {
-                line,
-                used: 1000,
-                wanted: 6,
-            },
-        },
-        Row {
-            source: FACTORIAL_165,
-            storage: 1000,
-            ticks: 100_000,
-            out_length: 132,
-            out: b"",
-            ending: RunEnd::RunFault {
-                error: RunError::IntegerOverflow,
-                line,
-            },
-        },
-        Row {
-            source: ENDLESS,
-            storage: 1000,
-            ticks: 1000,
-            out_length: 132,
-            out: b"",
-            ending: RunEnd::TickLimit { ticks: 1000 },
-        },
-        Row {
-            source: SUB_BLOCKS,
-            storage: 1000,
-            ticks: 100_000,
-            out_length: 132,
-            out: b"  51\n",
-            ending: RunEnd::Normal,
-        },
-        Row {
-            source: LONG_TEXT,
-            storage: 1000,
-            ticks: 1000,
-            out_length: 5,
-            out: b"ab\nabcde\nfgh\n",
-            ending: RunEnd::Normal,
-        },
-    ];
-    for (number, row) in rows.into_iter().enumerate() {
-        check_row(&rt, rt.alloc(), number, row)?;
-    }
-    Ok(())
+fn limits(rt: HostRuntime) {
+    let alloc = rt.alloc();
+    let endless = RunEnd::TickLimit { ticks: 100 };
+    check_run(&rt, alloc, b"begin while true do; end", endless, b"");
+    let full = RunEnd::StorageExhausted {
+        line: Line(1),
+        used: 5,
+        wanted: 25,
+    };
+    check_run(&rt, alloc, b"begin integer array a(1:20); end", full, b"");
+    let source = b"begin outtext(\"ab\"); outtext(\"abcdefgh\") end";
+    check_run(&rt, alloc, source, RunEnd::Normal, b"ab\nabcde\nfgh\n");
 }

@@ -2,40 +2,44 @@
 // compilers build it, so they stand in a test and are no data of `examples`.
 
 use crate::top_call::{Wanted, check, sound};
-use std::alloc::{AllocError, Global};
-use std::test::Fail;
+use std::alloc::Global;
+use std::process::Abort;
+
+fn add(rt: &impl Abort, source: &mut Vec<u8>, text: &[u8]) {
+    source.extend_from_slice(text).expect(rt, "memory is ample");
+}
 
 // A text, so many times.
-fn add_repeated(source: &mut Vec<u8>, text: &[u8], count: usize) -> Result<(), AllocError> {
+fn add_repeated(rt: &impl Abort, source: &mut Vec<u8>, text: &[u8], count: usize) {
     for _ in 0..count {
-        source.extend_from_slice(text)?;
+        add(rt, source, text);
     }
-    Ok(())
 }
 
 // Blocks in blocks, the outermost of which declares `i`, then an assignment of a value in parentheses. What stands innermost begins line 2.
 fn nested(
+    rt: &impl Abort,
     alloc: Global,
     blocks: usize,
     parentheses: usize,
     innermost: &[u8],
-) -> Result<Vec<u8>, AllocError> {
+) -> Vec<u8> {
     let mut source = Vec::new(alloc);
-    source.extend_from_slice(b"begin integer i; ")?;
-    add_repeated(&mut source, b"begin ", blocks.saturating_sub(1))?;
+    add(rt, &mut source, b"begin integer i; ");
+    add_repeated(rt, &mut source, b"begin ", blocks.saturating_sub(1));
     if parentheses > 0 {
-        source.extend_from_slice(b"i := ")?;
-        add_repeated(&mut source, b"(", parentheses)?;
+        add(rt, &mut source, b"i := ");
+        add_repeated(rt, &mut source, b"(", parentheses);
     }
-    source.push(b'\n')?;
-    source.extend_from_slice(innermost)?;
-    add_repeated(&mut source, b")", parentheses)?;
-    add_repeated(&mut source, b" end", blocks)?;
-    Ok(source)
+    add(rt, &mut source, b"\n");
+    add(rt, &mut source, innermost);
+    add_repeated(rt, &mut source, b")", parentheses);
+    add_repeated(rt, &mut source, b" end", blocks);
+    source
 }
 
 #[test]
-fn nesting(rt: HostRuntime) -> Result<(), Fail> {
+fn nesting(rt: HostRuntime) {
     let whole = b"line 1: Z1 form not built\n".as_slice();
     let deep = b"line 2: Y2 nested too deeply\n".as_slice();
     let bad = b"line 2: Y1 unexpected token\n".as_slice();
@@ -54,7 +58,7 @@ fn nesting(rt: HostRuntime) -> Result<(), Fail> {
         (101, 99, b"else", bad),
     ];
     for (row, (blocks, parentheses, innermost, diag)) in rows.into_iter().enumerate() {
-        let source = nested(rt.alloc(), blocks, parentheses, innermost)?;
+        let source = nested(&rt, rt.alloc(), blocks, parentheses, innermost);
         let wanted = Wanted {
             status: if diag.is_empty() { 0 } else { 1 },
             out: b"",
@@ -67,7 +71,6 @@ fn nesting(rt: HostRuntime) -> Result<(), Fail> {
             &["run", "source.sim"],
             sound(&source),
             wanted,
-        )?;
+        );
     }
-    Ok(())
 }
