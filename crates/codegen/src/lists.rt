@@ -37,7 +37,7 @@ pub(crate) fn is_empty(stmt: &Stmt) -> bool
 }
 
 /// A statement that several elements share: where it begins, and which element's turn it is.
-#[derive(Clone, Copy, Debug, PartialEq, Eq)]
+#[derive(Clone, Copy)]
 pub struct Shared {
     /// The first instruction of the statement.
     pub start: usize,

@@ -449,7 +449,7 @@ fn emit_one(
 }
 
 /// A controlled variable.
-#[derive(Clone, Copy, Debug, PartialEq, Eq)]
+#[derive(Clone, Copy)]
 pub struct Target {
     /// The level of its text.
     pub level: u32,

@@ -85,7 +85,7 @@ pub(crate) fn standard_code(name: StandardName) -> Option<StandardCode>
 }
 
 /// What a name of both images is on one of them.
-#[derive(Clone, Copy, Debug, PartialEq, Eq)]
+#[derive(Clone, Copy)]
 pub(crate) enum OnImage {
     /// The image itself.
     Itself,

@@ -15,7 +15,7 @@ use sim_scope::{Bound, Entry, Formal, FormalKind, Mode, SimType};
 use sim_tree::{Multiplication, Operator, Relation, Sign};
 
 /// How an operator is done.
-#[derive(Clone, Copy, Debug, PartialEq, Eq)]
+#[derive(Clone, Copy)]
 pub(crate) enum Sorted {
     /// By an instruction.
     Plain(Instr),
@@ -75,7 +75,7 @@ pub(crate) fn sort_out(texts: bool, operator: Operator) -> Sorted
 }
 
 /// What a declared identifier is seen as.
-#[derive(Clone, Copy, Debug, PartialEq, Eq)]
+#[derive(Clone, Copy)]
 pub(crate) enum Seen {
     /// A variable, or a parameter that is one: the value of its cell.
     Variable,
@@ -109,7 +109,7 @@ pub(crate) fn seen_of(entry: Option<Entry>) -> Seen
 }
 
 /// How an actual parameter is passed.
-#[derive(Clone, Copy, Debug, PartialEq, Eq)]
+#[derive(Clone, Copy)]
 pub(crate) enum Passed {
     /// As it is.
     Plain,

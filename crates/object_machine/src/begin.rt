@@ -4,7 +4,7 @@ use crate::machine::{Activation, Flow};
 use sim_base::Line;
 
 /// How and where the steps end.
-#[derive(Clone, Copy, Debug)]
+#[derive(Clone, Copy)]
 pub struct Stop {
     /// How.
     pub flow: Flow,

@@ -31,7 +31,7 @@ use sim_values::{FrameRef, words_instance};
 use std::alloc::Global;
 
 /// What a call finds on the operand stack.
-#[derive(Clone, Copy, Debug)]
+#[derive(Clone, Copy)]
 pub struct Actuals {
     /// Where the actual parameters begin.
     pub at: usize,

@@ -20,7 +20,7 @@ use sim_values::{FrameRef, words_instance};
 use std::mem;
 
 /// What the end of a frame asks of its block.
-#[derive(Clone, Copy, Debug)]
+#[derive(Clone, Copy)]
 pub struct OwnBlock {
     /// How many of its cells cost words.
     pub cells: u32,

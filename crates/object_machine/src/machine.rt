@@ -8,7 +8,7 @@ use sim_values::FrameRef;
 use text_objects::Texts;
 
 /// Where a frame at work goes on.
-#[derive(Clone, Copy, Debug)]
+#[derive(Clone, Copy)]
 pub struct Registers {
     /// The index of its next instruction.
     pub pc: usize,
@@ -64,7 +64,7 @@ pub struct Storage {
 }
 
 /// How a step ends.
-#[derive(Clone, Copy, Debug, PartialEq, Eq)]
+#[derive(Clone, Copy)]
 pub enum Flow {
     /// The run goes on behind the instruction.
     On,

@@ -21,7 +21,7 @@ use sim_values::{Comparison, TextVal};
 use text_objects::Texts;
 
 /// What is in a slot that is to have a text.
-#[derive(Clone, Copy, Debug, PartialEq, Eq)]
+#[derive(Clone, Copy)]
 pub enum ReadText {
     /// A text.
     Text(TextVal),
@@ -32,7 +32,7 @@ pub enum ReadText {
 }
 
 /// What is in two slots that are to have texts.
-#[derive(Clone, Copy, Debug, PartialEq, Eq)]
+#[derive(Clone, Copy)]
 pub enum ReadTexts {
     /// Two texts.
     Texts {

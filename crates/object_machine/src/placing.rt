@@ -21,7 +21,7 @@ use frame_arena::{Arrays, Slot, SlotKind};
 use sim_values::{ArrayRef, FrameRef, TextVal};
 
 /// What came of a value that was to be put where an address leads.
-#[derive(Clone, Copy, Debug, PartialEq, Eq)]
+#[derive(Clone, Copy)]
 pub enum Placing {
     /// It is there.
     Done,

@@ -44,7 +44,7 @@ pub enum Status {
 }
 
 /// How a source ends by its own meaning.
-#[derive(Clone, Copy, Debug, PartialEq, Eq)]
+#[derive(Clone, Copy)]
 pub enum Ending {
     /// The program runs to its end.
     Normal,

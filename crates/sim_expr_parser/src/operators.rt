@@ -13,7 +13,7 @@ use crate::source::Source;
 use sim_base::TokenKind;
 
 /// The operators of one level.
-#[derive(Clone, Copy, Debug, PartialEq, Eq)]
+#[derive(Clone, Copy)]
 pub enum Operators {
     /// The only one of its level.
     Single(Level),

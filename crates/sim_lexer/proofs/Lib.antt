@@ -10,4 +10,5 @@ pub mod Numbers
 pub mod OneAnswer
 pub mod PiecesWithin
 pub mod SomeAnswer
+pub mod Tables
 pub mod TextLemmas

@@ -9,7 +9,7 @@ use crate::item::Item;
 use sim_base::{Lexeme, Rule, TokenKind, TokenValue};
 
 /// The form `!n!`: the byte that it stands for, and how many bytes it takes.
-#[derive(Clone, Copy, Debug, PartialEq, Eq)]
+#[derive(Clone, Copy)]
 pub struct CodeForm {
     /// The byte of code n.
     pub byte: u8,

@@ -15,7 +15,7 @@ use sim_base::{ByteString, Lexeme, Rule, TokenKind, TokenValue};
 use std::alloc::{AllocError, Global};
 
 /// What stands in front.
-#[derive(Debug, Drop)]
+#[derive(Drop)]
 pub enum Item {
     /// So many bytes that spell no token: a blank, a line feed, a comment or an empty line.
     Skipped(usize),

@@ -1,12 +1,40 @@
 //! The tokens that are written by signs.
-ghost use Rattle.std.specs.Prelude.{◌≡◌};
-ghost use Rattle.sim_lexer.specs.Piece.{Fault as AnyFault};
+ghost use Rattle.std.specs.Prelude.{◌≡◌, length, map, nat_eq};
+ghost use Rattle.std.specs.List.{starts_with};
+ghost use Rattle.sim_base.specs.Lexeme.{bare};
+ghost use Rattle.sim_lexer.specs.Piece.{Fault as AnyFault, Lexeme as LexemePiece};
 ghost use Rattle.sim_lexer.specs.Scanning.{piece_of};
-ghost use Rattle.sim_lexer.specs.Signs.{sign, sign_in, signs_of_more, signs_of_one};
+ghost use Rattle.sim_lexer.specs.Signs.{sign, sign_in};
 
 use crate::bytes::byte_at;
 use crate::item::Item;
 use sim_base::{Lexeme, Rule, TokenKind};
+
+/// The signs, those of more bytes first, so that the first that stands in front is the longest.
+static SIGNS: [(&str, TokenKind); 22] = [
+    ("=/=", TokenKind::OtherReference),
+    ("**", TokenKind::Power),
+    ("//", TokenKind::Divide),
+    (":=", TokenKind::Assign),
+    (":-", TokenKind::AssignReference),
+    ("==", TokenKind::SameReference),
+    ("<=", TokenKind::LessEqual),
+    (">=", TokenKind::GreaterEqual),
+    ("<>", TokenKind::NotEqual),
+    ("(", TokenKind::Open),
+    (")", TokenKind::Close),
+    (",", TokenKind::Comma),
+    (";", TokenKind::Semicolon),
+    (":", TokenKind::Colon),
+    (".", TokenKind::Dot),
+    ("+", TokenKind::Plus),
+    ("-", TokenKind::Minus),
+    ("*", TokenKind::Times),
+    ("&", TokenKind::Ampersand),
+    ("=", TokenKind::Equal),
+    ("<", TokenKind::Less),
+    (">", TokenKind::Greater),
+];
 
 /// The longest sign in front. A `.` with a digit behind it is a real constant, and a byte that begins no sign begins
 /// no token.
@@ -17,67 +45,35 @@ pub(crate) fn sign_item(rest: &[u8]) -> Item
     if byte_at(rest, 0) == b'.' && byte_at(rest, 1).is_ascii_digit() {
         return Item::Fault(Rule::RealConstant);
     }
-    long_sign(rest)
+    first_sign(&SIGNS, rest)
 }
 
-// A sign of two bytes or more, else one of one byte.
-fn long_sign(rest: &[u8]) -> Item
-    ensures item { sign_in signs_of_more rest.now (sign_in signs_of_one rest.now (AnyFault Rule.ByteBeginsNoToken)) ≡ piece_of result }
+// The first sign of a table that stands in front.
+#[tactic(auto, using(crate::proofs::Tables::passed_none))]
+fn first_sign(signs: &[(&str, TokenKind)], rest: &[u8]) -> Item
+    ensures item { sign_in (map (λ row. (row.0.now, row.1)) signs.now) rest.now (AnyFault Rule.ByteBeginsNoToken) ≡ piece_of result }
 {
-    if rest.starts_with(b"=/=") {
-        Item::Lexeme(Lexeme::bare(TokenKind::OtherReference), 3)
-    } else if rest.starts_with(b"**") {
-        Item::Lexeme(Lexeme::bare(TokenKind::Power), 2)
-    } else if rest.starts_with(b"//") {
-        Item::Lexeme(Lexeme::bare(TokenKind::Divide), 2)
-    } else if rest.starts_with(b":=") {
-        Item::Lexeme(Lexeme::bare(TokenKind::Assign), 2)
-    } else if rest.starts_with(b":-") {
-        Item::Lexeme(Lexeme::bare(TokenKind::AssignReference), 2)
-    } else if rest.starts_with(b"==") {
-        Item::Lexeme(Lexeme::bare(TokenKind::SameReference), 2)
-    } else if rest.starts_with(b"<=") {
-        Item::Lexeme(Lexeme::bare(TokenKind::LessEqual), 2)
-    } else if rest.starts_with(b">=") {
-        Item::Lexeme(Lexeme::bare(TokenKind::GreaterEqual), 2)
-    } else if rest.starts_with(b"<>") {
-        Item::Lexeme(Lexeme::bare(TokenKind::NotEqual), 2)
-    } else {
-        short_sign(rest)
+    for sign in signs {
+        if stands_in_front(sign, rest) {
+            return written(sign);
+        }
     }
+    Item::Fault(Rule::ByteBeginsNoToken)
 }
 
-// A sign of one byte.
-fn short_sign(rest: &[u8]) -> Item
-    ensures item { sign_in signs_of_one rest.now (AnyFault Rule.ByteBeginsNoToken) ≡ piece_of result }
+// The token that a sign writes, and its size.
+fn written(sign: &(&str, TokenKind)) -> Item
+    ensures item { piece_of result ≡ LexemePiece (bare sign.now.1) (length sign.now.0.now) }
 {
-    if rest.starts_with(b"(") {
-        Item::Lexeme(Lexeme::bare(TokenKind::Open), 1)
-    } else if rest.starts_with(b")") {
-        Item::Lexeme(Lexeme::bare(TokenKind::Close), 1)
-    } else if rest.starts_with(b",") {
-        Item::Lexeme(Lexeme::bare(TokenKind::Comma), 1)
-    } else if rest.starts_with(b";") {
-        Item::Lexeme(Lexeme::bare(TokenKind::Semicolon), 1)
-    } else if rest.starts_with(b":") {
-        Item::Lexeme(Lexeme::bare(TokenKind::Colon), 1)
-    } else if rest.starts_with(b".") {
-        Item::Lexeme(Lexeme::bare(TokenKind::Dot), 1)
-    } else if rest.starts_with(b"+") {
-        Item::Lexeme(Lexeme::bare(TokenKind::Plus), 1)
-    } else if rest.starts_with(b"-") {
-        Item::Lexeme(Lexeme::bare(TokenKind::Minus), 1)
-    } else if rest.starts_with(b"*") {
-        Item::Lexeme(Lexeme::bare(TokenKind::Times), 1)
-    } else if rest.starts_with(b"&") {
-        Item::Lexeme(Lexeme::bare(TokenKind::Ampersand), 1)
-    } else if rest.starts_with(b"=") {
-        Item::Lexeme(Lexeme::bare(TokenKind::Equal), 1)
-    } else if rest.starts_with(b"<") {
-        Item::Lexeme(Lexeme::bare(TokenKind::Less), 1)
-    } else if rest.starts_with(b">") {
-        Item::Lexeme(Lexeme::bare(TokenKind::Greater), 1)
-    } else {
-        Item::Fault(Rule::ByteBeginsNoToken)
-    }
+    let (spelling, kind) = *sign;
+    Item::Lexeme(Lexeme::bare(kind), spelling.len())
+}
+
+// Whether a sign stands in front. Most signs differ in the first byte.
+#[tactic(auto, using(crate::proofs::Tables::other_sign))]
+fn stands_in_front(sign: &(&str, TokenKind), rest: &[u8]) -> bool
+    ensures answer { result ≡ starts_with nat_eq rest.now sign.now.0.now }
+{
+    let spelling = sign.0.as_bytes();
+    (spelling.is_empty() || byte_at(spelling, 0) == byte_at(rest, 0)) && rest.starts_with(spelling)
 }

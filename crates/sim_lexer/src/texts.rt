@@ -11,7 +11,7 @@ use sim_base::{ByteString, Lexeme, Rule, TokenKind, TokenValue};
 use std::alloc::{AllocError, Global};
 
 /// What stands in front behind the opening quote of a text constant.
-#[derive(Clone, Copy, Debug, PartialEq, Eq)]
+#[derive(Clone, Copy)]
 pub enum TextPiece {
     /// The closing quote.
     Closing,

@@ -1,178 +1,137 @@
 //! The words that are no identifiers: the keywords and the words left out, in lower case.
-ghost use Rattle.std.specs.Prelude.{◌≡◌};
-ghost use Rattle.sim_lexer.specs.Words.{is_left_out, is_stop_word, keyword, look_up, words_a_to_d, words_e_to_h, words_i_to_n, words_o_to_s, words_t_to_z};
+ghost use Rattle.std.specs.Prelude.{◌≡◌, map};
+ghost use Rattle.std.specs.Str.{bytes_eq};
+ghost use Rattle.sim_lexer.specs.Words.{is_left_out, is_stop_word, keyword, look_up};
 
+use crate::bytes::byte_at;
 use sim_base::TokenKind;
 
-/// The token of a keyword in lower case, and none for any other word. `lt`, `le`, `eq`, `ge`, `gt` and `ne` are the
-/// relations that are also written by signs.
+/// The keywords of two letters. `lt`, `le`, `eq`, `ge`, `gt` and `ne` are the relations that are also written by signs.
+static OF_TWO: [(&str, TokenKind); 13] = [
+    ("at", TokenKind::At),
+    ("do", TokenKind::Do),
+    ("eq", TokenKind::Equal),
+    ("ge", TokenKind::GreaterEqual),
+    ("gt", TokenKind::Greater),
+    ("if", TokenKind::If),
+    ("in", TokenKind::In),
+    ("is", TokenKind::Is),
+    ("le", TokenKind::LessEqual),
+    ("lt", TokenKind::Less),
+    ("ne", TokenKind::NotEqual),
+    ("or", TokenKind::Or),
+    ("to", TokenKind::To),
+];
+
+/// The keywords of three letters.
+static OF_THREE: [(&str, TokenKind); 9] = [
+    ("and", TokenKind::And),
+    ("end", TokenKind::End),
+    ("eqv", TokenKind::Eqv),
+    ("for", TokenKind::For),
+    ("imp", TokenKind::Imp),
+    ("new", TokenKind::New),
+    ("not", TokenKind::Not),
+    ("qua", TokenKind::Qua),
+    ("ref", TokenKind::Ref),
+];
+
+/// The keywords of four letters.
+static OF_FOUR: [(&str, TokenKind); 9] = [
+    ("else", TokenKind::Else),
+    ("name", TokenKind::Name),
+    ("none", TokenKind::None),
+    ("step", TokenKind::Step),
+    ("text", TokenKind::TextWord),
+    ("then", TokenKind::Then),
+    ("this", TokenKind::This),
+    ("true", TokenKind::True),
+    ("when", TokenKind::When),
+];
+
+/// The keywords of five letters.
+static OF_FIVE: [(&str, TokenKind); 11] = [
+    ("after", TokenKind::After),
+    ("array", TokenKind::Array),
+    ("begin", TokenKind::Begin),
+    ("class", TokenKind::Class),
+    ("delay", TokenKind::Delay),
+    ("false", TokenKind::False),
+    ("inner", TokenKind::Inner),
+    ("prior", TokenKind::Prior),
+    ("until", TokenKind::Until),
+    ("value", TokenKind::Value),
+    ("while", TokenKind::While),
+];
+
+/// The keywords of six letters.
+static OF_SIX: [(&str, TokenKind); 3] = [
+    ("before", TokenKind::Before),
+    ("hidden", TokenKind::Hidden),
+    ("notext", TokenKind::Notext),
+];
+
+/// The keywords of seven letters.
+static OF_SEVEN: [(&str, TokenKind); 4] = [
+    ("boolean", TokenKind::Boolean),
+    ("inspect", TokenKind::Inspect),
+    ("integer", TokenKind::IntegerWord),
+    ("virtual", TokenKind::Virtual),
+];
+
+/// The keywords of eight letters.
+static OF_EIGHT: [(&str, TokenKind); 1] = [("activate", TokenKind::Activate)];
+
+/// The keywords of nine letters.
+static OF_NINE: [(&str, TokenKind); 4] = [
+    ("character", TokenKind::CharacterWord),
+    ("otherwise", TokenKind::Otherwise),
+    ("procedure", TokenKind::Procedure),
+    ("protected", TokenKind::Protected),
+];
+
+/// The keywords of ten letters.
+static OF_TEN: [(&str, TokenKind); 1] = [("reactivate", TokenKind::Reactivate)];
+
+/// The token of a keyword in lower case, and none for any other word.
 #[tactic(auto, unfolding(crate::specs::Words::keyword))]
 pub(crate) fn keyword(word: &[u8]) -> Option<TokenKind>
     ensures token { result ≡ keyword word.now }
 {
-    if let Some(kind) = words_a_to_d(word) {
-        return Some(kind);
-    }
-    if let Some(kind) = words_e_to_h(word) {
-        return Some(kind);
-    }
-    if let Some(kind) = words_i_to_n(word) {
-        return Some(kind);
-    }
-    if let Some(kind) = words_o_to_s(word) {
-        return Some(kind);
-    }
-    words_t_to_z(word)
-}
-
-fn words_a_to_d(word: &[u8]) -> Option<TokenKind>
-    ensures token { result ≡ look_up words_a_to_d word.now }
-{
-    if word == b"activate".as_slice() {
-        Some(TokenKind::Activate)
-    } else if word == b"after".as_slice() {
-        Some(TokenKind::After)
-    } else if word == b"and".as_slice() {
-        Some(TokenKind::And)
-    } else if word == b"array".as_slice() {
-        Some(TokenKind::Array)
-    } else if word == b"at".as_slice() {
-        Some(TokenKind::At)
-    } else if word == b"before".as_slice() {
-        Some(TokenKind::Before)
-    } else if word == b"begin".as_slice() {
-        Some(TokenKind::Begin)
-    } else if word == b"boolean".as_slice() {
-        Some(TokenKind::Boolean)
-    } else if word == b"character".as_slice() {
-        Some(TokenKind::CharacterWord)
-    } else if word == b"class".as_slice() {
-        Some(TokenKind::Class)
-    } else if word == b"delay".as_slice() {
-        Some(TokenKind::Delay)
-    } else if word == b"do".as_slice() {
-        Some(TokenKind::Do)
-    } else {
-        None
+    match word.len() {
+        2 => look_up(&OF_TWO, word),
+        3 => look_up(&OF_THREE, word),
+        4 => look_up(&OF_FOUR, word),
+        5 => look_up(&OF_FIVE, word),
+        6 => look_up(&OF_SIX, word),
+        7 => look_up(&OF_SEVEN, word),
+        8 => look_up(&OF_EIGHT, word),
+        9 => look_up(&OF_NINE, word),
+        10 => look_up(&OF_TEN, word),
+        _ => None,
     }
 }
 
-fn words_e_to_h(word: &[u8]) -> Option<TokenKind>
-    ensures token { result ≡ look_up words_e_to_h word.now }
+/// The token of the first row with this word.
+#[tactic(auto, using(crate::proofs::Tables::passed_none))]
+fn look_up(rows: &[(&str, TokenKind)], word: &[u8]) -> Option<TokenKind>
+    ensures token { result ≡ look_up (map (λ row. (row.0.now, row.1)) rows.now) word.now }
 {
-    if word == b"else".as_slice() {
-        Some(TokenKind::Else)
-    } else if word == b"end".as_slice() {
-        Some(TokenKind::End)
-    } else if word == b"eq".as_slice() {
-        Some(TokenKind::Equal)
-    } else if word == b"eqv".as_slice() {
-        Some(TokenKind::Eqv)
-    } else if word == b"false".as_slice() {
-        Some(TokenKind::False)
-    } else if word == b"for".as_slice() {
-        Some(TokenKind::For)
-    } else if word == b"ge".as_slice() {
-        Some(TokenKind::GreaterEqual)
-    } else if word == b"gt".as_slice() {
-        Some(TokenKind::Greater)
-    } else if word == b"hidden".as_slice() {
-        Some(TokenKind::Hidden)
-    } else {
-        None
+    for row in rows {
+        if spells(row, word) {
+            return Some(row.1);
+        }
     }
+    None
 }
 
-fn words_i_to_n(word: &[u8]) -> Option<TokenKind>
-    ensures token { result ≡ look_up words_i_to_n word.now }
+/// Whether a row is that of this word. Most rows differ in the first byte.
+#[tactic(auto, using(crate::proofs::Tables::other_first_byte))]
+fn spells(row: &(&str, TokenKind), word: &[u8]) -> bool
+    ensures answer { result ≡ bytes_eq word.now row.now.0.now }
 {
-    if word == b"if".as_slice() {
-        Some(TokenKind::If)
-    } else if word == b"imp".as_slice() {
-        Some(TokenKind::Imp)
-    } else if word == b"in".as_slice() {
-        Some(TokenKind::In)
-    } else if word == b"inner".as_slice() {
-        Some(TokenKind::Inner)
-    } else if word == b"inspect".as_slice() {
-        Some(TokenKind::Inspect)
-    } else if word == b"integer".as_slice() {
-        Some(TokenKind::IntegerWord)
-    } else if word == b"is".as_slice() {
-        Some(TokenKind::Is)
-    } else if word == b"le".as_slice() {
-        Some(TokenKind::LessEqual)
-    } else if word == b"lt".as_slice() {
-        Some(TokenKind::Less)
-    } else if word == b"name".as_slice() {
-        Some(TokenKind::Name)
-    } else if word == b"ne".as_slice() {
-        Some(TokenKind::NotEqual)
-    } else if word == b"new".as_slice() {
-        Some(TokenKind::New)
-    } else if word == b"none".as_slice() {
-        Some(TokenKind::None)
-    } else if word == b"not".as_slice() {
-        Some(TokenKind::Not)
-    } else if word == b"notext".as_slice() {
-        Some(TokenKind::Notext)
-    } else {
-        None
-    }
-}
-
-fn words_o_to_s(word: &[u8]) -> Option<TokenKind>
-    ensures token { result ≡ look_up words_o_to_s word.now }
-{
-    if word == b"or".as_slice() {
-        Some(TokenKind::Or)
-    } else if word == b"otherwise".as_slice() {
-        Some(TokenKind::Otherwise)
-    } else if word == b"prior".as_slice() {
-        Some(TokenKind::Prior)
-    } else if word == b"procedure".as_slice() {
-        Some(TokenKind::Procedure)
-    } else if word == b"protected".as_slice() {
-        Some(TokenKind::Protected)
-    } else if word == b"qua".as_slice() {
-        Some(TokenKind::Qua)
-    } else if word == b"reactivate".as_slice() {
-        Some(TokenKind::Reactivate)
-    } else if word == b"ref".as_slice() {
-        Some(TokenKind::Ref)
-    } else if word == b"step".as_slice() {
-        Some(TokenKind::Step)
-    } else {
-        None
-    }
-}
-
-fn words_t_to_z(word: &[u8]) -> Option<TokenKind>
-    ensures token { result ≡ look_up words_t_to_z word.now }
-{
-    if word == b"text".as_slice() {
-        Some(TokenKind::TextWord)
-    } else if word == b"then".as_slice() {
-        Some(TokenKind::Then)
-    } else if word == b"this".as_slice() {
-        Some(TokenKind::This)
-    } else if word == b"to".as_slice() {
-        Some(TokenKind::To)
-    } else if word == b"true".as_slice() {
-        Some(TokenKind::True)
-    } else if word == b"until".as_slice() {
-        Some(TokenKind::Until)
-    } else if word == b"value".as_slice() {
-        Some(TokenKind::Value)
-    } else if word == b"virtual".as_slice() {
-        Some(TokenKind::Virtual)
-    } else if word == b"when".as_slice() {
-        Some(TokenKind::When)
-    } else if word == b"while".as_slice() {
-        Some(TokenKind::While)
-    } else {
-        None
-    }
+    let spelling = row.0.as_bytes();
+    byte_at(word, 0) == byte_at(spelling, 0) && word == spelling
 }
 
 /// Whether the language has this word in lower case and the program leaves it out.

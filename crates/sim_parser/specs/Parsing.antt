@@ -52,10 +52,11 @@ identified_row = Kept (just k.Identifier) ∷ Of Maybe g.Arguments ∷ Of Once g
 abbrev pub operation_row : List Symbol
 operation_row = Of Once g.Postfix ∷ Of Many g.Assigned ∷ []
 
--- two expressions with a word between them
+-- an expression behind a word
 abbrev pub behind_row : TokenKind → List Symbol
 behind_row word = Mark word ∷ Of Once g.Expression ∷ []
 
+-- two expressions with a word between them
 abbrev pub pair_row : TokenKind → List Symbol
 pair_row between = Of Once g.Expression ∷ behind_row between
 

@@ -65,7 +65,7 @@ pub struct Body {
 }
 
 /// A branch of a statement that may be left out.
-#[derive(Clone, Copy, Debug, PartialEq, Eq)]
+#[derive(Clone, Copy)]
 pub enum Branch {
     /// `else`.
     Else,

@@ -4,7 +4,7 @@
 use sim_base::{ByteString, TokenNo};
 
 /// An occurrence of an identifier.
-#[derive(Debug, Drop)]
+#[derive(Debug)]
 pub struct Identifier {
     /// Its token.
     pub token: TokenNo,
@@ -72,7 +72,6 @@ pub enum Membership {
 /// An expression. A level of operators with a single operand makes no node, and the operators of one level stand in one
 /// node's list, from left to right. A list of actual parameters or subscripts is empty where none were written.
 #[cycle(expr)]
-#[derive(Drop)]
 pub enum Expr {
     /// `if condition then first else second`.
     If {
@@ -212,7 +211,6 @@ pub enum Expr {
 
 /// An operator that is the only one of its level, and the operand behind it.
 #[cycle(expr)]
-#[derive(Drop)]
 pub struct Operand {
     /// The operator.
     pub token: TokenNo,
@@ -222,7 +220,6 @@ pub struct Operand {
 
 /// A further term of a sum, with the sign in front.
 #[cycle(expr)]
-#[derive(Drop)]
 pub struct Term {
     /// The sign's token.
     pub token: TokenNo,
@@ -234,7 +231,6 @@ pub struct Term {
 
 /// A further factor of a product, with the operator in front.
 #[cycle(expr)]
-#[derive(Drop)]
 pub struct Factor {
     /// The operator's token.
     pub token: TokenNo,
@@ -246,7 +242,6 @@ pub struct Factor {
 
 /// What is taken of an object.
 #[cycle(expr)]
-#[derive(Drop)]
 pub enum Selector {
     /// `.` and an attribute, with actual parameters or subscripts or without.
     Dot {
@@ -259,4 +254,125 @@ pub enum Selector {
         token: TokenNo,
         class: Identifier,
     },
+}
+
+// How expressions are let go: each part in turn. Written out, a drop is proved once; a derived one is proved again in each crate that
+// lets such a value go, at each way out of a function that holds one.
+
+impl Drop for Identifier {
+    fn drop(self) {
+        let Identifier { token: _, name: _ } = self;
+    }
+}
+
+impl Drop for Expr {
+    #[cycle(expression_drop)]
+    fn drop(self) {
+        match self {
+            Expr::If {
+                token: _,
+                condition: _,
+                first: _,
+                second: _,
+            } => {}
+            Expr::OrElse { first: _, rest: _ }
+            | Expr::AndThen { first: _, rest: _ }
+            | Expr::Eqv { first: _, rest: _ }
+            | Expr::Imp { first: _, rest: _ }
+            | Expr::Or { first: _, rest: _ }
+            | Expr::And { first: _, rest: _ }
+            | Expr::Concatenation { first: _, rest: _ }
+            | Expr::Power { first: _, rest: _ } => {}
+            Expr::Not {
+                tokens: _,
+                operand: _,
+            } => {}
+            Expr::Related {
+                left: _,
+                token: _,
+                relation: _,
+                right: _,
+            } => {}
+            Expr::Member {
+                object: _,
+                token: _,
+                membership: _,
+                class: _,
+            } => {}
+            Expr::Sum {
+                sign: _,
+                first: _,
+                rest: _,
+            } => {}
+            Expr::Product { first: _, rest: _ } => {}
+            Expr::Postfix {
+                primary: _,
+                rest: _,
+            } => {}
+            Expr::Integer { token: _, value: _ } => {}
+            Expr::Character { token: _, value: _ } => {}
+            Expr::Text { token: _, value: _ } => {}
+            Expr::True { token: _ }
+            | Expr::False { token: _ }
+            | Expr::NoObject { token: _ }
+            | Expr::Notext { token: _ } => {}
+            Expr::Named {
+                name: _,
+                arguments: _,
+            } => {}
+            Expr::This { token: _, class: _ } => {}
+            Expr::New {
+                token: _,
+                class: _,
+                arguments: _,
+            } => {}
+            Expr::Parentheses { token: _, inner: _ } => {}
+        }
+    }
+}
+
+impl Drop for Operand {
+    #[cycle(expression_drop)]
+    fn drop(self) {
+        let Operand {
+            token: _,
+            operand: _,
+        } = self;
+    }
+}
+
+impl Drop for Term {
+    #[cycle(expression_drop)]
+    fn drop(self) {
+        let Term {
+            token: _,
+            sign: _,
+            term: _,
+        } = self;
+    }
+}
+
+impl Drop for Factor {
+    #[cycle(expression_drop)]
+    fn drop(self) {
+        let Factor {
+            token: _,
+            operator: _,
+            factor: _,
+        } = self;
+    }
+}
+
+impl Drop for Selector {
+    #[cycle(expression_drop)]
+    fn drop(self) {
+        match self {
+            Selector::Dot {
+                token: _,
+                name: _,
+                arguments: _,
+            } => {}
+            Selector::Qua { token: _, class: _ } => {}
+        }
+    }
 }

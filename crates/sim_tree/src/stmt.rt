@@ -5,7 +5,7 @@ use crate::program::BlockPrefix;
 use sim_base::{ByteString, TokenNo};
 
 /// A type as it is written.
-#[derive(Debug, Drop)]
+#[derive(Debug)]
 pub enum TypeName {
     /// `integer`.
     Integer(TokenNo),
@@ -20,7 +20,7 @@ pub enum TypeName {
 }
 
 /// The value of a declared constant.
-#[derive(Debug, Drop)]
+#[derive(Debug)]
 pub enum Constant {
     /// An integer, with a sign or without.
     Integer {
@@ -49,7 +49,7 @@ pub enum Constant {
 }
 
 /// A declared variable, or a constant where a value is given.
-#[derive(Debug, Drop)]
+#[derive(Debug)]
 pub struct Variable {
     /// Its identifier.
     pub name: Identifier,
@@ -58,7 +58,6 @@ pub struct Variable {
 }
 
 /// Arrays with the same bounds.
-#[derive(Drop)]
 pub struct ArraySegment {
     /// The arrays.
     pub names: Vec<Identifier>,
@@ -67,7 +66,6 @@ pub struct ArraySegment {
 }
 
 /// The bounds of a dimension.
-#[derive(Drop)]
 pub struct Bounds {
     /// The lower bound.
     pub lower: Expr,
@@ -85,7 +83,7 @@ pub enum Mode {
 }
 
 /// Parameters whose mode is written.
-#[derive(Debug, Drop)]
+#[derive(Debug)]
 pub struct ModePart {
     /// The token of the mode.
     pub token: TokenNo,
@@ -96,7 +94,7 @@ pub struct ModePart {
 }
 
 /// What a parameter is specified as.
-#[derive(Debug, Drop)]
+#[derive(Debug)]
 pub enum Specifier {
     /// A value of a type.
     Simple(TypeName),
@@ -113,7 +111,7 @@ pub enum Specifier {
 }
 
 /// Parameters of one kind and type.
-#[derive(Debug, Drop)]
+#[derive(Debug)]
 pub struct Specification {
     /// What they are.
     pub specifier: Specifier,
@@ -122,7 +120,7 @@ pub struct Specification {
 }
 
 /// Attributes that a class protects, or hides, or both.
-#[derive(Debug, Drop)]
+#[derive(Debug)]
 pub struct Protection {
     /// The token of `hidden`.
     pub hidden: Option<TokenNo>,
@@ -133,7 +131,7 @@ pub struct Protection {
 }
 
 /// Virtual procedures of one result type.
-#[derive(Debug, Drop)]
+#[derive(Debug)]
 pub struct VirtualSpecification {
     /// The type of the result.
     pub result: Option<TypeName>,
@@ -153,7 +151,6 @@ pub enum Assignment {
 }
 
 /// An assignment sign, and what stands on its right: the value, or a further left side.
-#[derive(Drop)]
 pub struct Assigned {
     /// The sign's token.
     pub token: TokenNo,
@@ -164,7 +161,6 @@ pub struct Assigned {
 }
 
 /// An element of a `for` list over values.
-#[derive(Drop)]
 pub enum ForElement {
     /// One value.
     Value {
@@ -186,7 +182,6 @@ pub enum ForElement {
 }
 
 /// An element of a `for` list over references.
-#[derive(Drop)]
 pub enum ReferenceElement {
     /// One value.
     Value {
@@ -210,7 +205,6 @@ pub enum Activation {
 }
 
 /// When a process is scheduled for. The token is that of the word, `prior` is the token of `prior`.
-#[derive(Drop)]
 pub enum Timing {
     /// At a time.
     At {
@@ -238,7 +232,6 @@ pub enum Timing {
 
 /// A statement.
 #[cycle(stmt)]
-#[derive(Drop)]
 pub enum Stmt {
     /// No token. The number is that of the token behind it.
     Empty {
@@ -322,7 +315,6 @@ pub enum Stmt {
 
 /// An arm of `inspect`.
 #[cycle(stmt)]
-#[derive(Drop)]
 pub struct When {
     /// The token of `when`.
     pub token: TokenNo,
@@ -338,7 +330,6 @@ pub struct When {
 
 /// The declarations and the statements between `begin` and `end`. Without a declaration it is a compound statement.
 #[cycle(stmt)]
-#[derive(Drop)]
 pub struct Block {
     /// The token of `begin`.
     pub token: TokenNo,
@@ -352,7 +343,6 @@ pub struct Block {
 
 /// A declaration.
 #[cycle(stmt)]
-#[derive(Drop)]
 pub enum Decl {
     /// Variables and constants of a type.
     Variables {
@@ -381,7 +371,6 @@ pub enum Decl {
 
 /// A procedure without its result.
 #[cycle(stmt)]
-#[derive(Drop)]
 pub struct Procedure {
     /// Its identifier.
     pub name: Identifier,
@@ -399,7 +388,6 @@ pub struct Procedure {
 
 /// A class without its prefix.
 #[cycle(stmt)]
-#[derive(Drop)]
 pub struct Class {
     /// Its identifier.
     pub name: Identifier,
@@ -417,4 +405,319 @@ pub struct Class {
     pub body: Box<Stmt>,
     /// The token behind the body, so that the one in front of it is the last token of the class.
     pub end: TokenNo,
+}
+
+// How statements are let go, written out as those of expressions are.
+
+impl Drop for TypeName {
+    fn drop(self) {
+        match self {
+            TypeName::Integer(_)
+            | TypeName::Boolean(_)
+            | TypeName::Character(_)
+            | TypeName::Text(_) => {}
+            TypeName::Reference { token: _, class: _ } => {}
+        }
+    }
+}
+
+impl Drop for Constant {
+    fn drop(self) {
+        match self {
+            Constant::Integer {
+                sign: _,
+                token: _,
+                value: _,
+            } => {}
+            Constant::Character { token: _, value: _ } => {}
+            Constant::Text { token: _, value: _ } => {}
+            Constant::True { token: _ } | Constant::False { token: _ } => {}
+        }
+    }
+}
+
+impl Drop for Variable {
+    fn drop(self) {
+        let Variable { name: _, value: _ } = self;
+    }
+}
+
+impl Drop for ArraySegment {
+    fn drop(self) {
+        let ArraySegment {
+            names: _,
+            bounds: _,
+        } = self;
+    }
+}
+
+impl Drop for Bounds {
+    fn drop(self) {
+        let Bounds { lower: _, upper: _ } = self;
+    }
+}
+
+impl Drop for ModePart {
+    fn drop(self) {
+        let ModePart {
+            token: _,
+            mode: _,
+            names: _,
+        } = self;
+    }
+}
+
+impl Drop for Specifier {
+    fn drop(self) {
+        match self {
+            Specifier::Simple(_) => {}
+            Specifier::Array {
+                element: _,
+                token: _,
+            } => {}
+            Specifier::Procedure {
+                result: _,
+                token: _,
+            } => {}
+        }
+    }
+}
+
+impl Drop for Specification {
+    fn drop(self) {
+        let Specification {
+            specifier: _,
+            names: _,
+        } = self;
+    }
+}
+
+impl Drop for Protection {
+    fn drop(self) {
+        let Protection {
+            hidden: _,
+            protected: _,
+            names: _,
+        } = self;
+    }
+}
+
+impl Drop for VirtualSpecification {
+    fn drop(self) {
+        let VirtualSpecification {
+            result: _,
+            token: _,
+            names: _,
+        } = self;
+    }
+}
+
+impl Drop for Assigned {
+    fn drop(self) {
+        let Assigned {
+            token: _,
+            sign: _,
+            value: _,
+        } = self;
+    }
+}
+
+impl Drop for ForElement {
+    fn drop(self) {
+        match self {
+            ForElement::Value { value: _ } => {}
+            ForElement::Step {
+                start: _,
+                token: _,
+                step: _,
+                limit: _,
+            } => {}
+            ForElement::While {
+                value: _,
+                token: _,
+                condition: _,
+            } => {}
+        }
+    }
+}
+
+impl Drop for ReferenceElement {
+    fn drop(self) {
+        match self {
+            ReferenceElement::Value { value: _ } => {}
+            ReferenceElement::While {
+                value: _,
+                token: _,
+                condition: _,
+            } => {}
+        }
+    }
+}
+
+impl Drop for Timing {
+    fn drop(self) {
+        match self {
+            Timing::At {
+                token: _,
+                time: _,
+                prior: _,
+            }
+            | Timing::Delay {
+                token: _,
+                time: _,
+                prior: _,
+            } => {}
+            Timing::Before {
+                token: _,
+                process: _,
+            }
+            | Timing::After {
+                token: _,
+                process: _,
+            } => {}
+        }
+    }
+}
+
+impl Drop for Stmt {
+    #[cycle(statement_drop)]
+    fn drop(self) {
+        match self {
+            Stmt::Empty { token: _ } | Stmt::Inner { token: _ } => {}
+            Stmt::Block { block: _ } => {}
+            Stmt::PrefixedBlock {
+                prefix: _,
+                block: _,
+            } => {}
+            Stmt::Call { call: _ } => {}
+            Stmt::Assignment { left: _, rest: _ } => {}
+            Stmt::If {
+                token: _,
+                condition: _,
+                then_branch: _,
+                else_branch: _,
+            } => {}
+            Stmt::While {
+                token: _,
+                condition: _,
+                body: _,
+            } => {}
+            Stmt::For {
+                token: _,
+                variable: _,
+                sign: _,
+                elements: _,
+                body: _,
+            } => {}
+            Stmt::ForReference {
+                token: _,
+                variable: _,
+                sign: _,
+                elements: _,
+                body: _,
+            } => {}
+            Stmt::Inspect {
+                token: _,
+                object: _,
+                opening: _,
+                body: _,
+                end: _,
+                otherwise: _,
+            } => {}
+            Stmt::InspectWhen {
+                token: _,
+                object: _,
+                arms: _,
+                otherwise: _,
+            } => {}
+            Stmt::Activation {
+                token: _,
+                activation: _,
+                process: _,
+                timing: _,
+            } => {}
+        }
+    }
+}
+
+impl Drop for When {
+    #[cycle(statement_drop)]
+    fn drop(self) {
+        let When {
+            token: _,
+            class: _,
+            opening: _,
+            body: _,
+            end: _,
+        } = self;
+    }
+}
+
+impl Drop for Block {
+    #[cycle(statement_drop)]
+    fn drop(self) {
+        let Block {
+            token: _,
+            declarations: _,
+            statements: _,
+            end: _,
+        } = self;
+    }
+}
+
+impl Drop for Decl {
+    #[cycle(statement_drop)]
+    fn drop(self) {
+        match self {
+            Decl::Variables {
+                type_name: _,
+                variables: _,
+            } => {}
+            Decl::Arrays {
+                type_name: _,
+                token: _,
+                segments: _,
+            } => {}
+            Decl::Procedure {
+                result: _,
+                token: _,
+                procedure: _,
+            } => {}
+            Decl::Class {
+                prefix: _,
+                token: _,
+                class: _,
+            } => {}
+        }
+    }
+}
+
+impl Drop for Procedure {
+    #[cycle(statement_drop)]
+    fn drop(self) {
+        let Procedure {
+            name: _,
+            parameters: _,
+            modes: _,
+            specifications: _,
+            body: _,
+            end: _,
+        } = self;
+    }
+}
+
+impl Drop for Class {
+    #[cycle(statement_drop)]
+    fn drop(self) {
+        let Class {
+            name: _,
+            parameters: _,
+            modes: _,
+            specifications: _,
+            protections: _,
+            virtuals: _,
+            body: _,
+            end: _,
+        } = self;
+    }
 }

@@ -7,7 +7,7 @@ ghost use Rattle.standard_calls.specs.Calls.{HasShape, operands};
 use sim_values::{Standard, TextVal};
 
 /// A name of no operands.
-#[derive(Clone, Copy, Debug, PartialEq, Eq)]
+#[derive(Clone, Copy)]
 pub enum OfNothing {
     /// `maxint`
     Maxint,
@@ -28,7 +28,7 @@ pub enum OfNothing {
 }
 
 /// A name of one integer.
-#[derive(Clone, Copy, Debug, PartialEq, Eq)]
+#[derive(Clone, Copy)]
 pub enum OfInteger {
     /// `abs`
     Abs,
@@ -45,7 +45,7 @@ pub enum OfInteger {
 }
 
 /// A name of two integers.
-#[derive(Clone, Copy, Debug, PartialEq, Eq)]
+#[derive(Clone, Copy)]
 pub enum OfIntegers {
     /// `min`
     Min,
@@ -60,7 +60,7 @@ pub enum OfIntegers {
 }
 
 /// A name of one character.
-#[derive(Clone, Copy, Debug, PartialEq, Eq)]
+#[derive(Clone, Copy)]
 pub enum OfCharacter {
     /// `rank`
     Rank,
@@ -75,7 +75,7 @@ pub enum OfCharacter {
 }
 
 /// A name of one text.
-#[derive(Clone, Copy, Debug, PartialEq, Eq)]
+#[derive(Clone, Copy)]
 pub enum OfText {
     /// `copy`
     Copy,
@@ -106,7 +106,7 @@ pub enum OfText {
 }
 
 /// A name of a text and an integer.
-#[derive(Clone, Copy, Debug, PartialEq, Eq)]
+#[derive(Clone, Copy)]
 pub enum OfTextAndInteger {
     /// `setpos`
     Setpos,
@@ -115,7 +115,7 @@ pub enum OfTextAndInteger {
 }
 
 /// A name by the kinds of its operands.
-#[derive(Clone, Copy, Debug, PartialEq, Eq)]
+#[derive(Clone, Copy)]
 pub enum Shape {
     /// It has none.
     Nothing(OfNothing),
@@ -138,7 +138,7 @@ pub enum Shape {
 }
 
 /// A name with its operands.
-#[derive(Clone, Copy, Debug)]
+#[derive(Clone, Copy)]
 pub enum Call {
     /// Of nothing.
     Nothing(OfNothing),

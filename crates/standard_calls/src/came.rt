@@ -23,7 +23,7 @@ use sim_base::RunError;
 use sim_values::TextVal;
 
 /// What became of a standard name on its operands.
-#[derive(Clone, Copy, Debug)]
+#[derive(Clone, Copy)]
 pub enum Came {
     /// It is done.
     Done {

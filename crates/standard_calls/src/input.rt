@@ -20,7 +20,7 @@ use sim_ports::Source;
 use text_objects::{TextFault, Texts};
 
 /// A name that reads the input and has no operands.
-#[derive(Clone, Copy, Debug, PartialEq, Eq)]
+#[derive(Clone, Copy)]
 pub enum Reading {
     /// `inimage`
     Inimage,

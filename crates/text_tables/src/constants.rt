@@ -14,7 +14,7 @@ use sim_tree::{Constant, Decl, LeadingSign, Sign, Variable};
 use std::alloc::{AllocError, Global};
 
 /// What is declared at a token of a text: the value of a constant, or none.
-#[derive(Clone, Copy, Debug, PartialEq, Eq)]
+#[derive(Clone, Copy)]
 pub(crate) struct Entered {
     /// The text.
     pub text: u32,
