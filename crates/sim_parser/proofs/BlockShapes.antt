@@ -23,10 +23,13 @@ use Rattle.sim_tree.proofs.StatementLemmas.{derivation-Inspect, derivation-Inspe
 use Rattle.sim_parser.specs.declared.statement.Branch.TheVariants as branch
 use Rattle.sim_parser.specs.Parsing.{branch_derivation, declared, statement_list}
 
-pub inspect_derivation : (n : TokenNo) (e : Expr) (m : TokenNo) (a : Box Stmt Global) (z : TokenNo) (o : Option (Box Stmt Global))
-    → bare_leaf n.0 k.Inspect (expr e (node g.Arms (bare_leaf m.0 k.Do (node g.Statement (statement_derivation a.value) (place z.0 done))) (branch_derivation branch.Otherwise o))) ≡ statement_derivation (s.Inspect n e m a z o)
-inspect_derivation n e m a z None = sym (derivation-Inspect n e m a z)
-inspect_derivation n e m a z (Some o) = sym (derivation-Inspect-two n e m a z o)
+pub inspect_derivation : (n : TokenNo) (e : Expr) (m : TokenNo) (x : Stmt) (z : TokenNo) (a : Box Stmt Global) (o : Option (Box Stmt Global)) → a.value ≡ x
+    → bare_leaf n.0 k.Inspect (expr e (node g.Arms (bare_leaf m.0 k.Do (node g.Statement (statement_derivation x) (place z.0 done))) (branch_derivation branch.Otherwise o))) ≡ statement_derivation (s.Inspect n e m a z o)
+inspect_derivation n e m x z a None h =
+    ap (λ y. bare_leaf n.0 k.Inspect (expr e (node g.Arms (bare_leaf m.0 k.Do (node g.Statement (statement_derivation y) (place z.0 done))) done))) (sym h) ∙ sym (derivation-Inspect n e m a z)
+inspect_derivation n e m x z a (Some o) h =
+    ap (λ y. bare_leaf n.0 k.Inspect (expr e (node g.Arms (bare_leaf m.0 k.Do (node g.Statement (statement_derivation y) (place z.0 done))) (node g.OtherwiseBranch (node g.Statement (statement_derivation o.value) done) done)))) (sym h)
+    ∙ sym (derivation-Inspect-two n e m a z o)
 
 pub inspect_when_derivation : (n : TokenNo) (e : Expr) (v : Vec When Global) (o : Option (Box Stmt Global))
     → bare_leaf n.0 k.Inspect (expr e (node g.Arms (row g.WhenArm (map when_derivation v.items) done) (branch_derivation branch.Otherwise o))) ≡ statement_derivation (s.InspectWhen n e v o)

@@ -9,3 +9,6 @@ value_symbols = Mark k.Equal ∷ Of Once g.Constant ∷ []
 
 abbrev pub segment_symbols : List Symbol
 segment_symbols = Of Once g.Identifiers ∷ Mark k.Open ∷ Of Once g.Bounds ∷ Of Many g.NextBounds ∷ Mark k.Close ∷ []
+
+abbrev pub bounds_symbols : List Symbol
+bounds_symbols = Of Once g.Expression ∷ Mark k.Colon ∷ Of Once g.Expression ∷ []

@@ -4,8 +4,7 @@ use Rattle.std.specs.Prelude.{◌||◌}
 use Rattle.sim_base.specs.declared.token.TokenKind.{TokenKind}
 use Rattle.sim_base.specs.declared.token.TokenKind.TheVariants as k
 use Rattle.sim_tree.specs.Grammar as g
-use Rattle.sim_tree.specs.Grammar.{Symbol, Kept, Of, Once, Maybe, Many, just, is, right_side}
-use Rattle.sim_parser.specs.Parsing.{pair_row}
+use Rattle.sim_tree.specs.Grammar.{Symbol, Kept, Mark, Of, Once, Maybe, Many, just, is, right_side}
 
 abbrev pub values_symbols : List Symbol
 values_symbols = Kept (just k.Assign) ∷ Of Once g.ForElement ∷ Of Many g.NextForElement ∷ []
@@ -34,7 +33,7 @@ abbrev pub reference_symbols : List Symbol
 reference_symbols = Of Once g.Expression ∷ Of Maybe g.ReferenceElementTail ∷ []
 
 abbrev pub step_symbols : List Symbol
-step_symbols = Kept (just k.Step) ∷ pair_row k.Until
+step_symbols = Kept (just k.Step) ∷ Of Once g.Expression ∷ Mark k.Until ∷ Of Once g.Expression ∷ []
 
 abbrev pub while_symbols : List Symbol
 while_symbols = Kept (just k.While) ∷ Of Once g.Expression ∷ []

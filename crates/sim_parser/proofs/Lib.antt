@@ -9,7 +9,6 @@ pub mod ElementsTables
 pub mod Exits
 pub mod HeadingSteps
 pub mod ListSteps
-pub mod Mapped
 pub mod NameSteps
 pub mod OperationTables
 pub mod ProgramSteps

@@ -2,26 +2,44 @@
 use Rattle.std.proofs.Common.{◌≡◌, List, [], ◌∷◌, Option, Some, None, refl, sym, ap, ◌∙◌}
 use Rattle.std.specs.declared.alloc.Global.{Global}
 use Rattle.std.specs.declared.boxed.Box.{Box}
+use Rattle.std.specs.declared.vec.Vec.{Vec}
 use Rattle.sim_base.specs.declared.numbering.TokenNo.{TokenNo}
 use Rattle.sim_base.specs.declared.token.TokenKind.TheVariants as k
 use Rattle.sim_base.specs.declared.token.TokenValue.TheVariants as token_value
 use Rattle.sim_tree.specs.declared.expr.Expr.{Expr}
 use Rattle.sim_tree.specs.declared.expr.Identifier.{Identifier}
+use Rattle.sim_tree.specs.declared.stmt.ForElement.{ForElement}
+use Rattle.sim_tree.specs.declared.stmt.ReferenceElement.{ReferenceElement}
 use Rattle.sim_tree.specs.declared.stmt.Stmt.{Stmt}
 use Rattle.sim_tree.specs.declared.stmt.Stmt.TheVariants as s
 use Rattle.sim_tree.specs.Grammar as g
 use Rattle.sim_tree.specs.Grammar.{Part}
 use Rattle.sim_tree.specs.Reading.{Forest, done, leaf, node, bare_leaf}
 use Rattle.sim_tree.specs.Derivation.{Derivation, arguments, identifier, row}
-use Rattle.sim_tree.specs.ProgramDerivation.{acted, expr, joined, statement_derivation}
-use Rattle.sim_tree.proofs.StatementLemmas.{derivation-If, derivation-If-two}
+use Rattle.sim_tree.specs.ProgramDerivation.{acted, expr, for_elements, joined, reference_elements, statement_derivation}
+use Rattle.sim_tree.proofs.StatementLemmas.{derivation-If, derivation-If-two, derivation-While, derivation-For, derivation-ForReference}
 use Rattle.sim_parser.specs.declared.statement.Branch.TheVariants as branch
 use Rattle.sim_parser.specs.Parsing.{branch_derivation}
 
-pub if_derivation : (n : TokenNo) (e : Expr) (a : Box Stmt Global) (o : Option (Box Stmt Global))
-    → bare_leaf n.0 k.If (expr e (node g.Statement (statement_derivation a.value) (branch_derivation branch.Else o))) ≡ statement_derivation (s.If n e a o)
-if_derivation n e a None = sym (derivation-If n e a)
-if_derivation n e a (Some o) = sym (derivation-If-two n e a o)
+pub if_derivation : (n : TokenNo) (e : Expr) (x : Stmt) (a : Box Stmt Global) (o : Option (Box Stmt Global)) → a.value ≡ x
+    → bare_leaf n.0 k.If (expr e (node g.Statement (statement_derivation x) (branch_derivation branch.Else o))) ≡ statement_derivation (s.If n e a o)
+if_derivation n e x a None h = ap (λ z. bare_leaf n.0 k.If (expr e (node g.Statement (statement_derivation z) done))) (sym h) ∙ sym (derivation-If n e a)
+if_derivation n e x a (Some o) h =
+    ap (λ z. bare_leaf n.0 k.If (expr e (node g.Statement (statement_derivation z) (node g.ElseBranch (node g.Statement (statement_derivation o.value) done) done)))) (sym h) ∙ sym (derivation-If-two n e a o)
+
+pub while_derivation : (n : TokenNo) (e : Expr) (x : Stmt) (a : Box Stmt Global) → a.value ≡ x → bare_leaf n.0 k.While (expr e (node g.Statement (statement_derivation x) done)) ≡ statement_derivation (s.While n e a)
+while_derivation n e x a h = ap (λ z. bare_leaf n.0 k.While (expr e (node g.Statement (statement_derivation z) done))) (sym h) ∙ sym (derivation-While n e a)
+
+pub for_derivation : (n : TokenNo) (x : Identifier) (m : TokenNo) (l : Vec ForElement Global) (b : Stmt) (a : Box Stmt Global) → a.value ≡ b
+    → bare_leaf n.0 k.For (identifier x (node g.ForList (bare_leaf m.0 k.Assign (for_elements l.items)) (node g.Statement (statement_derivation b) done))) ≡ statement_derivation (s.For n x m l a)
+for_derivation n x m l b a h =
+    ap (λ z. bare_leaf n.0 k.For (identifier x (node g.ForList (bare_leaf m.0 k.Assign (for_elements l.items)) (node g.Statement (statement_derivation z) done)))) (sym h) ∙ sym (derivation-For n x m l a)
+
+pub for_reference_derivation : (n : TokenNo) (x : Identifier) (m : TokenNo) (l : Vec ReferenceElement Global) (b : Stmt) (a : Box Stmt Global) → a.value ≡ b
+    → bare_leaf n.0 k.For (identifier x (node g.ForList (bare_leaf m.0 k.AssignReference (reference_elements l.items)) (node g.Statement (statement_derivation b) done))) ≡ statement_derivation (s.ForReference n x m l a)
+for_reference_derivation n x m l b a h =
+    ap (λ z. bare_leaf n.0 k.For (identifier x (node g.ForList (bare_leaf m.0 k.AssignReference (reference_elements l.items)) (node g.Statement (statement_derivation z) done)))) (sym h)
+    ∙ sym (derivation-ForReference n x m l a)
 
 -- one row in front of what follows it
 joined_row : (n : Part) (fs : List Forest) (rest : Forest) → joined (row n fs done) rest ≡ row n fs rest

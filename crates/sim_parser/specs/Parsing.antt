@@ -13,17 +13,13 @@ use Rattle.sim_tree.specs.Grammar as g
 use Rattle.sim_tree.specs.Grammar.{Part, Symbol, Of, Once, Maybe, Many, Kept, Mark, Any, Here, is, one_of, just, types, begins_statement}
 use Rattle.sim_tree.specs.Reading.{Forest, done, place, node, kind_at, Reads, Fails, Fault, bare_leaf}
 use Rattle.sim_tree.specs.Claim.{one}
-use Rattle.sim_tree.specs.ProgramDerivation.{Declared, Plain, Prefixed, declaration_derivation, next_statement, statement_derivation, type_derivation, when_derivation}
+use Rattle.sim_tree.specs.ProgramDerivation.{Declared, Plain, Prefixed, declaration_derivation, next_statement, statement_derivation, type_derivation}
 use Rattle.sim_tree.specs.Derivation.{identifier, row}
 use Rattle.sim_tree.specs.Tree.{limit, ReadsPart}
 use Rattle.sim_expr_parser.specs.declared.refusal.Stop.{Stop}
 use Rattle.sim_expr_parser.specs.Parsing.{Stops}
 use Rattle.sim_parser.specs.declared.statement.Connection.{Connection}
 use Rattle.sim_parser.specs.declared.statement.Branch.{Branch}
-use Rattle.sim_parser.specs.declared.statement.Branches.{Branches}
-use Rattle.sim_parser.specs.declared.statement.Inspection.{Inspection}
-use Rattle.sim_parser.specs.declared.statement.InspectionByClass.{InspectionByClass}
-use Rattle.sim_parser.specs.declared.statement.Body.{Body}
 use Rattle.sim_parser.specs.declared.statement.Branch.TheVariants as branch
 
 -- a part, read from start on
@@ -52,31 +48,15 @@ identified_row = Kept (just k.Identifier) ∷ Of Maybe g.Arguments ∷ Of Once g
 abbrev pub operation_row : List Symbol
 operation_row = Of Once g.Postfix ∷ Of Many g.Assigned ∷ []
 
--- an expression behind a word
-abbrev pub behind_row : TokenKind → List Symbol
-behind_row word = Mark word ∷ Of Once g.Expression ∷ []
-
--- two expressions with a word between them
-abbrev pub pair_row : TokenKind → List Symbol
-pair_row between = Of Once g.Expression ∷ behind_row between
-
--- the branches of a conditional statement, from `then` on
-abbrev pub branches_row : List Symbol
-branches_row = Mark k.Then ∷ Of Once g.Statement ∷ Of Maybe g.ElseBranch ∷ []
-
 abbrev pub if_row : List Symbol
-if_row = Kept (just k.If) ∷ Of Once g.Expression ∷ branches_row
+if_row = Kept (just k.If) ∷ Of Once g.Expression ∷ Mark k.Then ∷ Of Once g.Statement ∷ Of Maybe g.ElseBranch ∷ []
 
 abbrev pub body_row : List Symbol
 body_row = Mark k.Do ∷ Of Once g.Statement ∷ []
 
--- the body of a procedure or a class, and its end
-abbrev pub ended_row : List Symbol
-ended_row = Of Once g.Statement ∷ Here ∷ []
-
 -- a connection, from `do` on
 abbrev pub connection_row : List Symbol
-connection_row = Kept (just k.Do) ∷ ended_row
+connection_row = Kept (just k.Do) ∷ Of Once g.Statement ∷ Here ∷ []
 
 abbrev pub connection_derivation : Connection → Forest
 connection_derivation c = bare_leaf c.opening.0 k.Do (node g.Statement (statement_derivation c.body) (place c.end.0 done))
@@ -87,12 +67,8 @@ while_row = Kept (just k.While) ∷ Of Once g.Expression ∷ body_row
 abbrev pub for_row : List Symbol
 for_row = Kept (just k.For) ∷ Kept (just k.Identifier) ∷ Of Once g.ForList ∷ body_row
 
--- what is done with an inspected object
-abbrev pub inspection_row : List Symbol
-inspection_row = Of Once g.Arms ∷ Of Maybe g.OtherwiseBranch ∷ []
-
 abbrev pub inspect_row : List Symbol
-inspect_row = Kept (just k.Inspect) ∷ Of Once g.Expression ∷ inspection_row
+inspect_row = Kept (just k.Inspect) ∷ Of Once g.Expression ∷ Of Once g.Arms ∷ Of Maybe g.OtherwiseBranch ∷ []
 
 abbrev pub activation_words : List TokenKind
 activation_words = k.Activate ∷ k.Reactivate ∷ []
@@ -130,24 +106,6 @@ branch_part branch.Otherwise = g.OtherwiseBranch
 abbrev pub branch_derivation : Branch → Option (Box Stmt Global) → Forest
 branch_derivation b None = done
 branch_derivation b (Some s) = node (branch_part b) (node g.Statement (statement_derivation s.value) done) done
-
--- the statement behind `do`
-abbrev pub body_derivation : Box Stmt Global → Forest
-body_derivation b = node g.Statement (statement_derivation b.value) done
-
--- the branches of a conditional statement, and what is done with an inspected object
-abbrev pub branches_derivation : Branches → Forest
-branches_derivation b = node g.Statement (statement_derivation b.then_branch.value) (branch_derivation branch.Else b.else_branch)
-
-abbrev pub inspection_derivation : Inspection → Forest
-inspection_derivation i = node g.Arms (bare_leaf i.opening.0 k.Do (node g.Statement (statement_derivation i.body.value) (place i.end.0 done))) (branch_derivation branch.Otherwise i.otherwise)
-
-abbrev pub inspection_by_class_derivation : InspectionByClass → Forest
-inspection_by_class_derivation i = node g.Arms (row g.WhenArm (map when_derivation i.arms.items) done) (branch_derivation branch.Otherwise i.otherwise)
-
--- the body of a procedure or a class, and its end
-abbrev pub ended_derivation : Body → Forest
-ended_derivation b = node g.Statement (statement_derivation b.statement.value) (place b.end.0 done)
 
 -- Declarations. One without a prefix is read as a part; behind the type of a typed one the rest is.
 pub record ReadsDeclared (tokens : List Token) (depth : ℕ) (n : Part) (start : ℕ) (stand : Forest → Forest) (derivation : Declared) (end : ℕ) : Type 0 where

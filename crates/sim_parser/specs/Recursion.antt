@@ -3,4 +3,4 @@ use Rattle.std.specs.Prelude.{ℕ}
 
 -- how many calls a statement takes, its own included, until the next one inside it
 abbrev pub calls : ℕ
-calls = 11
+calls = 9

@@ -12,9 +12,8 @@ ghost use Rattle.sim_parser.specs.Parsing.{GivesAll, GivesPart, PartAt};
 
 use crate::lists::comma_list;
 use crate::names::identifiers;
-use crate::pairs::expression_pair;
 use sim_base::TokenKind;
-use sim_expr_parser::{LIMIT, Source, Stop, kind_at_token, leading_sign};
+use sim_expr_parser::{LIMIT, Source, Stop, expression, kind_at_token, leading_sign};
 use sim_tree::{ArraySegment, Bounds, Constant, Variable};
 
 /// The variables and constants of a type, at least one, with commas between them, and the index after them.
@@ -118,8 +117,8 @@ fn bounds(source: &Source, at: usize, depth: u32) -> Result<(Bounds, usize), Sto
     requires shallow { depth ≤ LIMIT }
     ensures { GivesPart source.now depth g.Bounds at bounds_derivation result }
 {
-    expression_pair(source, at, depth, TokenKind::Colon).map(|((lower, upper), end)| (
-        Bounds { lower, upper },
-        end,
-    ))
+    let (lower, next) = expression(source, at, depth)?;
+    let next = source.expect(next, TokenKind::Colon)?;
+    let (upper, end) = expression(source, next, depth)?;
+    Ok((Bounds { lower, upper }, end))
 }

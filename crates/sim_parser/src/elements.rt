@@ -9,7 +9,6 @@ ghost use Rattle.sim_parser.specs.Parsing.{GivesAll, GivesPart};
 ghost use Rattle.sim_parser.specs.Elements.{for_list_derivation};
 
 use crate::lists::comma_list;
-use crate::pairs::expression_pair;
 use sim_base::{TokenKind, TokenNo};
 use sim_expr_parser::{LIMIT, Source, Stop, expression};
 use sim_tree::{ForElement, ReferenceElement};
@@ -63,28 +62,32 @@ fn for_element(source: &Source, at: usize, depth: u32) -> Result<(ForElement, us
     let (value, next) = expression(source, at, depth)?;
     let token = source.token_no(next);
     if let Some(next) = source.eat(next, TokenKind::Step) {
+        let (step, next) = expression(source, next, depth)?;
+        let next = source.expect(next, TokenKind::Until)?;
+        let (limit, end) = expression(source, next, depth)?;
         let start = value;
-        return expression_pair(source, next, depth, TokenKind::Until).map(|((step, limit), end)| {
-            let element = ForElement::Step {
+        return Ok((
+            ForElement::Step {
                 start,
                 token,
                 step,
                 limit,
-            };
-            (element, end)
-        });
+            },
+            end,
+        ));
     }
     let Some(next) = source.eat(next, TokenKind::While) else {
         return Ok((ForElement::Value { value }, next));
     };
-    expression(source, next, depth).map(|(condition, end)| {
-        let element = ForElement::While {
+    let (condition, end) = expression(source, next, depth)?;
+    Ok((
+        ForElement::While {
             value,
             token,
             condition,
-        };
-        (element, end)
-    })
+        },
+        end,
+    ))
 }
 
 // The elements over references, at least one.
@@ -115,12 +118,13 @@ fn reference_element(
     let Some(next) = source.eat(next, TokenKind::While) else {
         return Ok((ReferenceElement::Value { value }, next));
     };
-    expression(source, next, depth).map(|(condition, end)| {
-        let element = ReferenceElement::While {
+    let (condition, end) = expression(source, next, depth)?;
+    Ok((
+        ReferenceElement::While {
             value,
             token,
             condition,
-        };
-        (element, end)
-    })
+        },
+        end,
+    ))
 }

@@ -7,7 +7,6 @@ mod heading;
 mod lists;
 mod names;
 mod operation;
-mod pairs;
 mod program;
 mod statement;
 mod words;

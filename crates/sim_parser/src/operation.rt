@@ -93,15 +93,16 @@ pub fn activation_statement(source: &Source, at: usize, depth: u32) -> Result<(S
     let token = source.token_no(at);
     let (activation, next) = activation_at(source, at)?;
     let (process, next) = expression(source, next, depth)?;
-    timing(source, next, depth).map(|(timing, end)| {
-        let statement = Stmt::Activation {
+    let (timing, end) = timing(source, next, depth)?;
+    Ok((
+        Stmt::Activation {
             token,
             activation,
             process,
             timing,
-        };
-        (statement, end)
-    })
+        },
+        end,
+    ))
 }
 
 // The word of an activation, and the index after it.

@@ -3,12 +3,12 @@
 
 ghost use Rattle.std.specs.Prelude.{◌≡◌, ◌≤◌, ◌<◌, ◌+◌, ℕ, List, [], ◌∷◌, map, length, true};
 ghost use Rattle.sim_tree.specs.Grammar as g;
-ghost use Rattle.sim_tree.specs.Grammar.{Kept, Of, Once, Maybe, Many, is, just, one_of};
+ghost use Rattle.sim_tree.specs.Grammar.{Kept, Of, Once, Maybe, Many, just, one_of};
 ghost use Rattle.sim_base.specs.declared.token.TokenKind.TheVariants as k;
 ghost use Rattle.sim_tree.specs.Reading.{Forest, done, node, kind_at};
 ghost use Rattle.sim_tree.specs.Derivation.{row};
 ghost use Rattle.sim_tree.specs.ProgramDerivation.{block_derivation, class_derivation, procedure_derivation, statements as statements_derivation, statement_derivation, when_derivation};
-ghost use Rattle.sim_parser.specs.Parsing.{GivesAll, GivesDecl, GivesDeclaration, GivesDeclarations, GivesInside, GivesPart, GivesStatements, GivesTyped, NoDeclaration, begins as begins_spec, body_derivation, body_row, branch_part, branch_derivation, branch_word, branches_row, branches_derivation, ended_row, ended_derivation, inspection_row, inspection_derivation, inspection_by_class_derivation, connection_row, connection_derivation, for_row, identified_row, if_row, inspect_row, while_row};
+ghost use Rattle.sim_parser.specs.Parsing.{GivesAll, GivesDecl, GivesDeclaration, GivesDeclarations, GivesInside, GivesPart, GivesStatements, GivesTyped, NoDeclaration, begins as begins_spec, body_row, branch_part, branch_derivation, branch_word, connection_row, connection_derivation, for_row, identified_row, if_row, inspect_row, while_row};
 
 use crate::declaration::{segments, variables};
 use crate::elements::{ForList, for_list};
@@ -30,37 +30,6 @@ pub struct Connection {
     /// The body.
     body: Stmt,
     /// The token behind the body.
-    end: TokenNo,
-}
-
-/// The branches of a conditional statement.
-#[derive(Drop)]
-pub struct Branches {
-    then_branch: Box<Stmt>,
-    else_branch: Option<Box<Stmt>>,
-}
-
-/// What is done with an inspected object: one connection, from its `do` on.
-#[derive(Drop)]
-pub struct Inspection {
-    opening: TokenNo,
-    body: Box<Stmt>,
-    end: TokenNo,
-    otherwise: Option<Box<Stmt>>,
-}
-
-/// What is done with an inspected object by its class.
-#[derive(Drop)]
-pub struct InspectionByClass {
-    arms: Vec<When>,
-    otherwise: Option<Box<Stmt>>,
-}
-
-/// The body of a procedure or a class.
-#[derive(Drop)]
-pub struct Body {
-    statement: Box<Stmt>,
-    /// The token behind it.
     end: TokenNo,
 }
 
@@ -108,18 +77,6 @@ pub fn statement(source: &Source, at: usize, depth: u32) -> Result<(Stmt, usize)
         return Err(Stop::TooDeep(at));
     }
     begun_statement(source, at, depth + 1)
-}
-
-// A statement in a box of its own, so that no frame above holds it.
-#[cycle(statement)]
-#[inline(never)]
-fn boxed_statement(source: &Source, at: usize, depth: u32) -> Result<(Box<Stmt>, usize), Stop>
-    requires within { at < length source.now }
-    requires shallow { depth ≤ LIMIT }
-    ensures { GivesPart source.now depth g.Statement at (λ b. statement_derivation b.value) result }
-{
-    let (inner, end) = statement(source, at, depth)?;
-    Ok((Box::new(source.allocator(), inner)?, end))
 }
 
 // A statement that its first token begins. The depth is that inside it.
@@ -199,33 +156,19 @@ fn if_statement(source: &Source, at: usize, depth: u32) -> Result<(Stmt, usize),
     let token = source.token_no(at);
     let next = source.expect(at, TokenKind::If)?;
     let (condition, next) = expression(source, next, depth)?;
-    branches_at(source, next, depth).map(|(branches, end)| {
-        let statement = Stmt::If {
+    let next = source.expect(next, TokenKind::Then)?;
+    let (first, next) = statement(source, next, depth)?;
+    let then_branch = Box::new(source.allocator(), first)?;
+    let (else_branch, end) = optional_branch(source, next, depth, Branch::Else)?;
+    Ok((
+        Stmt::If {
             token,
             condition,
-            then_branch: branches.then_branch,
-            else_branch: branches.else_branch,
-        };
-        (statement, end)
-    })
-}
-
-// The branches of a conditional statement, from `then` on.
-#[cycle(statement)]
-#[inline(never)]
-fn branches_at(source: &Source, at: usize, depth: u32) -> Result<(Branches, usize), Stop>
-    requires within { at < length source.now }
-    requires shallow { depth ≤ LIMIT }
-    ensures { GivesAll source.now depth branches_row at branches_derivation result }
-{
-    let next = source.expect(at, TokenKind::Then)?;
-    let (then_branch, next) = boxed_statement(source, next, depth)?;
-    let (else_branch, end) = optional_branch(source, next, depth, Branch::Else)?;
-    let branches = Branches {
-        then_branch,
-        else_branch,
-    };
-    Ok((branches, end))
+            then_branch,
+            else_branch,
+        },
+        end,
+    ))
 }
 
 // A branch behind its word, where the word stands there.
@@ -244,8 +187,8 @@ fn optional_branch(
     let Some(next) = source.eat(at, branch.word()) else {
         return Ok((None, at));
     };
-    let (body, end) = boxed_statement(source, next, depth)?;
-    Ok((Some(body), end))
+    let (body, end) = statement(source, next, depth)?;
+    Ok((Some(Box::new(source.allocator(), body)?), end))
 }
 
 #[cycle(statement)]
@@ -257,25 +200,27 @@ fn while_statement(source: &Source, at: usize, depth: u32) -> Result<(Stmt, usiz
     let token = source.token_no(at);
     let next = source.expect(at, TokenKind::While)?;
     let (condition, next) = expression(source, next, depth)?;
-    body_behind_do(source, next, depth).map(|(body, end)| {
-        let statement = Stmt::While {
+    let (body, end) = body(source, next, depth)?;
+    let body = Box::new(source.allocator(), body)?;
+    Ok((
+        Stmt::While {
             token,
             condition,
             body,
-        };
-        (statement, end)
-    })
+        },
+        end,
+    ))
 }
 
 // A statement behind `do`.
 #[cycle(statement)]
-fn body_behind_do(source: &Source, at: usize, depth: u32) -> Result<(Box<Stmt>, usize), Stop>
+fn body(source: &Source, at: usize, depth: u32) -> Result<(Stmt, usize), Stop>
     requires within { at < length source.now }
     requires shallow { depth ≤ LIMIT }
-    ensures { GivesAll source.now depth body_row at body_derivation result }
+    ensures { GivesAll source.now depth body_row at (λ s. node g.Statement (statement_derivation s) done) result }
 {
     let next = source.expect(at, TokenKind::Do)?;
-    boxed_statement(source, next, depth)
+    statement(source, next, depth)
 }
 
 #[cycle(statement)]
@@ -288,7 +233,8 @@ fn for_statement(source: &Source, at: usize, depth: u32) -> Result<(Stmt, usize)
     let next = source.expect(at, TokenKind::For)?;
     let (variable, next) = source.identifier_at(next)?;
     let (list, next) = for_list(source, next, depth)?;
-    let (body, end) = body_behind_do(source, next, depth)?;
+    let (body, end) = body(source, next, depth)?;
+    let body = Box::new(source.allocator(), body)?;
     let statement = match list {
         ForList::Values { sign, elements } => Stmt::For {
             token,
@@ -318,67 +264,33 @@ fn inspect_statement(source: &Source, at: usize, depth: u32) -> Result<(Stmt, us
     let next = source.expect(at, TokenKind::Inspect)?;
     let (object, next) = expression(source, next, depth)?;
     if source.kind_at(next) == TokenKind::Do {
-        return inspection_at(source, next, depth).map(|(inspection, end)| {
-            let statement = Stmt::Inspect {
+        let (connection, next) = connected_at(source, next, depth)?;
+        let Connection { opening, body, end } = connection;
+        let body = Box::new(source.allocator(), body)?;
+        let (otherwise, next) = optional_branch(source, next, depth, Branch::Otherwise)?;
+        return Ok((
+            Stmt::Inspect {
                 token,
                 object,
-                opening: inspection.opening,
-                body: inspection.body,
-                end: inspection.end,
-                otherwise: inspection.otherwise,
-            };
-            (statement, end)
-        });
+                opening,
+                body,
+                end,
+                otherwise,
+            },
+            next,
+        ));
     }
-    inspection_by_class_at(source, next, depth).map(|(inspection, end)| {
-        let statement = Stmt::InspectWhen {
+    let (arms, next) = when_arms(source, next, depth)?;
+    let (otherwise, end) = optional_branch(source, next, depth, Branch::Otherwise)?;
+    Ok((
+        Stmt::InspectWhen {
             token,
             object,
-            arms: inspection.arms,
-            otherwise: inspection.otherwise,
-        };
-        (statement, end)
-    })
-}
-
-// A connection from its `do` on, with its `otherwise`.
-#[cycle(statement)]
-#[inline(never)]
-fn inspection_at(source: &Source, at: usize, depth: u32) -> Result<(Inspection, usize), Stop>
-    requires within { at < length source.now }
-    requires shallow { depth ≤ LIMIT }
-    requires is_do { is (kind_at source.now at) k.Do ≡ true }
-    ensures { GivesAll source.now depth inspection_row at inspection_derivation result }
-{
-    let (connection, next) = connected_at(source, at, depth)?;
-    let Connection { opening, body, end } = connection;
-    let body = Box::new(source.allocator(), body)?;
-    let (otherwise, next) = optional_branch(source, next, depth, Branch::Otherwise)?;
-    let inspection = Inspection {
-        opening,
-        body,
+            arms,
+            otherwise,
+        },
         end,
-        otherwise,
-    };
-    Ok((inspection, next))
-}
-
-// The arms of `inspect`, with its `otherwise`.
-#[cycle(statement)]
-#[inline(never)]
-fn inspection_by_class_at(
-    source: &Source,
-    at: usize,
-    depth: u32,
-) -> Result<(InspectionByClass, usize), Stop>
-    requires within { at < length source.now }
-    requires shallow { depth ≤ LIMIT }
-    requires no_do { kind_at source.now at ≡ k.Do → ⊥ }
-    ensures { GivesAll source.now depth inspection_row at inspection_by_class_derivation result }
-{
-    let (arms, next) = when_arms(source, at, depth)?;
-    let (otherwise, end) = optional_branch(source, next, depth, Branch::Otherwise)?;
-    Ok((InspectionByClass { arms, otherwise }, end))
+    ))
 }
 
 // The arms of `inspect`, at least one.
@@ -493,21 +405,23 @@ fn declaration(source: &Source, at: usize, depth: u32) -> Result<Option<(Decl, u
         let token = source.token_no(word);
         let next = source.expect(word, TokenKind::Class)?;
         let (class, next) = class(source, next, depth)?;
+        let end = past_closing(source, next)?;
         let prefix = Some(prefix);
-        return past_closing(source, next).map(|end| {
-            let declared = Decl::Class {
+        return Ok(Some((
+            Decl::Class {
                 prefix,
                 token,
                 class,
-            };
-            Some((declared, end))
-        });
+            },
+            end,
+        )));
     }
     if !begins_declaration(source.kind_at(at)) {
         return Ok(None);
     }
     let (declared, next) = plain_declaration(source, at, depth)?;
-    past_closing(source, next).map(|end| Some((declared, end)))
+    let end = past_closing(source, next)?;
+    Ok(Some((declared, end)))
 }
 
 // A declaration without a prefix.
@@ -560,47 +474,37 @@ fn typed_declaration(
 {
     let token = source.token_no(at);
     if let Some(next) = source.eat(at, TokenKind::Procedure) {
+        let (procedure, end) = procedure(source, next, depth)?;
         let result = Some(type_name);
-        return procedure(source, next, depth).map(|(procedure, end)| {
-            let declared = Decl::Procedure {
+        return Ok((
+            Decl::Procedure {
                 result,
                 token,
                 procedure,
-            };
-            (declared, end)
-        });
+            },
+            end,
+        ));
     }
     if let Some(next) = source.eat(at, TokenKind::Array) {
-        return segments(source, next, depth).map(|(segments, end)| {
-            let declared = Decl::Arrays {
+        let (segments, end) = segments(source, next, depth)?;
+        return Ok((
+            Decl::Arrays {
                 type_name,
                 token,
                 segments,
-            };
-            (declared, end)
-        });
+            },
+            end,
+        ));
     }
     source.expect(at, TokenKind::Identifier)?;
-    variables(source, at).map(|(variables, end)| {
-        let declared = Decl::Variables {
+    let (variables, end) = variables(source, at)?;
+    Ok((
+        Decl::Variables {
             type_name,
             variables,
-        };
-        (declared, end)
-    })
-}
-
-// The body of a procedure or a class.
-#[cycle(statement)]
-#[inline(never)]
-fn ended_body(source: &Source, at: usize, depth: u32) -> Result<(Body, usize), Stop>
-    requires within { at < length source.now }
-    requires shallow { depth ≤ LIMIT }
-    ensures { GivesAll source.now depth ended_row at ended_derivation result }
-{
-    let (statement, next) = boxed_statement(source, at, depth)?;
-    let end = source.token_no(next);
-    Ok((Body { statement, end }, next))
+        },
+        end,
+    ))
 }
 
 // A procedure behind its word.
@@ -612,17 +516,25 @@ fn procedure(source: &Source, at: usize, depth: u32) -> Result<(Procedure, usize
 {
     let (name, next) = source.identifier_at(at)?;
     let (heading, next) = heading_at(source, next)?;
-    ended_body(source, next, depth).map(|(body, end)| {
-        let procedure = Procedure {
+    let (body, next) = statement(source, next, depth)?;
+    let body = Box::new(source.allocator(), body)?;
+    let end = source.token_no(next);
+    let Heading {
+        parameters,
+        modes,
+        specifications,
+    } = heading;
+    Ok((
+        Procedure {
             name,
-            parameters: heading.parameters,
-            modes: heading.modes,
-            specifications: heading.specifications,
-            body: body.statement,
-            end: body.end,
-        };
-        (procedure, end)
-    })
+            parameters,
+            modes,
+            specifications,
+            body,
+            end,
+        },
+        next,
+    ))
 }
 
 // A class behind its word.
@@ -636,19 +548,27 @@ fn class(source: &Source, at: usize, depth: u32) -> Result<(Class, usize), Stop>
     let (heading, next) = heading_at(source, next)?;
     let (protections, next) = protections(source, next)?;
     let (virtuals, next) = virtuals(source, next)?;
-    ended_body(source, next, depth).map(|(body, end)| {
-        let class = Class {
+    let (body, next) = statement(source, next, depth)?;
+    let body = Box::new(source.allocator(), body)?;
+    let end = source.token_no(next);
+    let Heading {
+        parameters,
+        modes,
+        specifications,
+    } = heading;
+    Ok((
+        Class {
             name,
-            parameters: heading.parameters,
-            modes: heading.modes,
-            specifications: heading.specifications,
+            parameters,
+            modes,
+            specifications,
             protections,
             virtuals,
-            body: body.statement,
-            end: body.end,
-        };
-        (class, end)
-    })
+            body,
+            end,
+        },
+        next,
+    ))
 }
 
 // The statements of a block and its `end`, where no declaration begins.

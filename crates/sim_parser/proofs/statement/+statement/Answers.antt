@@ -1,7 +1,7 @@
 mod Inspections
 mod Sequences
 mod Declarations
-use Rattle.std.proofs.Common.{◌≡◌, true, false, [], ◌∷◌, Some, refl, map, inl, inr, sym, ap, ◌∙◌, subst, arith, rules}
+use Rattle.std.proofs.Common.{◌≡◌, true, false, [], ◌∷◌, Some, refl, map, inl, inr, sym, ap, ◌∙◌, subst, arith}
 use Rattle.sim_base.specs.declared.token.TokenKind.TheVariants as k
 use Rattle.sim_expr_parser.proofs.Steps.{exit, gone, kept, marked, maybe, once, opened, passed, skipped, stops-at, stops-in, to}
 use Rattle.sim_expr_parser.proofs.Tables.{under-limit}
@@ -9,13 +9,12 @@ use Rattle.sim_expr_parser.proofs.Tokens.{made_is, took_one}
 use Rattle.sim_parser.proofs.Exits.{here, here_kept, here_mark, here_part, out, past_kept, past_mark, past_part, past_to, rest}
 use Rattle.sim_parser.proofs.Along.{all, along, along-ends, along-stops, left, past}
 use Rattle.sim_parser.proofs.StatementRows.{after_head, block_at, branch_no_end, branch_row, branch_uncounted, for_at, from_inside, identified_at, if_at, inner_at, inside, inspect_at, nothing_read, operation_begins, operation_stands, too_deep, while_at, activate_at, reactivate_at}
-use Rattle.sim_parser.proofs.Mapped.{mapped}
-use Rattle.sim_parser.proofs.StatementShapes.{acted_named, if_derivation}
+use Rattle.sim_parser.proofs.StatementShapes.{acted_named, for_reference_derivation, for_derivation, if_derivation, while_derivation}
 use Rattle.sim_parser.specs.Elements.{for_list_derivation}
-use Rattle.sim_parser.specs.Parsing.{GivesAll, GivesPart, begins, body_derivation, body_row, branch_part, branch_derivation, branch_word, branches_derivation, branches_row, for_row, identified_row, if_row, inspect_row, operation_row, activation_row, while_row}
+use Rattle.sim_parser.specs.Parsing.{GivesAll, GivesPart, begins, body_row, branch_part, branch_derivation, branch_word, for_row, identified_row, if_row, inspect_row, operation_row, activation_row, while_row}
 use Rattle.sim_parser.specs.declared.statement.Branch.TheVariants as branch
 use Rattle.sim_tree.proofs.DerivationLemmas.{raise-same, derivation-Named}
-use Rattle.sim_tree.proofs.StatementLemmas.{derivation-Block, derivation-Empty, derivation-For, derivation-ForReference, derivation-PrefixedBlock, derivation-While}
+use Rattle.sim_tree.proofs.StatementLemmas.{derivation-Block, derivation-Empty, derivation-PrefixedBlock}
 use Rattle.sim_tree.specs.Claim.{one}
 use Rattle.sim_tree.specs.Grammar as g
 use Rattle.sim_tree.specs.Grammar.{Once, Maybe, Many, Of, Kept, Mark, is, just, one_of, right_side, begins_statement}
@@ -59,6 +58,24 @@ if_statement-returns-in_err-condition u c =
     out c.args.source.now c.args.depth if_row c.args.at statement_derivation r.result c.in_err-condition.field-0.0 r.ensures.1
     (past_kept c.in_ok-next.ensures (here_part c.in_err-condition.ensures))
 
+pub if_statement-returns-in_err-next-2 : goal.if_statement-returns-in_err-next-2
+if_statement-returns-in_err-next-2 u c =
+    let r = c.from_residual-in_err-next-2 in
+    out c.args.source.now c.args.depth if_row c.args.at statement_derivation r.result c.in_err-next-2.field-0.0 r.ensures.1
+    (past_kept c.in_ok-next.ensures (past_part c.in_ok-condition.ensures.1 (here_mark c.in_err-next-2.ensures)))
+
+pub if_statement-returns-in_err-first : goal.if_statement-returns-in_err-first
+if_statement-returns-in_err-first u c =
+    let r = c.from_residual-in_err-first in
+    out c.args.source.now c.args.depth if_row c.args.at statement_derivation r.result c.in_err-first.field-0.0 r.ensures.1
+    (past_kept c.in_ok-next.ensures (past_part c.in_ok-condition.ensures.1 (past_mark c.in_ok-next-2.ensures (here_part c.in_err-first.ensures))))
+
+pub if_statement-returns-in_err-else_branch : goal.if_statement-returns-in_err-else_branch
+if_statement-returns-in_err-else_branch u c =
+    let r = c.from_residual-in_err-else_branch in
+    out c.args.source.now c.args.depth if_row c.args.at statement_derivation r.result c.in_err-else_branch.field-0.0 r.ensures.1
+    (past_kept c.in_ok-next.ensures (past_part c.in_ok-condition.ensures.1 (past_mark c.in_ok-next-2.ensures (past_part c.in_ok-first.ensures (rest c.in_err-else_branch.ensures)))))
+
 pub if_statement-returns : goal.if_statement-returns
 if_statement-returns u c =
     let ws = c.args.source.now in
@@ -68,45 +85,12 @@ if_statement-returns u c =
     let w0 = along d i if_row c.requires.within in
     let w1 = past w0 (kept n.0 c.token_no-token.ensures (took_one ws i c.in_ok-next.next k.If refl c.in_ok-next.ensures)) in
     let w2 = past w1 (once c.in_ok-condition.ensures.1) in
+    let w3 = past w2 (marked c.in_ok-next-2.ensures) in
+    let w4 = past w3 (once c.in_ok-first.ensures) in
+    let a = c.in_ok-then_branch.then_branch in
+    let o = c.in_ok-else_branch.else_branch in
     let e = c.in_ok-condition.condition in
-    mapped (GivesAll ws d branches_row c.in_ok-condition.next branches_derivation) (GivesAll ws d if_row i statement_derivation) (λ b. (s.If n e b.0.then_branch b.0.else_branch, b.1)) c.branches_at.result c.map.result c.map.ensures.cases c.branches_at.ensures
-    (λ b y made. search rules) (λ b h. left w2 (branches_derivation b.0) h _ (if_derivation n e b.0.then_branch b.0.else_branch)) (λ x h. along-ends w2 x h)
-
-pub branches_at-returns-in_err-next : goal.branches_at-returns-in_err-next
-branches_at-returns-in_err-next u c =
-    let r = c.from_residual in
-    out c.args.source.now c.args.depth branches_row c.args.at branches_derivation r.result c.in_err-next.field-0.0 r.ensures.1
-    (here_mark c.in_err-next.ensures)
-
-pub branches_at-returns-in_err-then_branch : goal.branches_at-returns-in_err-then_branch
-branches_at-returns-in_err-then_branch u c =
-    let r = c.from_residual-in_err-then_branch in
-    out c.args.source.now c.args.depth branches_row c.args.at branches_derivation r.result c.in_err-then_branch.field-0.0 r.ensures.1
-    (past_mark c.in_ok-next.ensures (here_part c.in_err-then_branch.ensures))
-
-pub branches_at-returns-in_err-else_branch : goal.branches_at-returns-in_err-else_branch
-branches_at-returns-in_err-else_branch u c =
-    let r = c.from_residual-in_err-else_branch in
-    out c.args.source.now c.args.depth branches_row c.args.at branches_derivation r.result c.in_err-else_branch.field-0.0 r.ensures.1
-    (past_mark c.in_ok-next.ensures (past_part c.in_ok-then_branch.ensures (rest c.in_err-else_branch.ensures)))
-
-pub branches_at-returns : goal.branches_at-returns
-branches_at-returns u c =
-    let ws = c.args.source.now in
-    let d = c.args.depth in
-    let i = c.args.at in
-    let w1 = past (along d i branches_row c.requires.within) (marked c.in_ok-next.ensures) in
-    let w2 = past w1 (once c.in_ok-then_branch.ensures) in
-    left w2 (branch_derivation branch.Else c.in_ok-else_branch.else_branch) c.in_ok-else_branch.ensures _ refl
-
-pub boxed_statement-returns-in_err-inner : goal.boxed_statement-returns-in_err-inner
-boxed_statement-returns-in_err-inner u c =
-    let r = c.from_residual in
-    exit (λ r. GivesPart c.args.source.now c.args.depth g.Statement c.args.at (λ b. statement_derivation b.value) r) r.result c.in_err-inner.field-0.0 r.ensures.1 c.in_err-inner.ensures
-
-pub boxed_statement-returns : goal.boxed_statement-returns
-boxed_statement-returns u c =
-    subst (λ z. ReadsPart c.args.source.now c.args.depth g.Statement c.args.at (statement_derivation z) c.in_ok-inner.end) (sym c.in_ok-new.ensures.ok) c.in_ok-inner.ensures
+    left w4 (branch_derivation branch.Else o) c.in_ok-else_branch.ensures (statement_derivation (s.If n e a o)) (if_derivation n e c.in_ok-first.first a o c.in_ok-then_branch.ensures.ok)
 
 pub optional_branch-eat-requires-clause-no_end : goal.optional_branch-eat-requires-clause-no_end
 optional_branch-eat-requires-clause-no_end u c = ap (is k.EndOfSource) c.word.ensures ∙ branch_no_end c.args.branch
@@ -146,7 +130,10 @@ optional_branch-returns u c =
     let m0 = opened ws d i (branch_part b) (Mark (branch_word b) ∷ one g.Statement) (branch_uncounted b) (branch_row b (kind_at ws i) true h) c.requires.within in
     let m1 = to m0 (marked (h, w.1, w.2)) in
     let m2 = to m1 (once c.in_ok-body.ensures) in
-    all (past (along d i (Of Maybe (branch_part b) ∷ []) c.requires.within) (maybe (gone m2 (node g.Statement (statement_derivation c.in_ok-body.body.value) done) refl))) (branch_derivation b (Some c.in_ok-body.body)) refl
+    let x = c.in_ok-body.body in
+    let a = c.in_ok-new.field-0 in
+    all (past (along d i (Of Maybe (branch_part b) ∷ []) c.requires.within) (maybe (gone m2 (node g.Statement (statement_derivation x) done) refl))) (branch_derivation b (Some a))
+    (ap (λ z. node (branch_part b) (node g.Statement (statement_derivation z) done) done) (sym c.in_ok-new.ensures.ok))
 
 pub while_statement-returns-in_err-next : goal.while_statement-returns-in_err-next
 while_statement-returns-in_err-next u c =
@@ -160,6 +147,12 @@ while_statement-returns-in_err-condition u c =
     out c.args.source.now c.args.depth while_row c.args.at statement_derivation r.result c.in_err-condition.field-0.0 r.ensures.1
     (past_kept c.in_ok-next.ensures (here_part c.in_err-condition.ensures))
 
+pub while_statement-returns-in_err-body : goal.while_statement-returns-in_err-body
+while_statement-returns-in_err-body u c =
+    let r = c.from_residual-in_err-body in
+    out c.args.source.now c.args.depth while_row c.args.at statement_derivation r.result c.in_err-body.field-0.0 r.ensures.1
+    (past_kept c.in_ok-next.ensures (past_part c.in_ok-condition.ensures.1 (rest c.in_err-body.ensures)))
+
 pub while_statement-returns : goal.while_statement-returns
 while_statement-returns u c =
     let ws = c.args.source.now in
@@ -170,24 +163,24 @@ while_statement-returns u c =
     let w1 = past w0 (kept n.0 c.token_no-token.ensures (took_one ws i c.in_ok-next.next k.While refl c.in_ok-next.ensures)) in
     let w2 = past w1 (once c.in_ok-condition.ensures.1) in
     let e = c.in_ok-condition.condition in
-    mapped (GivesAll ws d body_row c.in_ok-condition.next body_derivation) (GivesAll ws d while_row i statement_derivation) (λ b. (s.While n e b.0, b.1)) c.body_behind_do.result c.map.result c.map.ensures.cases c.body_behind_do.ensures
-    (λ b y made. search rules) (λ b h. left w2 (body_derivation b.0) h _ (sym (derivation-While n e b.0))) (λ x h. along-ends w2 x h)
+    let a = c.in_ok-body-2.body in
+    left w2 (node g.Statement (statement_derivation c.in_ok-body.body) done) c.in_ok-body.ensures (statement_derivation (s.While n e a)) (while_derivation n e c.in_ok-body.body a c.in_ok-body-2.ensures.ok)
 
-pub body_behind_do-returns-in_err-next : goal.body_behind_do-returns-in_err-next
-body_behind_do-returns-in_err-next u c =
+pub body-returns-in_err-next : goal.body-returns-in_err-next
+body-returns-in_err-next u c =
     let r = c.from_residual in
-    out c.args.source.now c.args.depth body_row c.args.at body_derivation r.result c.in_err-next.field-0.0 r.ensures.1
+    out c.args.source.now c.args.depth body_row c.args.at (λ x. node g.Statement (statement_derivation x) done) r.result c.in_err-next.field-0.0 r.ensures.1
     (here_mark c.in_err-next.ensures)
 
-pub body_behind_do-returns : goal.body_behind_do-returns
-body_behind_do-returns u c =
+pub body-returns : goal.body-returns
+body-returns u c =
     let ws = c.args.source.now in
     let d = c.args.depth in
     let i = c.args.at in
     let w1 = past (along d i body_row c.requires.within) (marked c.in_ok-next.ensures) in
-    passed (GivesPart ws d g.Statement c.in_ok-next.next (λ b. statement_derivation b.value)) (GivesAll ws d body_row i body_derivation)
-    (λ b h. all (past w1 (once h)) (body_derivation b.0) refl) (λ e h. along-ends w1 e h)
-    c.boxed_statement.result c.boxed_statement.ensures
+    passed (GivesPart ws d g.Statement c.in_ok-next.next statement_derivation) (GivesAll ws d body_row i (λ x. node g.Statement (statement_derivation x) done))
+    (λ x h. all (past w1 (once h)) (node g.Statement (statement_derivation x.0) done) refl) (λ e h. along-ends w1 e h)
+    c.statement.result c.statement.ensures
 
 pub for_statement-returns-in_err-next : goal.for_statement-returns-in_err-next
 for_statement-returns-in_err-next u c =
@@ -383,23 +376,24 @@ for_statement-returns u c =
     let w2 = past w1 (c.in_ok-variable.ensures d) in
     let w3 = past w2 (once c.in_ok-list.ensures) in
     let x = c.in_ok-variable.variable in
-    let a = c.in_ok-body.body in
-    let m = c.match-list-2.statement in
-    let made : bare_leaf n.0 k.For (identifier x (node g.ForList (for_list_derivation c.in_ok-list.list) (body_derivation a))) ≡ statement_derivation m = elim c.match-list-2.branch [
+    let y = c.in_ok-body.body in
+    let a = c.in_ok-body-2.body in
+    let m = c.match-list-3.statement in
+    let made : bare_leaf n.0 k.For (identifier x (node g.ForList (for_list_derivation c.in_ok-list.list) (node g.Statement (statement_derivation y) done))) ≡ statement_derivation m = elim c.match-list-3.branch [
       | for_statement-in-Values w ↦
-          ap (λ z. bare_leaf n.0 k.For (identifier x (node g.ForList (for_list_derivation z) (body_derivation a)))) w.in-Values.is
-          ∙ sym (derivation-For n x w.in-Values.sign w.in-Values.elements a) ∙ ap statement_derivation (sym w.statement-is)
+          ap (λ z. bare_leaf n.0 k.For (identifier x (node g.ForList (for_list_derivation z) (node g.Statement (statement_derivation y) done)))) w.in-Values.is
+          ∙ for_derivation n x w.in-Values.sign w.in-Values.elements y a c.in_ok-body-2.ensures.ok ∙ ap statement_derivation (sym w.statement-is)
       | for_statement-in-References w ↦
-          ap (λ z. bare_leaf n.0 k.For (identifier x (node g.ForList (for_list_derivation z) (body_derivation a)))) w.in-References.is
-          ∙ sym (derivation-ForReference n x w.in-References.sign w.in-References.elements a) ∙ ap statement_derivation (sym w.statement-is)
+          ap (λ z. bare_leaf n.0 k.For (identifier x (node g.ForList (for_list_derivation z) (node g.Statement (statement_derivation y) done)))) w.in-References.is
+          ∙ for_reference_derivation n x w.in-References.sign w.in-References.elements y a c.in_ok-body-2.ensures.ok ∙ ap statement_derivation (sym w.statement-is)
     ] in
-    left w3 (body_derivation a) c.in_ok-body.ensures (statement_derivation m) made
+    left w3 (node g.Statement (statement_derivation y) done) c.in_ok-body.ensures (statement_derivation m) made
 
 pub for_statement-for_list-requires-clause-within : goal.for_statement-for_list-requires-clause-within
 for_statement-for_list-requires-clause-within u c = (c.in_ok-variable.ensures 0).within
 
-pub for_statement-body_behind_do-requires : goal.for_statement-body_behind_do-requires
-for_statement-body_behind_do-requires u c =
+pub for_statement-body-requires : goal.for_statement-body-requires
+for_statement-body-requires u c =
     let q = c.in_ok-list.ensures in
     (omega (arith, c.decreases), (q.within, c.requires.shallow))
 
@@ -417,26 +411,20 @@ inspect_statement-returns-in_err-next = inspections.inspect_statement-returns-in
 pub inspect_statement-returns-in_err-object : goal.inspect_statement-returns-in_err-object
 inspect_statement-returns-in_err-object = inspections.inspect_statement-returns-in_err-object
 
+pub inspect_statement-returns-in_err-connection : goal.inspect_statement-returns-in_err-connection
+inspect_statement-returns-in_err-connection = inspections.inspect_statement-returns-in_err-connection
+
+pub inspect_statement-returns-in_err-otherwise : goal.inspect_statement-returns-in_err-otherwise
+inspect_statement-returns-in_err-otherwise = inspections.inspect_statement-returns-in_err-otherwise
+
 pub inspect_statement-returns-then-eq : goal.inspect_statement-returns-then-eq
 inspect_statement-returns-then-eq = inspections.inspect_statement-returns-then-eq
 
-pub inspection_at-returns-in_err-connection : goal.inspection_at-returns-in_err-connection
-inspection_at-returns-in_err-connection = inspections.inspection_at-returns-in_err-connection
+pub inspect_statement-returns-in_err-arms : goal.inspect_statement-returns-in_err-arms
+inspect_statement-returns-in_err-arms = inspections.inspect_statement-returns-in_err-arms
 
-pub inspection_at-returns-in_err-otherwise : goal.inspection_at-returns-in_err-otherwise
-inspection_at-returns-in_err-otherwise = inspections.inspection_at-returns-in_err-otherwise
-
-pub inspection_at-returns : goal.inspection_at-returns
-inspection_at-returns = inspections.inspection_at-returns
-
-pub inspection_by_class_at-returns-in_err-arms : goal.inspection_by_class_at-returns-in_err-arms
-inspection_by_class_at-returns-in_err-arms = inspections.inspection_by_class_at-returns-in_err-arms
-
-pub inspection_by_class_at-returns-in_err-otherwise : goal.inspection_by_class_at-returns-in_err-otherwise
-inspection_by_class_at-returns-in_err-otherwise = inspections.inspection_by_class_at-returns-in_err-otherwise
-
-pub inspection_by_class_at-returns : goal.inspection_by_class_at-returns
-inspection_by_class_at-returns = inspections.inspection_by_class_at-returns
+pub inspect_statement-returns-in_err-otherwise-2 : goal.inspect_statement-returns-in_err-otherwise-2
+inspect_statement-returns-in_err-otherwise-2 = inspections.inspect_statement-returns-in_err-otherwise-2
 
 pub inspect_statement-returns : goal.inspect_statement-returns
 inspect_statement-returns = inspections.inspect_statement-returns
@@ -510,6 +498,9 @@ declaration-returns-in_err-next = declarations.declaration-returns-in_err-next
 pub declaration-returns-in_err-class : goal.declaration-returns-in_err-class
 declaration-returns-in_err-class = declarations.declaration-returns-in_err-class
 
+pub declaration-returns-in_err-end : goal.declaration-returns-in_err-end
+declaration-returns-in_err-end = declarations.declaration-returns-in_err-end
+
 pub declaration-returns-in-Some : goal.declaration-returns-in-Some
 declaration-returns-in-Some = declarations.declaration-returns-in-Some
 
@@ -518,6 +509,9 @@ declaration-returns-then-not-begins_declaration = declarations.declaration-retur
 
 pub declaration-returns-in_err-declared : goal.declaration-returns-in_err-declared
 declaration-returns-in_err-declared = declarations.declaration-returns-in_err-declared
+
+pub declaration-returns-in_err-end-2 : goal.declaration-returns-in_err-end-2
+declaration-returns-in_err-end-2 = declarations.declaration-returns-in_err-end-2
 
 pub declaration-returns : goal.declaration-returns
 declaration-returns = declarations.declaration-returns
@@ -540,8 +534,14 @@ plain_declaration-returns-in_err-name = declarations.plain_declaration-returns-i
 pub plain_declaration-returns : goal.plain_declaration-returns
 plain_declaration-returns = declarations.plain_declaration-returns
 
+pub typed_declaration-returns-in_err-procedure : goal.typed_declaration-returns-in_err-procedure
+typed_declaration-returns-in_err-procedure = declarations.typed_declaration-returns-in_err-procedure
+
 pub typed_declaration-returns-in-Some : goal.typed_declaration-returns-in-Some
 typed_declaration-returns-in-Some = declarations.typed_declaration-returns-in-Some
+
+pub typed_declaration-returns-in_err-segments : goal.typed_declaration-returns-in_err-segments
+typed_declaration-returns-in_err-segments = declarations.typed_declaration-returns-in_err-segments
 
 pub typed_declaration-returns-in-Some-eat : goal.typed_declaration-returns-in-Some-eat
 typed_declaration-returns-in-Some-eat = declarations.typed_declaration-returns-in-Some-eat
@@ -549,20 +549,20 @@ typed_declaration-returns-in-Some-eat = declarations.typed_declaration-returns-i
 pub typed_declaration-returns-in_err-expect : goal.typed_declaration-returns-in_err-expect
 typed_declaration-returns-in_err-expect = declarations.typed_declaration-returns-in_err-expect
 
+pub typed_declaration-returns-in_err-variables : goal.typed_declaration-returns-in_err-variables
+typed_declaration-returns-in_err-variables = declarations.typed_declaration-returns-in_err-variables
+
 pub typed_declaration-returns : goal.typed_declaration-returns
 typed_declaration-returns = declarations.typed_declaration-returns
-
-pub ended_body-returns-in_err-statement : goal.ended_body-returns-in_err-statement
-ended_body-returns-in_err-statement = declarations.ended_body-returns-in_err-statement
-
-pub ended_body-returns : goal.ended_body-returns
-ended_body-returns = declarations.ended_body-returns
 
 pub procedure-returns-in_err-name : goal.procedure-returns-in_err-name
 procedure-returns-in_err-name = declarations.procedure-returns-in_err-name
 
 pub procedure-returns-in_err-heading : goal.procedure-returns-in_err-heading
 procedure-returns-in_err-heading = declarations.procedure-returns-in_err-heading
+
+pub procedure-returns-in_err-body : goal.procedure-returns-in_err-body
+procedure-returns-in_err-body = declarations.procedure-returns-in_err-body
 
 pub procedure-returns : goal.procedure-returns
 procedure-returns = declarations.procedure-returns
@@ -578,6 +578,9 @@ class-returns-in_err-protections = declarations.class-returns-in_err-protections
 
 pub class-returns-in_err-virtuals : goal.class-returns-in_err-virtuals
 class-returns-in_err-virtuals = declarations.class-returns-in_err-virtuals
+
+pub class-returns-in_err-body : goal.class-returns-in_err-body
+class-returns-in_err-body = declarations.class-returns-in_err-body
 
 pub class-returns : goal.class-returns
 class-returns = declarations.class-returns
@@ -633,8 +636,8 @@ procedure-heading_at-requires = declarations.procedure-heading_at-requires
 pub class-heading_at-requires : goal.class-heading_at-requires
 class-heading_at-requires = declarations.class-heading_at-requires
 
-pub procedure-ended_body-requires : goal.procedure-ended_body-requires
-procedure-ended_body-requires = declarations.procedure-ended_body-requires
+pub procedure-statement-requires : goal.procedure-statement-requires
+procedure-statement-requires = declarations.procedure-statement-requires
 
 pub class-protections-requires : goal.class-protections-requires
 class-protections-requires = declarations.class-protections-requires
@@ -642,5 +645,5 @@ class-protections-requires = declarations.class-protections-requires
 pub class-virtuals-requires : goal.class-virtuals-requires
 class-virtuals-requires = declarations.class-virtuals-requires
 
-pub class-ended_body-requires : goal.class-ended_body-requires
-class-ended_body-requires = declarations.class-ended_body-requires
+pub class-statement-requires : goal.class-statement-requires
+class-statement-requires = declarations.class-statement-requires

@@ -19,46 +19,46 @@ abbrev pub decreases-when_arms : goal.decreases-when_arms
 decreases-when_arms l = calls_left calls l.depth 3
 
 abbrev pub decreases-procedure : goal.decreases-procedure
-decreases-procedure l = calls_left calls l.depth 3
+decreases-procedure l = calls_left calls l.depth 1
 
 abbrev pub decreases-class : goal.decreases-class
-decreases-class l = calls_left calls l.depth 3
+decreases-class l = calls_left calls l.depth 1
 
 abbrev pub decreases-typed_declaration : goal.decreases-typed_declaration
-decreases-typed_declaration l = calls_left calls l.depth 4
+decreases-typed_declaration l = calls_left calls l.depth 2
 
 abbrev pub decreases-plain_declaration : goal.decreases-plain_declaration
-decreases-plain_declaration l = calls_left calls l.depth 5
+decreases-plain_declaration l = calls_left calls l.depth 3
 
 abbrev pub decreases-declaration : goal.decreases-declaration
-decreases-declaration l = calls_left calls l.depth 6
+decreases-declaration l = calls_left calls l.depth 4
 
 abbrev pub decreases-declarations : goal.decreases-declarations
-decreases-declarations l = calls_left calls l.depth 7
+decreases-declarations l = calls_left calls l.depth 5
 
 abbrev pub decreases-compound : goal.decreases-compound
-decreases-compound l = calls_left calls l.depth 8
+decreases-compound l = calls_left calls l.depth 6
 
 abbrev pub decreases-block_statement : goal.decreases-block_statement
-decreases-block_statement l = calls_left calls l.depth 9
+decreases-block_statement l = calls_left calls l.depth 7
 
 abbrev pub decreases-identified_statement : goal.decreases-identified_statement
-decreases-identified_statement l = calls_left calls l.depth 9
+decreases-identified_statement l = calls_left calls l.depth 7
 
 abbrev pub decreases-if_statement : goal.decreases-if_statement
-decreases-if_statement l = calls_left calls l.depth 4
+decreases-if_statement l = calls_left calls l.depth 2
 
 abbrev pub decreases-while_statement : goal.decreases-while_statement
-decreases-while_statement l = calls_left calls l.depth 3
+decreases-while_statement l = calls_left calls l.depth 2
 
 abbrev pub decreases-for_statement : goal.decreases-for_statement
-decreases-for_statement l = calls_left calls l.depth 3
+decreases-for_statement l = calls_left calls l.depth 2
 
 abbrev pub decreases-inspect_statement : goal.decreases-inspect_statement
-decreases-inspect_statement l = calls_left calls l.depth 5
+decreases-inspect_statement l = calls_left calls l.depth 4
 
 abbrev pub decreases-begun_statement : goal.decreases-begun_statement
-decreases-begun_statement l = calls_left calls l.depth 10
+decreases-begun_statement l = calls_left calls l.depth 8
 
 abbrev pub decreases-statement : goal.decreases-statement
 decreases-statement l = calls_left calls l.depth 0
@@ -69,26 +69,11 @@ decreases-statements l = calls_left calls l.depth 1
 abbrev pub decreases-sequence_at : goal.decreases-sequence_at
 decreases-sequence_at l = calls_left calls l.depth 2
 
-abbrev pub decreases-boxed_statement : goal.decreases-boxed_statement
-decreases-boxed_statement l = calls_left calls l.depth 1
-
-abbrev pub decreases-body_behind_do : goal.decreases-body_behind_do
-decreases-body_behind_do l = calls_left calls l.depth 2
-
-abbrev pub decreases-ended_body : goal.decreases-ended_body
-decreases-ended_body l = calls_left calls l.depth 2
-
-abbrev pub decreases-branches_at : goal.decreases-branches_at
-decreases-branches_at l = calls_left calls l.depth 3
-
-abbrev pub decreases-inspection_at : goal.decreases-inspection_at
-decreases-inspection_at l = calls_left calls l.depth 3
-
-abbrev pub decreases-inspection_by_class_at : goal.decreases-inspection_by_class_at
-decreases-inspection_by_class_at l = calls_left calls l.depth 4
+abbrev pub decreases-body : goal.decreases-body
+decreases-body l = calls_left calls l.depth 1
 
 abbrev pub decreases-optional_branch : goal.decreases-optional_branch
-decreases-optional_branch l = calls_left calls l.depth 2
+decreases-optional_branch l = calls_left calls l.depth 1
 
 abbrev pub invariant-statements-loop-next : goal.invariant-statements-loop-next
 invariant-statements-loop-next l = record {

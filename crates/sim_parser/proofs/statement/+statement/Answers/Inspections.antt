@@ -1,21 +1,20 @@
 -- Connections and their arms.
-use Rattle.std.proofs.Common.{true, false, [], refl, map, sym, ap, ◌∙◌, arith, rules}
+use Rattle.std.proofs.Common.{true, false, [], refl, map, sym, ap, ◌∙◌, arith}
 use Rattle.sim_base.specs.declared.token.TokenKind.TheVariants as k
 use Rattle.sim_expr_parser.proofs.Steps.{exit, kept, once, opened, stops-at, to, row-end, row-more, row-start, row-stops}
 use Rattle.sim_expr_parser.proofs.Tables.{by_test, just_is, one_row}
 use Rattle.sim_expr_parser.proofs.Tokens.{made_is, took_one}
 use Rattle.sim_parser.proofs.Exits.{here, here_kept, here_part, out, out_part, past_kept, past_part, past_to, rest}
-use Rattle.sim_parser.proofs.Along.{all, along, along-ends, closed-by, left, past}
+use Rattle.sim_parser.proofs.Along.{all, along, along-ends, along-stops, closed-by, left, past}
 use Rattle.sim_parser.proofs.BlockShapes.{inspect_derivation, inspect_when_derivation}
 use Rattle.sim_parser.proofs.BlockSteps.{at_place, many_of_one, many_reads, many_stops, part_ahead, unexpected}
 use Rattle.sim_parser.proofs.BlockTables.{arm_row, arms_do, arms_row, arms_when, no_arms, no_do}
-use Rattle.sim_parser.proofs.Mapped.{mapped}
-use Rattle.sim_parser.specs.Parsing.{GivesAll, GivesPart, connection_row, connection_derivation, branch_derivation, inspect_row, inspection_by_class_derivation, inspection_derivation, inspection_row}
+use Rattle.sim_parser.specs.Parsing.{GivesAll, GivesPart, connection_row, connection_derivation, branch_derivation, inspect_row}
 use Rattle.sim_parser.specs.declared.statement.Branch.TheVariants as branch
 use Rattle.sim_tree.proofs.StatementLemmas.{derivation-when}
 use Rattle.sim_tree.specs.Grammar as g
 use Rattle.sim_tree.specs.Grammar.{Once, is, just}
-use Rattle.sim_tree.specs.Reading.{bare_leaf, done, kind_at, node, place, reads-done}
+use Rattle.sim_tree.specs.Reading.{done, kind_at, reads-done}
 use Rattle.sim_tree.specs.Derivation.{row}
 use Rattle.sim_tree.specs.ProgramDerivation.{statement_derivation, when_derivation}
 use Rattle.sim_tree.specs.declared.stmt.Stmt.TheVariants as s
@@ -33,6 +32,39 @@ inspect_statement-returns-in_err-object u c =
     out c.args.source.now c.args.depth inspect_row c.args.at statement_derivation r.result c.in_err-object.field-0.0 r.ensures.1
     (past_kept c.in_ok-next.ensures (here_part c.in_err-object.ensures))
 
+pub inspect_statement-returns-in_err-connection : goal.inspect_statement-returns-in_err-connection
+inspect_statement-returns-in_err-connection u c =
+    let ws = c.args.source.now in
+    let d = c.args.depth in
+    let i = c.args.at in
+    let w0 = along d i inspect_row c.requires.within in
+    let w1 = past w0 (kept i refl (took_one ws i c.in_ok-next.next k.Inspect refl c.in_ok-next.ensures)) in
+    let w2 = past w1 (once c.in_ok-object.ensures.1) in
+    let j = c.in_ok-object.next in
+    let h = ap (λ z. is z k.Do) (sym c.kind_at.ensures) ∙ made_is _ _ true c.if-eq.ensures in
+    let m0 = opened ws d j g.Arms connection_row refl (by_test g.Arms (kind_at ws j) k.Do connection_row h arms_do) w2.within in
+    let e = c.in_err-connection.field-0.0 in
+    let r = c.from_residual-in_err-connection in
+    exit (λ r. GivesAll ws d inspect_row i statement_derivation r) r.result e r.ensures.1
+    (along-stops w2 e (stops-at Once m0 e c.in_err-connection.ensures))
+
+pub inspect_statement-returns-in_err-otherwise : goal.inspect_statement-returns-in_err-otherwise
+inspect_statement-returns-in_err-otherwise u c =
+    let ws = c.args.source.now in
+    let d = c.args.depth in
+    let i = c.args.at in
+    let w0 = along d i inspect_row c.requires.within in
+    let w1 = past w0 (kept i refl (took_one ws i c.in_ok-next.next k.Inspect refl c.in_ok-next.ensures)) in
+    let w2 = past w1 (once c.in_ok-object.ensures.1) in
+    let j = c.in_ok-object.next in
+    let h = ap (λ z. is z k.Do) (sym c.kind_at.ensures) ∙ made_is _ _ true c.if-eq.ensures in
+    let m0 = opened ws d j g.Arms connection_row refl (by_test g.Arms (kind_at ws j) k.Do connection_row h arms_do) w2.within in
+    let w3 = past w2 (once (closed-by m0 (connection_derivation c.in_ok-connection.connection) c.in_ok-connection.ensures (connection_derivation c.in_ok-connection.connection) refl)) in
+    let e = c.in_err-otherwise.field-0.0 in
+    let r = c.from_residual-in_err-otherwise in
+    exit (λ r. GivesAll ws d inspect_row i statement_derivation r) r.result e r.ensures.1
+    (along-ends w3 e c.in_err-otherwise.ensures)
+
 pub inspect_statement-returns-then-eq : goal.inspect_statement-returns-then-eq
 inspect_statement-returns-then-eq u c =
     let ws = c.args.source.now in
@@ -42,9 +74,27 @@ inspect_statement-returns-then-eq u c =
     let w0 = along d i inspect_row c.requires.within in
     let w1 = past w0 (kept n.0 c.token_no-token.ensures (took_one ws i c.in_ok-next.next k.Inspect refl c.in_ok-next.ensures)) in
     let w2 = past w1 (once c.in_ok-object.ensures.1) in
+    let j = c.in_ok-object.next in
+    let h = ap (λ z. is z k.Do) (sym c.kind_at.ensures) ∙ made_is _ _ true c.if-eq.ensures in
+    let m0 = opened ws d j g.Arms connection_row refl (by_test g.Arms (kind_at ws j) k.Do connection_row h arms_do) w2.within in
+    let w3 = past w2 (once (closed-by m0 (connection_derivation c.in_ok-connection.connection) c.in_ok-connection.ensures (connection_derivation c.in_ok-connection.connection) refl)) in
+    let a = c.in_ok-body.body in
+    let o = c.in_ok-otherwise.otherwise in
     let x = c.in_ok-object.object in
-    mapped (GivesAll ws d inspection_row c.in_ok-object.next inspection_derivation) (GivesAll ws d inspect_row i statement_derivation) (λ r. (s.Inspect n x r.0.opening r.0.body r.0.end r.0.otherwise, r.1)) c.inspection_at.result c.map.result c.map.ensures.cases c.inspection_at.ensures
-    (λ r y made. search rules) (λ r h. left w2 (inspection_derivation r.0) h _ (inspect_derivation n x r.0.opening r.0.body r.0.end r.0.otherwise)) (λ e h. along-ends w2 e h)
+    let b = c.in_ok-connection.connection in
+    left w3 (branch_derivation branch.Otherwise o) c.in_ok-otherwise.ensures (statement_derivation (s.Inspect n x b.opening a b.end o)) (inspect_derivation n x b.opening b.body b.end a o c.in_ok-body.ensures.ok)
+
+pub inspect_statement-returns-in_err-arms : goal.inspect_statement-returns-in_err-arms
+inspect_statement-returns-in_err-arms u c =
+    let r = c.from_residual-in_err-arms in
+    out c.args.source.now c.args.depth inspect_row c.args.at statement_derivation r.result c.in_err-arms.field-0.0 r.ensures.1
+    (past_kept c.in_ok-next.ensures (past_part c.in_ok-object.ensures.1 (here_part c.in_err-arms.ensures)))
+
+pub inspect_statement-returns-in_err-otherwise-2 : goal.inspect_statement-returns-in_err-otherwise-2
+inspect_statement-returns-in_err-otherwise-2 u c =
+    let r = c.from_residual-in_err-otherwise-2 in
+    out c.args.source.now c.args.depth inspect_row c.args.at statement_derivation r.result c.in_err-otherwise-2.field-0.0 r.ensures.1
+    (past_kept c.in_ok-next.ensures (past_part c.in_ok-object.ensures.1 (past_part c.in_ok-arms.ensures (rest c.in_err-otherwise-2.ensures))))
 
 pub inspect_statement-returns : goal.inspect_statement-returns
 inspect_statement-returns u c =
@@ -55,63 +105,11 @@ inspect_statement-returns u c =
     let w0 = along d i inspect_row c.requires.within in
     let w1 = past w0 (kept n.0 c.token_no-token.ensures (took_one ws i c.in_ok-next.next k.Inspect refl c.in_ok-next.ensures)) in
     let w2 = past w1 (once c.in_ok-object.ensures.1) in
+    let w3 = past w2 (once c.in_ok-arms.ensures) in
+    let o = c.in_ok-otherwise-2.otherwise in
     let x = c.in_ok-object.object in
-    mapped (GivesAll ws d inspection_row c.in_ok-object.next inspection_by_class_derivation) (GivesAll ws d inspect_row i statement_derivation) (λ r. (s.InspectWhen n x r.0.arms r.0.otherwise, r.1)) c.inspection_by_class_at.result c.map-2.result c.map-2.ensures.cases c.inspection_by_class_at.ensures
-    (λ r y made. search rules) (λ r h. left w2 (inspection_by_class_derivation r.0) h _ (inspect_when_derivation n x r.0.arms r.0.otherwise)) (λ e h. along-ends w2 e h)
-
-pub inspection_at-returns-in_err-connection : goal.inspection_at-returns-in_err-connection
-inspection_at-returns-in_err-connection u c =
-    let ws = c.args.source.now in
-    let d = c.args.depth in
-    let i = c.args.at in
-    let m0 = opened ws d i g.Arms connection_row refl (by_test g.Arms (kind_at ws i) k.Do connection_row c.requires.is_do arms_do) c.requires.within in
-    let e = c.in_err-connection.field-0.0 in
-    let r = c.from_residual in
-    exit (λ r. GivesAll ws d inspection_row i inspection_derivation r) r.result e r.ensures.1
-    (stops-at Once m0 e c.in_err-connection.ensures _)
-
-pub inspection_at-returns-in_err-otherwise : goal.inspection_at-returns-in_err-otherwise
-inspection_at-returns-in_err-otherwise u c =
-    let ws = c.args.source.now in
-    let d = c.args.depth in
-    let i = c.args.at in
-    let m0 = opened ws d i g.Arms connection_row refl (by_test g.Arms (kind_at ws i) k.Do connection_row c.requires.is_do arms_do) c.requires.within in
-    let f = connection_derivation c.in_ok-connection.connection in
-    let w1 = past (along d i inspection_row c.requires.within) (once (closed-by m0 f c.in_ok-connection.ensures f refl)) in
-    let e = c.in_err-otherwise.field-0.0 in
-    let r = c.from_residual-in_err-otherwise in
-    exit (λ r. GivesAll ws d inspection_row i inspection_derivation r) r.result e r.ensures.1
-    (along-ends w1 e c.in_err-otherwise.ensures)
-
-pub inspection_at-returns : goal.inspection_at-returns
-inspection_at-returns u c =
-    let ws = c.args.source.now in
-    let d = c.args.depth in
-    let i = c.args.at in
-    let m0 = opened ws d i g.Arms connection_row refl (by_test g.Arms (kind_at ws i) k.Do connection_row c.requires.is_do arms_do) c.requires.within in
-    let b = c.in_ok-connection.connection in
-    let f = connection_derivation b in
-    let w1 = past (along d i inspection_row c.requires.within) (once (closed-by m0 f c.in_ok-connection.ensures f refl)) in
-    let o = c.in_ok-otherwise.otherwise in
-    left w1 (branch_derivation branch.Otherwise o) c.in_ok-otherwise.ensures _
-    (ap (λ z. node g.Arms (bare_leaf b.opening.0 k.Do (node g.Statement (statement_derivation z) (place b.end.0 done))) (branch_derivation branch.Otherwise o)) (sym c.in_ok-body.ensures.ok))
-
-pub inspection_by_class_at-returns-in_err-arms : goal.inspection_by_class_at-returns-in_err-arms
-inspection_by_class_at-returns-in_err-arms u c =
-    let r = c.from_residual in
-    out c.args.source.now c.args.depth inspection_row c.args.at inspection_by_class_derivation r.result c.in_err-arms.field-0.0 r.ensures.1
-    (here_part c.in_err-arms.ensures)
-
-pub inspection_by_class_at-returns-in_err-otherwise : goal.inspection_by_class_at-returns-in_err-otherwise
-inspection_by_class_at-returns-in_err-otherwise u c =
-    let r = c.from_residual-in_err-otherwise in
-    out c.args.source.now c.args.depth inspection_row c.args.at inspection_by_class_derivation r.result c.in_err-otherwise.field-0.0 r.ensures.1
-    (past_part c.in_ok-arms.ensures (rest c.in_err-otherwise.ensures))
-
-pub inspection_by_class_at-returns : goal.inspection_by_class_at-returns
-inspection_by_class_at-returns u c =
-    let w1 = past (along c.args.depth c.args.at inspection_row c.requires.within) (once c.in_ok-arms.ensures) in
-    left w1 (branch_derivation branch.Otherwise c.in_ok-otherwise.otherwise) c.in_ok-otherwise.ensures _ refl
+    let v = c.in_ok-arms.arms in
+    left w3 (branch_derivation branch.Otherwise o) c.in_ok-otherwise-2.ensures (statement_derivation (s.InspectWhen n x v o)) (inspect_when_derivation n x v o)
 
 pub when_arms-returns-in_err-expect : goal.when_arms-returns-in_err-expect
 when_arms-returns-in_err-expect u c =
