@@ -18,7 +18,7 @@ use Rattle.sim_lexer.specs.Signs.{sign_in, sign, signs_of_more, signs_of_one}
 use Rattle.sim_lexer.specs.Spelling.{Writes, lexeme_writes, text_writes, joined_by, joined_lexeme, neighbours, with_next}
 use Rattle.sim_lexer.specs.EndComments.{is_directive}
 use Rattle.sim_lexer.specs.Piece.{Piece, Nothing, Separator, Lexeme as LexemePiece, Quote, Fault}
-use Rattle.sim_lexer.specs.Words.{Row, is_left_out, keyword, keywords_of, look_up, of_two, of_three, of_four, of_five, of_six, of_seven, of_eight, of_nine, of_ten}
+use Rattle.sim_lexer.specs.Words.{Row, is_left_out, keyword, keywords, look_up}
 
 abbrev pub GivesNoEnd : Piece → Type 0
 GivesNoEnd Nothing = Unit {0}
@@ -44,25 +44,9 @@ looked_up [] bytes none = tt
 looked_up (row ∷ rows) bytes none =
     elim (bytes_eq bytes row.0) as (λ b. IsNoEndIf (if b then Some row.1 else look_up rows bytes)) [ true ↦ none.0 | false ↦ looked_up rows bytes none.1 ]
 
-none_of : (letters : ℕ) → HasNoEnd (keywords_of letters)
-none_of letters =
-    on (nat_eq letters 2) of_two _ (search rules) (
-    on (nat_eq letters 3) of_three _ (search rules) (
-    on (nat_eq letters 4) of_four _ (search rules) (
-    on (nat_eq letters 5) of_five _ (search rules) (
-    on (nat_eq letters 6) of_six _ (search rules) (
-    on (nat_eq letters 7) of_seven _ (search rules) (
-    on (nat_eq letters 8) of_eight _ (search rules) (
-    on (nat_eq letters 9) of_nine _ (search rules) (
-    on (nat_eq letters 10) of_ten _ (search rules) tt))))))))
-  where
-    on : (b : Bool) (here there : List Row) → HasNoEnd here → HasNoEnd there → HasNoEnd (if b then here else there)
-    on true here there yes_here yes_there = yes_here
-    on false here there yes_here yes_there = yes_there
-
 no_end-keyword : (bytes : List ℕ) → IsNoEndIf (keyword bytes)
 unfolding keyword
-no_end-keyword bytes = looked_up (keywords_of (length bytes)) bytes (none_of (length bytes))
+no_end-keyword bytes = looked_up keywords bytes (search rules)
 
 or_identifier : (kind : Option TokenKind) (bytes : List ℕ) → IsNoEndIf kind → IsNoEnd (option_map_or bare kind (named bytes)).kind
 or_identifier None bytes none = tt

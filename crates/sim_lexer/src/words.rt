@@ -93,7 +93,7 @@ static OF_NINE: [(&str, TokenKind); 4] = [
 /// The keywords of ten letters.
 static OF_TEN: [(&str, TokenKind); 1] = [("reactivate", TokenKind::Reactivate)];
 
-/// The token of a keyword in lower case, and none for any other word.
+/// The token of a keyword in lower case, and none for any other word. It is looked for among those of its length.
 #[tactic(auto, unfolding(crate::specs::Words::keyword))]
 pub(crate) fn keyword(word: &[u8]) -> Option<TokenKind>
     ensures token { result ≡ keyword word.now }
