@@ -1,5 +1,6 @@
 //! Runs the example models, in order, then runs or checks the short sources of the collections, and shows of each its name,
-//! what it writes and its status.
+//! what it writes and its status. The collections `manual`, `models` and `manual_rules` are made from the pages of the manual and from
+//! the folder of models at the top.
 //!
 //! A collection is a file of `data/` with a first line that says what is in it, and then for each source a line
 //! `== NAME` and the lines of the source. Lines behind `>> ` are the lines of its input. A line behind `>*N ` stands N times in the source.
@@ -31,7 +32,7 @@ const MODELS: [(&str, Option<&str>); 15] = [
 ];
 
 // The collections of data/ whose sources are run, in the order in which they are shown.
-const COLLECTIONS: [&str; 7] = [
+const COLLECTIONS: [&str; 9] = [
     "messages.cases",
     "programs.cases",
     "tokens.cases",
@@ -39,10 +40,12 @@ const COLLECTIONS: [&str; 7] = [
     "whole_language.cases",
     "texts.cases",
     "numbers.cases",
+    "manual.cases",
+    "models.cases",
 ];
 
 // The collections of data/ whose sources are checked, not run. They come last.
-const CHECKED: [&str; 2] = ["static_rules.cases", "class_rules.cases"];
+const CHECKED: [&str; 3] = ["static_rules.cases", "class_rules.cases", "manual_rules.cases"];
 
 fn main(rt: HostRuntime) -> io::Result<()> {
     for (name, input) in MODELS {
