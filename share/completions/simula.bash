@@ -1,0 +1,26 @@
+# Completion of simula and simula-show for bash: a command, then a source.
+_simula() {
+    local word=${COMP_WORDS[COMP_CWORD]} commands="run check" first=1
+    [ "${COMP_WORDS[0]##*/}" = simula-show ] && commands="run check explain"
+    # the launcher of a checkout knows more words
+    if [ -f "$(dirname -- "${COMP_WORDS[0]}")/crates.txt" ]; then
+        commands="run check show explain try build install version help"
+    fi
+    [ "${COMP_WORDS[1]-}" = show ] && first=2
+    COMPREPLY=()
+    if [ "$COMP_CWORD" -eq 2 ] && [ "$first" = 2 ]; then
+        mapfile -t COMPREPLY < <(compgen -W "run check" -- "$word")
+    elif [ "$COMP_CWORD" -eq 1 ]; then
+        mapfile -t COMPREPLY < <(compgen -W "$commands" -- "$word")
+    elif [ "$COMP_CWORD" -eq $((first + 1)) ]; then
+        case ${COMP_WORDS[first]} in
+            run | check | try)
+                mapfile -t COMPREPLY < <(compgen -f -X '!*.sim' -- "$word"; compgen -d -S / -- "$word")
+                ;;
+            install)
+                mapfile -t COMPREPLY < <(compgen -d -S / -- "$word")
+                ;;
+        esac
+    fi
+}
+complete -o filenames -F _simula simula simula-show

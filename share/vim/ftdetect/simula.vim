@@ -1,0 +1,2 @@
+" Sources of Simula.
+autocmd BufRead,BufNewFile *.sim setfiletype simula
