@@ -45,7 +45,11 @@ const COLLECTIONS: [&str; 9] = [
 ];
 
 // The collections of data/ whose sources are checked, not run. They come last.
-const CHECKED: [&str; 3] = ["static_rules.cases", "class_rules.cases", "manual_rules.cases"];
+const CHECKED: [&str; 3] = [
+    "static_rules.cases",
+    "class_rules.cases",
+    "manual_rules.cases",
+];
 
 fn main(rt: HostRuntime) -> io::Result<()> {
     for (name, input) in MODELS {
