@@ -1,9 +1,8 @@
 -- What is given word by word is what the parts give, each thing once at most.
 use Rattle.std.proofs.Common.{◌≡◌, ℕ, List, [], ◌∷◌, Option, Some, None, refl, sym, ◌∙◌, ap}
-use Rattle.std.specs.Prelude.{option_and_then, option_map}
-use Rattle.command_line.specs.Given.{nothing, with_part, with_parts}
-use Rattle.command_line.specs.Words.{Given, Names, Part, Request, Sets, at_most_one, files, given_by, request_with, together, values}
-use Rattle.command_line.specs.declared.options.Setting.{Setting}
+use Rattle.std.specs.Prelude.{option_and_then}
+use Rattle.command_line.specs.Given.{nothing, with_parts}
+use Rattle.command_line.specs.Words.{Given, Names, Part, Sets, at_most_one, files, given_by, request_with, together, values}
 use Rattle.command_line.specs.declared.options.Setting.TheVariants.{Storage, Ticks, InLength, OutLength}
 use Rattle.command_line.specs.declared.words.Command.{Command}
 

@@ -1,10 +1,10 @@
 -- What words give, one word further.
-use Rattle.std.proofs.Common.{◌≤◌, ◌<◌, ◌-◌, suc, get_or, take, take_all, drop, String, string_bytes, length, arith, ◌≡◌, ℕ, List, [], ◌∷◌, Option, Some, None, map, refl, sym, ◌∙◌, ap, subst}
-use Rattle.std.specs.Prelude.{option_and_then, option_map}
+use Rattle.std.proofs.Common.{◌≤◌, ◌<◌, ◌-◌, suc, get_or, take, take_all, drop, String, string_bytes, length, arith, ◌≡◌, ℕ, List, [], ◌∷◌, Option, Some, None, map, refl, sym, ◌∙◌, ap}
+use Rattle.std.specs.Prelude.{option_and_then}
 use Rattle.std.specs.declared.alloc.Global.{Global}
 use Rattle.command_line.specs.Given.{nothing, with_files, with_part, with_parts, with_value, with_words}
 use Rattle.command_line.specs.Options.{value_of}
-use Rattle.command_line.specs.Words.{Awaits, EndsOptions, Given, Gives, Kind, Names, NamesFile, Part, Request, Sets, Unknown, command_of, followed_by, kind_of, given_by, parts_by, parts_from, request_of, request_with, set_by, texts}
+use Rattle.command_line.specs.Words.{Awaits, EndsOptions, Given, Gives, Kind, Names, NamesFile, Part, Sets, Unknown, command_of, followed_by, kind_of, given_by, parts_by, parts_from, request_of, request_with, texts}
 use Rattle.command_line.specs.declared.options.Setting.{Setting}
 use Rattle.command_line.specs.declared.words.Command.{Command}
 use Rattle.command_line.proofs.GivenOnce.{request_of_parts}

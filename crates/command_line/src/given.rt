@@ -62,7 +62,11 @@ fn with_words<'a>(
         None => match kind_of(word) {
             Kind::EndsOptions => given.with_files(rest),
             Kind::NamesFile => with_words(given.with_file(word)?, None, rest),
-            Kind::Gives(setting, value) => with_words(given.with_value(setting, value)?, None, rest),
+            Kind::Gives(setting, value) => with_words(
+                given.with_value(setting, value)?,
+                None,
+                rest,
+            ),
             Kind::Awaits(setting) => with_words(given, Some(setting), rest),
             Kind::Unknown => None,
         },

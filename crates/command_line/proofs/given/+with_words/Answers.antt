@@ -1,4 +1,4 @@
-use Rattle.std.proofs.Common.{◌≡◌, ◌∙◌, ◌-◌, None, List, length, take, drop, string_bytes, option_map, arith}
+use Rattle.std.proofs.Common.{◌≡◌, ◌∙◌, ◌-◌, None, length, take, drop, string_bytes, option_map, arith}
 use Rattle.std.proofs.lemmas.Grind.{common_steps}
 use Rattle.command_line.specs.Given.{held}
 use Rattle.command_line.specs.Words.{texts}
@@ -18,8 +18,8 @@ returns-in_err-with_value-in-Gives most c =
     let kind = rw c.as_str-word.ensures.value at c.in-Gives.ensures in
     let gone : option_map held c.from_residual-in_err-with_value-in-Gives.result ≡ None = grind (arith, common_steps, c.from_residual-in_err-with_value-in-Gives.ensures) in
     gone ∙ rw (c.in-None-awaited.is, front)
-        (gives_none (held c.args.given) c.in-Gives.setting c.in-Gives.value.now (string_bytes c.word-item.result) (texts (take (length words - 1) (drop 1 words))) kind
-        (rw c.in_err-with_value-in-Gives.was at c.with_value-in-Gives.ensures))
+    (gives_none (held c.args.given) c.in-Gives.setting c.in-Gives.value.now (string_bytes c.word-item.result) (texts (take (length words - 1) (drop 1 words))) kind
+    (rw c.in_err-with_value-in-Gives.was at c.with_value-in-Gives.ensures))
 
 pub returns-in_ok-with_value-in-Some-awaited : goal.returns-in_ok-with_value-in-Some-awaited
 returns-in_ok-with_value-in-Some-awaited most c =

@@ -1,4 +1,4 @@
-use Rattle.std.proofs.Common.{◌≡◌, ◌∙◌, ◌-◌, None, Some, List, length, take, drop, string_bytes, option_map, arith}
+use Rattle.std.proofs.Common.{◌≡◌, ◌∙◌, ◌-◌, None, Some, length, take, drop, string_bytes, option_map, arith}
 use Rattle.std.proofs.lemmas.Grind.{common_steps}
 use Rattle.command_line.specs.Given.{asked, held}
 use Rattle.command_line.specs.Words.{texts}
@@ -11,9 +11,9 @@ returns-in_err-given c =
     let front = texts_front words c.word-item.result _ c.in-len1-up.len_at_least c.word-item.is in
     let gone : option_map asked c.from_residual-in_err-given.result ≡ None = grind (arith, common_steps, c.from_residual-in_err-given.ensures) in
     gone ∙ rw front
-        (request_words (string_bytes c.word-item.result) (texts (take (length words - 1) (drop 1 words))) (Some c.in_ok-command.command) None
-        (rw c.as_str.ensures.value at (rw c.in_ok-command.was at c.command_of.ensures))
-        (rw c.in_err-given.was at c.given_by.ensures))
+    (request_words (string_bytes c.word-item.result) (texts (take (length words - 1) (drop 1 words))) (Some c.in_ok-command.command) None
+    (rw c.as_str.ensures.value at (rw c.in_ok-command.was at c.command_of.ensures))
+    (rw c.in_err-given.was at c.given_by.ensures))
 
 pub returns : goal.returns
 returns c =
