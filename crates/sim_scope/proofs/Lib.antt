@@ -12,3 +12,5 @@ pub mod Declarations
 pub mod Alongs
 pub mod Steps
 pub mod LevelsLeft
+pub mod Quiet
+pub mod BodiesOfTables

@@ -1,10 +1,13 @@
 -- What the definitions of scopes mean, in relations that do not compute.
 use Rattle.std.specs.Prelude.{◌≡◌, ◌<◌, ◌≤◌, ℕ, nat_eq, ◌&&◌, List, [], ◌∷◌, ◌++◌, if◌then◌else◌, Option, Some, None, slice_get}
 use Rattle.sim_base.specs.declared.numbering.DeclNo.{DeclNo}
+use Rattle.sim_tree.specs.declared.expr.Identifier.{Identifier}
 use Rattle.sim_scope.specs.declared.scopes.Declaration.{Declaration}
+use Rattle.sim_scope.specs.declared.types.BlockKind.{BlockKind}
 use Rattle.sim_scope.specs.Building.{Mark, Opens, Closes, Declares, DeclaresProcedure, DeclaresClass, Parameter, Moded, Specified, Headed, Qualifies, Prefixes, Brings, Provides, Protects, Inner, Breaks}
 use Rattle.sim_scope.specs.Scopes.{outward, shown}
 use Rattle.sim_scope.specs.Access.{around}
+use Rattle.sim_scope.specs.Bodies.{Body}
 use Rattle.sim_scope.specs.Tables.{BlockOf, Tables}
 
 -- A declaration is that of the innermost block, from one outward, that shows a name.
@@ -58,3 +61,18 @@ HasToken blocks block token = (row : BlockOf) × (slice_get blocks block ≡ Som
 abbrev pub IsPlace : List BlockOf → (token : ℕ) → Option ℕ → Type 0
 IsPlace blocks token None = (block : ℕ) → HasToken blocks block token → ⊥
 IsPlace blocks token (Some place) = HasToken blocks place token × ((block : ℕ) → HasToken blocks block token → block ≤ place)
+
+-- What is known of a body beside what it is made of, and the same of a block of the tables.
+pub record Shape : Type 0 where
+  pub kind : BlockKind
+  pub encloser : Option ℕ
+  pub level : ℕ
+  pub first : ℕ
+  pub end : ℕ
+  pub prefix : Option Identifier
+
+abbrev pub outline : Body → Shape
+outline b = record { kind = b.kind; encloser = b.encloser; level = b.level; first = b.first; end = b.end; prefix = b.prefix }
+
+abbrev pub shape_of : BlockOf → Shape
+shape_of b = record { kind = b.kind; encloser = b.encloser; level = b.level; first = b.first; end = b.end; prefix = b.prefix }

@@ -24,3 +24,5 @@ pub mod Access
 pub mod References
 pub mod Along
 pub mod ClassNames
+pub mod Bodies
+pub mod BodyExample

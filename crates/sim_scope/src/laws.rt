@@ -1,12 +1,14 @@
 //! Laws of the definitions. Each is a function that does nothing; its clause is the law.
-ghost use Rattle.std.specs.Prelude.{◌≡◌, ◌<◌, ℕ, List, None, Option, Some, length, slice_get};
+ghost use Rattle.std.specs.Prelude.{◌≡◌, ◌<◌, ℕ, List, None, Option, Some, length, map, slice_get};
 ghost use Rattle.sim_base.specs.declared.numbering.DeclNo.{DeclNo};
 ghost use Rattle.sim_tree.specs.Syntax.{Program};
 ghost use Rattle.sim_scope.specs.Access.{block_at};
+ghost use Rattle.sim_scope.specs.Bodies.{program_bodies};
+ghost use Rattle.sim_scope.specs.BodyExample.{WorkedBodies};
 ghost use Rattle.sim_scope.specs.Breaks.{broken_by};
 ghost use Rattle.sim_scope.specs.Declare.{declared_by, declaring};
 ghost use Rattle.sim_scope.specs.Found.{Event};
-ghost use Rattle.sim_scope.specs.Laws.{Innermost, IsPlace, Named, Nested, Rising};
+ghost use Rattle.sim_scope.specs.Laws.{Innermost, IsPlace, Named, Nested, Rising, outline, shape_of};
 ghost use Rattle.sim_scope.specs.Least.{IsLeast, faults, least_found};
 ghost use Rattle.sim_scope.specs.Scopes.{beyond, declaration_from, found_in, searched, shown};
 ghost use Rattle.sim_scope.specs.Tables.{Tables};
@@ -29,6 +31,18 @@ pub fn least_declared()
 pub fn tables_agree()
     ensures nested { (p : Program) → Nested (declared_by p).tables.blocks }
     ensures named { (p : Program) → Named (declared_by p).tables.blocks (declared_by p).tables.declarations }
+{}
+
+/// The blocks of the tables of a program are its bodies, number by number.
+#[tactic(auto, using(crate::proofs::BodiesOfTables::blocks_are_bodies))]
+pub fn blocks_are_bodies()
+    ensures { (p : Program) → map shape_of (declared_by p).tables.blocks ≡ map outline (program_bodies p) }
+{}
+
+/// The bodies of a small program.
+#[tactic(auto, using(crate::proofs::BodiesOfTables::worked_bodies))]
+pub fn worked_bodies()
+    ensures { WorkedBodies }
 {}
 
 /// The block of a token is the innermost one whose text has it, where the tokens of a program rise in its text and each block ends.
