@@ -7,5 +7,6 @@ pub mod Steps
 pub mod Statements
 pub mod Entries
 pub mod Meaning
+pub mod Sane
 pub mod Examples
 pub mod TextExamples

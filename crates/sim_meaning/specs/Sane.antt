@@ -1,0 +1,44 @@
+-- What the code of a program may count on at each moment of the program's run: the instance that operates lives with its enclosers, and
+-- stands at no other place of the chains.
+use Rattle.std.specs.Prelude.{◌≡◌, ⊤, ⊥, ℕ, List, [], ◌∷◌, slice_get, Option, Some, None}
+use Rattle.sim_base.specs.declared.limits.Limits.{Limits}
+use Rattle.sim_chains.specs.Components.{DetachedObject, NoObject, Standing}
+use Rattle.sim_scope.specs.Source.{Source}
+use Rattle.sim_code.specs.Outcome.{Going, World}
+use Rattle.sim_code.specs.Instances.{Instance, Memory, live}
+use Rattle.sim_meaning.specs.Meaning.{run}
+use Rattle.sim_meaning.specs.Pending.{Activation, Configuration, Instances}
+
+-- Neither an instance nor one of its enclosers was given back.
+pub data Lives {C A : Type 0} (m : Memory C A) : (instance : ℕ) → Type 0 where
+  lives_alone : {j : ℕ} {x : Instance C} → live m j ≡ Some x → x.encloser ≡ None → Lives m j
+  lives_inside : {j e : ℕ} {x : Instance C} → live m j ≡ Some x → x.encloser ≡ Some e → Lives m e → Lives m j
+
+-- All instances of a chain are of a kind.
+abbrev pub AllOf : (Of : ℕ → Type 0) → List Activation → Type 0
+AllOf Of [] = ⊤
+AllOf Of (a ∷ rest) = Of a.instance × AllOf Of rest
+
+-- All instances of the chain that a standing keeps are: the main component of a system, or the component of a detached object.
+abbrev pub KeptOf : (Of : ℕ → Type 0) → Standing Activation → Type 0
+KeptOf Of (NoObject (Some chain)) = AllOf Of chain
+KeptOf Of (DetachedObject chain) = AllOf Of chain
+KeptOf Of _ = ⊤
+
+-- All instances of all chains that are kept are.
+abbrev pub AllKept : (Of : ℕ → Type 0) → Instances → Type 0
+AllKept Of m = (j : ℕ) (x : Standing Activation) → slice_get m.standings j ≡ Some x → KeptOf Of x
+
+abbrev pub Other : (instance : ℕ) → ℕ → Type 0
+Other instance j = j ≡ instance → ⊥
+
+abbrev pub SaneOn : Instances → List Activation → Type 0
+SaneOn m [] = ⊤
+SaneOn m (a ∷ rest) = Lives m a.instance × AllOf (Other a.instance) rest × AllKept (Other a.instance) m
+
+abbrev pub Sane : Configuration → Type 0
+Sane c = SaneOn c.memory c.chain
+
+-- Each configuration that a run of the source comes to is sane.
+abbrev pub StaysSane : Source → Type 0
+StaysSane s = (l : Limits) (input : List ℕ) (n : ℕ) (o : World) (c : Configuration) → run s l input n ≡ Going o c → Sane c
