@@ -1,6 +1,6 @@
 -- What the code of a program may count on at each moment of the program's run: the instance that operates lives with its enclosers, and
 -- stands at no other place of the chains.
-use Rattle.std.specs.Prelude.{◌≡◌, ⊤, ⊥, ℕ, List, [], ◌∷◌, slice_get, Option, Some, None}
+use Rattle.std.specs.Prelude.{◌≡◌, ⊤, ℕ, List, [], ◌∷◌, slice_get, Option, Some, None}
 use Rattle.sim_base.specs.declared.limits.Limits.{Limits}
 use Rattle.sim_chains.specs.Components.{DetachedObject, NoObject, Standing}
 use Rattle.sim_scope.specs.Source.{Source}

@@ -18,9 +18,9 @@ use Rattle.sim_sound.proofs.Closing.{expr_fine}
 use Rattle.sim_sound.proofs.Reach.{reaches_around}
 use Rattle.sim_sound.proofs.Sound.{AllArrays, Begun, KeyAmong, Kinds, Value, WorkFine, array_stored, integers, keys_in, own_made, simple}
 
-module _ (s : Source) (ok : Typed s) (o : AllArrays) (m : Instances) (j k : ℕ) (all : List DeclNo) (b : Begun s o m j k all) (Below : Option Kinds → Type 0) where
+module _ (s : Source) (ok : Typed s) (o : AllArrays) (m : Instances) (j k : ℕ) (all : List DeclNo) (b : Begun s o m j k all) (Below : Option Kinds → Type 0) (Outermost : Type 0) where
   abbrev Wk : List Item → List DeclNo → List Kinds → Type 0
-  Wk w todo ks = WorkFine s o m Below j k w todo ks
+  Wk w todo ks = WorkFine s o m Below Outermost j k w todo ks
 
   -- the declarations that are still to come are this text's own
   abbrev pub AllThere : List DeclNo → Type 0

@@ -16,7 +16,7 @@ use Rattle.sim_sound.proofs.Lefts.{LeftFine, left_fine}
 reverse_first : {A : Type 0} (x : A) (xs : List A) → reverse (x ∷ xs) ≡ reverse xs ++ x ∷ []
 reverse_first x xs = reverse-append (x ∷ []) xs
 
-module _ (s : Source) (ok : Typed s) (o : AllArrays) (m : Instances) (i t : ℕ) (whole : Whole s o m i t) (Below : Option Kinds → Type 0) (k : Kind) where
+module _ (s : Source) (ok : Typed s) (o : AllArrays) (m : Instances) (i t : ℕ) (whole : Whole s o m i t) (Below : Option Kinds → Type 0) (Outermost : Type 0) (k : Kind) where
   -- the addresses that are in hand
   abbrev pub address : Target → List Kinds → List Kinds
   address (ToCell j key) ks = ks
@@ -45,7 +45,7 @@ module _ (s : Source) (ok : Typed s) (o : AllArrays) (m : Instances) (i t : ℕ)
     pub is : Lefts
     pub found : lefts s m i es ≡ Some is
     pub each : EachFine is.targets
-    pub works : (w : List Item) (ks : List Kinds) → WorkFine s o m Below i t w [] (addresses is.targets ks) → WorkFine s o m Below i t (is.work ++ w) [] ks
+    pub works : (w : List Item) (ks : List Kinds) → WorkFine s o m Below Outermost i t w [] (addresses is.targets ks) → WorkFine s o m Below Outermost i t (is.work ++ w) [] ks
 
   abbrev closed : LeftSide → Left
   closed e = close_left s m i e.sign (line_at s e.token) e.target

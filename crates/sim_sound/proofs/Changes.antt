@@ -41,6 +41,7 @@ arrays_later s o o' m bound f g = record {
   arrays = f;
   elements = g;
   own = λ j t x lt a. record { now = x; own = own_map s o o' m j t x (λ k n. f j k n lt) a; encloser = refl; made = λ todo p. p };
+  parked = λ p. p;
 }
 
 -- one array more

@@ -12,7 +12,6 @@ use Rattle.sim_scope.specs.declared.types.FormalKind.TheVariants as shape
 use Rattle.sim_scope.specs.declared.types.Mode.{Mode}
 use Rattle.sim_scope.specs.declared.types.Mode.TheVariants as mode
 use Rattle.sim_scope.specs.declared.types.SimType.{SimType}
-use Rattle.sim_scope.specs.Access.{encloser}
 use Rattle.sim_scope.specs.Scopes.{entry_of, formal_in}
 use Rattle.sim_scope.specs.Scopes as scopes
 use Rattle.sim_scope.specs.Source.{Source, block_of, denoted, line_at}

@@ -23,12 +23,12 @@ use Rattle.sim_sound.proofs.ArrayWork.{block_arrays}
 use Rattle.sim_sound.proofs.Evals.{IsFine, Work}
 use Rattle.sim_sound.proofs.FirstCells.{ActualsAre, all_taken, block_cells, block_key, formals_some, held_there, procedure_cells, taken}
 use Rattle.sim_sound.proofs.Handing.{hand_all, handed_same}
-use Rattle.sim_sound.proofs.Later.{begun_later, chain_later, hands_later, later_under, work_later}
+use Rattle.sim_sound.proofs.Later.{Later, begun_later, chain_later, hands_later, later_under, work_later}
 use Rattle.sim_sound.proofs.Lifts.{Goes, any_popped, enters, had, ran, whens}
 use Rattle.sim_sound.proofs.Lists.{append_at}
 use Rattle.sim_sound.proofs.Moves.{later_entered}
 use Rattle.sim_sound.proofs.Reach.{key_there}
-use Rattle.sim_sound.proofs.Sound.{Begun, CallOpFine, CellsFine, ChainFine, Enclosed, Fine, HandFine, HandsFine, KeyAmong, Kinds, LinkTo, Made, Own, Sight, Whole, WorkFine, alone, formal_kinds, given, held_kinds, key_of, keys_in, runs, see, within}
+use Rattle.sim_sound.proofs.Sound.{Begun, CallOpFine, CellsFine, ChainFine, Enclosed, Fine, HandFine, HandsFine, KeyAmong, Kinds, LinkTo, Made, NothingKept, Own, Sight, Whole, WorkFine, alone, formal_kinds, given, held_kinds, key_of, keys_in, runs, see, within}
 
 len_more : (xs : List (Instance (List Held))) (x : Instance (List Held)) → length (xs ++ x ∷ []) ≡ suc (length xs)
 len_more [] x = refl
@@ -41,6 +41,9 @@ module _ (s : Source) (ok : Typed s) (o : World) (sights : List Sight) (long : l
   abbrev pub now : Instances
   now = entered m made_new (NoObject None)
 
+  later_new : Later s (see sights o) m (see sights o) now (length m.instances)
+  later_new = later_entered s (see sights o) m made_new (NoObject None) tt
+
   own_new : Own s (see sights o) now (length m.instances) k made_new
   own_new = record {
     lives = ap instances.unless_given (append_at m.instances made_new);
@@ -52,19 +55,19 @@ module _ (s : Source) (ok : Typed s) (o : World) (sights : List Sight) (long : l
     cells = fine;
   }
 
-  pub begun_new : (todo : List DeclNo) → Made s k todo cells → Enclosed s (see sights o) now (length m.instances) k made_new → Begun s (see sights o) now (length m.instances) k todo
-  begun_new todo made out = record { now = made_new; own = own_new; made = made; out = out }
+  pub begun_new : NothingKept m → (todo : List DeclNo) → Made s k todo cells → Enclosed s (see sights o) now (length m.instances) k made_new → Begun s (see sights o) now (length m.instances) k todo
+  begun_new kept todo made out = record { now = made_new; own = own_new; made = made; out = out; parked = (later_new).parked kept }
 
-  pub enters_fine : (todo : List DeclNo) (b : Begun s (see sights o) now (length m.instances) k todo) (work : List Item) (rest : List Activation) → WorkFine s (see sights o) now (λ v. ChainFine s (see sights o) now (length m.instances) rest v) (length m.instances) k work todo [] → IsFine s o (record { chain = record { instance = length m.instances; work = work; values = [] } ∷ rest; memory = now })
+  pub enters_fine : (todo : List DeclNo) (b : Begun s (see sights o) now (length m.instances) k todo) (work : List Item) (rest : List Activation) → WorkFine s (see sights o) now (λ v. ChainFine s (see sights o) now (length m.instances) rest v) (rest ≡ []) (length m.instances) k work todo [] → IsFine s o (record { chain = record { instance = length m.instances; work = work; values = [] } ∷ rest; memory = now })
   enters_fine todo b work rest w = (sights, long, runs (record { before = (let n = len_more m.instances made_new in omega (arith, n)); of_text = k; todo = todo; begun = b; kinds = []; hands = tt; goes = w }))
 
   -- below it the chain stands as before
   pub below_new : (chain : List Activation) (v : Option Kinds) → ChainFine s (see sights o) m (length m.instances) chain v → ChainFine s (see sights o) now (length m.instances) chain v
-  below_new chain v c = chain_later s (see sights o) m (see sights o) now (length m.instances) (later_entered s (see sights o) m made_new (NoObject None)) (λ j d lt e kd a less f. f) chain v c
+  below_new chain v c = chain_later s (see sights o) m (see sights o) now (length m.instances) later_new (λ j d lt e kd a less f. f) chain v c
 
   pub inside_new : (out u : ℕ) → e ≡ Some out → encloser s.tables k ≡ Some u → out < length m.instances → Whole s (see sights o) m out u → Enclosed s (see sights o) now (length m.instances) k made_new
   inside_new out u is_out is_in lt whole =
-      let w = begun_later s (see sights o) m (see sights o) now (length m.instances) (later_entered s (see sights o) m made_new (NoObject None)) out u [] lt whole in
+      let w = begun_later s (see sights o) m (see sights o) now (length m.instances) later_new out u [] lt whole in
       within is_out is_in lt w.own w.made w.out
 
 -- the arrays alone tell whether a configuration is fine
@@ -89,13 +92,13 @@ module _ (s : Source) (ok : Typed s) (o : World) (sights : List Sight) (long : l
   block_made : Made s k (arrays_of_block s ds) cells
   block_made d kd holds there none = typed.made d kd (block_key s k begin ds ss d (subst (λ z. KeyAmong (Declared d.0) (keys_in s k z)) is there)) holds
 
-  pub block_begun : Enclosed s (see sights o) after (length m.instances) k (new_instance s k e cells) → Begun s (see sights o) after (length m.instances) k (arrays_of_block s ds)
-  block_begun out = begun_new s ok o sights long m k e cells (BlockText begin ds ss) is refl cells_fine (arrays_of_block s ds) block_made out
+  pub block_begun : NothingKept m → Enclosed s (see sights o) after (length m.instances) k (new_instance s k e cells) → Begun s (see sights o) after (length m.instances) k (arrays_of_block s ds)
+  block_begun kept out = begun_new s ok o sights long m k e cells (BlockText begin ds ss) is refl cells_fine kept (arrays_of_block s ds) block_made out
 
-  pub block_works : (out : Enclosed s (see sights o) after (length m.instances) k (new_instance s k e cells)) (Below : Option Kinds → Type 0) (end : Item) → WorkFine s (see sights o) after Below (length m.instances) k (end ∷ []) [] [] → WorkFine s (see sights o) after Below (length m.instances) k (block_work s after (length m.instances) ds ss end) (arrays_of_block s ds) []
-  block_works out Below end x =
-      let b = block_begun out in
-      block_arrays s ok (see sights o) after (length m.instances) k (arrays_of_block s ds) b Below ds (Do (Execs ss) ∷ end ∷ []) typed.arrays typed.distinct
+  pub block_works : NothingKept m → (out : Enclosed s (see sights o) after (length m.instances) k (new_instance s k e cells)) (Below : Option Kinds → Type 0) (Outermost : Type 0) (end : Item) → WorkFine s (see sights o) after Below Outermost (length m.instances) k (end ∷ []) [] [] → WorkFine s (see sights o) after Below Outermost (length m.instances) k (block_work s after (length m.instances) ds ss end) (arrays_of_block s ds) []
+  block_works kept out Below Outermost end x =
+      let b = block_begun kept out in
+      block_arrays s ok (see sights o) after (length m.instances) k (arrays_of_block s ds) b Below Outermost ds (Do (Execs ss) ∷ end ∷ []) typed.arrays typed.distinct
       (λ d a h holds. key_there s ok (see sights o) after (length m.instances) k b.now d h b.own holds (typed.own d a))
       ([], [], (refl, refl, refl, typed.statements), x)
 
@@ -116,8 +119,8 @@ module _ (s : Source) (ok : Typed s) (l : Limits) (o : World) (sights : List Sig
       let fine = block_cells s (see sights o) (length m.instances) k begin ds ss (typed_block.no_formals) in
       let out = inside_new s ok o sights long m k (Some i) hs x is refl fine i t refl stands lt b in
       enters (IsFine s) l line (words_of_cells hs) o (λ p. in_instance s p m k (Some i) hs (λ now. block_work s now (length m.instances) ds ss EndBlock) (Chain vals)) (λ t' w'.
-      enters_fine s ok o sights long m k (Some i) hs x is refl fine (arrays_of_block s ds) (block_begun s ok o sights long m k (Some i) begin ds ss is out) (block_work s (after s ok o sights long m k (Some i) begin ds ss is) (length m.instances) ds ss EndBlock) (Chain vals)
-      (block_works s ok o sights long m k (Some i) begin ds ss is out (λ v. ChainFine s (see sights o) (after s ok o sights long m k (Some i) begin ds ss is) (length m.instances) (Chain vals) v) EndBlock
+      enters_fine s ok o sights long m k (Some i) hs x is refl fine (arrays_of_block s ds) (block_begun s ok o sights long m k (Some i) begin ds ss is b.parked out) (block_work s (after s ok o sights long m k (Some i) begin ds ss is) (length m.instances) ds ss EndBlock) (Chain vals)
+      (block_works s ok o sights long m k (Some i) begin ds ss is b.parked out (λ v. ChainFine s (see sights o) (after s ok o sights long m k (Some i) begin ds ss is) (length m.instances) (Chain vals) v) (Chain vals ≡ []) EndBlock
       (below_new s ok o sights long m k (Some i) hs x is refl fine (Chain vals) None (waits_on vals [] ks None b h work))))
     where
       typed_block : BlockTyped s k ds ss
@@ -152,7 +155,7 @@ module _ (s : Source) (ok : Typed s) (l : Limits) (o : World) (sights : List Sig
       let f = procedure_cells s now n k result h a (formals_of s k) vs is typed_procedure.formals (r.values k) in
       let whole' = begun_later s (see sights o) m now m n e j u [] (omega (arith, le, lt)) whole in
       let out = inside_new s ok p r.sights r.long m k (Some j) f.cells x is f.same_keys f.fine j u refl stands (omega (arith, le, lt)) whole' in
-      let begun = begun_new s ok p r.sights r.long m k (Some j) f.cells x is f.same_keys f.fine [] (λ dn kd holds there none. absurd (held_there s now n k (Declared dn.0) f.cells f.held_all (subst (KeyAmong (Declared dn.0)) (ap (keys_in s k) is ∙ sym f.same_keys) there) none)) out in
+      let begun = begun_new s ok p r.sights r.long m k (Some j) f.cells x is f.same_keys f.fine b.parked [] (λ dn kd holds there none. absurd (held_there s now n k (Declared dn.0) f.cells f.held_all (subst (KeyAmong (Declared dn.0)) (ap (keys_in s k) is ∙ sym f.same_keys) there) none)) out in
       let under = later_under s (see sights o) m now m n i (omega (arith, lt)) e in
       let chain : ChainFine s now m n (Chain vs') (held_kinds (result_holds (text s k))) = record {
         before = lt;
@@ -161,7 +164,7 @@ module _ (s : Source) (ok : Typed s) (l : Limits) (o : World) (sights : List Sig
         begun = begun_later s (see sights o) m now m n e i t todo lt b;
         kinds = left;
         hands = hands_later s (see sights o) m now m n e i lt left vs' (λ z kd c deep copy. r.copies i z kd c (λ q. omega (arith, deep, less)) copy) hands;
-        goes = work_later s (see sights o) m now m n e i t lt (λ v. ChainFine s (see sights o) m i rest v) (λ v. ChainFine s now m i rest v) (λ v c. chain_later s (see sights o) m now m i under (λ z y deep q kd c' small copy. r.copies z q kd c' (λ same. absurd (let g : ⊥ = omega (arith, same, deep) in g)) copy) rest v c) w todo (given (held_kinds (result_holds (text s k))) left) work;
+        goes = work_later s (see sights o) m now m n e i t lt (rest ≡ []) (λ v. ChainFine s (see sights o) m i rest v) (λ v. ChainFine s now m i rest v) (λ v c. chain_later s (see sights o) m now m i under (λ z y deep q kd c' small copy. r.copies z q kd c' (λ same. absurd (let g : ⊥ = omega (arith, same, deep) in g)) copy) rest v c) w todo (given (held_kinds (result_holds (text s k))) left) work;
       } in
       had (IsFine s) (filled_behind result vs cells) f.cells o (λ filled. entering l line (words_of_cells cells) o (λ q. in_instance s (handed_over n ns q) (instances_kept s k (Chain vs') m) k (Some j) filled (λ now. Do (Exec a) ∷ EndProcedure (has_result result) ∷ []) (Chain vs'))) f.filled_is
       (enters (IsFine s) l line (words_of_cells cells) o (λ q. in_instance s (handed_over n ns q) (instances_kept s k (Chain vs') m) k (Some j) f.cells (λ now. Do (Exec a) ∷ EndProcedure (has_result result) ∷ []) (Chain vs')) (λ t' w'.
@@ -199,14 +202,14 @@ module _ (s : Source) (ok : Typed s) (l : Limits) (o : World) (sights : List Sig
 
 -- ---- the program
 
-pub first_goes : (s : Source) (ok : Typed s) (l : Limits) (o : World) (sights : List Sight) (long : length sights ≡ length o.arrays) (m : Instances) → m.instances ≡ [] → Goes (IsFine s) (first_step s l o m)
-first_goes s ok l o sights long m none =
+pub first_goes : (s : Source) (ok : Typed s) (l : Limits) (o : World) (sights : List Sight) (long : length sights ≡ length o.arrays) (m : Instances) → m.instances ≡ [] → NothingKept m → Goes (IsFine s) (first_step s l o m)
+first_goes s ok l o sights long m none kept =
     let zero_long : (length m.instances == 0) ≡ true = ap (λ z. length z == 0) none in
     whens (IsFine s) (length m.instances == 0) o (program_entered s l o m (text s 0)) zero_long
     (subst (λ z. Goes (IsFine s) (program_entered s l o m z)) (sym ok.starts)
     (enters (IsFine s) l (line_at s ok.begin) (words_of_cells hs) o (λ p. in_instance s p m 0 None hs (λ now. Do PastOp ∷ block_work s now (length m.instances) ok.declarations ok.statements EndProgram) []) (λ t' w'.
-    enters_fine s ok o sights long m 0 None hs x ok.starts refl fine (arrays_of_block s ok.declarations) (block_begun s ok o sights long m 0 None ok.begin ok.declarations ok.statements ok.starts out) (Do PastOp ∷ block_work s (after s ok o sights long m 0 None ok.begin ok.declarations ok.statements ok.starts) (length m.instances) ok.declarations ok.statements EndProgram) []
-    (arrays_of_block s ok.declarations, [], (refl, refl), block_works s ok o sights long m 0 None ok.begin ok.declarations ok.statements ok.starts out (λ v. ChainFine s (see sights o) (after s ok o sights long m 0 None ok.begin ok.declarations ok.statements ok.starts) (length m.instances) [] v) EndProgram tt))))
+    enters_fine s ok o sights long m 0 None hs x ok.starts refl fine (arrays_of_block s ok.declarations) (block_begun s ok o sights long m 0 None ok.begin ok.declarations ok.statements ok.starts kept out) (Do PastOp ∷ block_work s (after s ok o sights long m 0 None ok.begin ok.declarations ok.statements ok.starts) (length m.instances) ok.declarations ok.statements EndProgram) []
+    (arrays_of_block s ok.declarations, [], (refl, refl), block_works s ok o sights long m 0 None ok.begin ok.declarations ok.statements ok.starts kept out (λ v. ChainFine s (see sights o) (after s ok o sights long m 0 None ok.begin ok.declarations ok.statements ok.starts) (length m.instances) [] v) ([] ≡ []) EndProgram refl))))
   where
     x : Text
     x = BlockText ok.begin ok.declarations ok.statements

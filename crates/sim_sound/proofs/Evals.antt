@@ -24,7 +24,7 @@ module _ (s : Source) (o : World) (g : List Sight) (long : length g ≡ length o
   Rest v = ChainFine s (see g o) m i rest v
 
   abbrev pub Work : List Item → List DeclNo → List Kinds → Type 0
-  Work w todo ks = WorkFine s (see g o) m Rest i t w todo ks
+  Work w todo ks = WorkFine s (see g o) m Rest (rest ≡ []) i t w todo ks
 
   abbrev pub Hands : List Kinds → List Val → Type 0
   Hands ks vals = HandsFine s (see g o) m i ks vals

@@ -6,7 +6,7 @@ use Rattle.sim_values.specs.declared.kind.Kind.{Kind}
 use Rattle.sim_code.specs.Instances.{CellPlace, ElementPlace, ImagePlace, Instance}
 use Rattle.sim_meaning.specs.Pending.{Activation, Address, ArrayValue, BackOp, BranchOp, CallOf, Cell, CopyOf, Do, Either, ElementOf, ElementsOp, EndBlock, EndProcedure, EndProgram, Eval, Further, Given, GiveOp, Held, IfOp, ImageOf, Instances, Item, Joined, Key, Link, NoTerm, Of, One, Op, PlaceOf, ProcedureValue, RaiseOp, ShareOp, StandardOf, StepTestOp, StoreOp, Target, Term, Terms, ToAddress, ToCell, ToText, ToTextOf, Tree, Two, Unbuilt, Val, ValueAt, WhileElementOp}
 use Rattle.sim_sound.specs.Typed.{ArrayOf, Holds, Simply}
-use Rattle.sim_sound.proofs.Sound.{AddressOf, AllArrays, ArrayFine, Begun, CellIs, CellTarget, ChainFine, Copied, CopyFine, DeepFine, ElementFine, Enclosed, HandFine, HandsFine, ImageAddress, IntegersFine, Kinds, LinkTo, Made, OpFine, OperandsFine, Own, StoreFine, TargetFine, TargetsFine, TermFine, TermsFine, ValFine, Value, VariableFine, WorkFine, alone, array_stored, in_whole, own_made, value_stored, within}
+use Rattle.sim_sound.proofs.Sound.{AddressOf, AllArrays, ArrayFine, Begun, CellIs, CellTarget, ChainFine, Copied, CopyFine, DeepFine, ElementFine, Enclosed, HandFine, HandsFine, ImageAddress, IntegersFine, Kinds, LinkTo, Made, NothingKept, OpFine, OperandsFine, Own, StoreFine, TargetFine, TargetsFine, TermFine, TermsFine, ValFine, Value, VariableFine, WorkFine, alone, array_stored, in_whole, own_made, value_stored, within}
 
 -- an instance in a later store, with no fewer arrays
 pub record OwnLater (s : Source) (o : AllArrays) (m : Instances) (j t : ℕ) (x : Instance (List Held)) : Type 0 where
@@ -19,6 +19,7 @@ pub record Later (s : Source) (o : AllArrays) (m : Instances) (o' : AllArrays) (
   pub arrays : (j : ℕ) (k : Kind) (a : ℕ) → j < bound → ArrayFine o j k a → ArrayFine o' j k a
   pub elements : (j : ℕ) (k : Kind) (a n : ℕ) → j < bound → ElementFine o j k a n → ElementFine o' j k a n
   pub own : (j t : ℕ) (x : Instance (List Held)) → j < bound → Own s o m j t x → OwnLater s o' m' j t x
+  pub parked : NothingKept m → NothingKept m'
 
 -- the copies in hand of an instance that have fewer values below them than d
 abbrev pub Copies : AllArrays → AllArrays → (j d : ℕ) → Type 0
@@ -41,7 +42,7 @@ module _ (s : Source) (o : AllArrays) (m : Instances) (o' : AllArrays) (m' : Ins
   pub begun_later : (j t : ℕ) (todo : List DeclNo) → j < bound → Begun s o m j t todo → Begun s o' m' j t todo
   begun_later j t todo lt b =
       let y = e.own j t b.now lt b.own in
-      record { now = y.now; own = y.own; made = y.made todo b.made; out = enclosed_later j t b.now y.now y.encloser lt b.out }
+      record { now = y.now; own = y.own; made = y.made todo b.made; out = enclosed_later j t b.now y.now y.encloser lt b.out; parked = e.parked b.parked }
 
   pub hand_later : (j : ℕ) → j < bound → (k : Kinds) (v : Val) → HandFine s o m j k v → HandFine s o' m' j k v
   hand_later j lt (Value h) v a = val_later j lt h v a
@@ -159,18 +160,19 @@ module _ (s : Source) (o : AllArrays) (m : Instances) (o' : AllArrays) (m' : Ins
     op_later (RaiseOp x line f c y) todo todo' before behind a = (a.0, a.1, a.2, (let r = a.3 in (variable_later x _ r.0, r.1, r.2, r.3)))
     op_later _ todo todo' before behind a = a
 
-    pub work_later : (Below Below' : Option Kinds → Type 0) → ((v : Option Kinds) → Below v → Below' v) → (w : List Item) (todo : List DeclNo) (before : List Kinds) → WorkFine s o m Below j t w todo before → WorkFine s o' m' Below' j t w todo before
-    work_later Below Below' f [] todo before a = a
-    work_later Below Below' f (Do op ∷ w) todo before a = (a.0, a.1, op_later op todo a.0 before a.1 a.2, work_later Below Below' f w a.0 a.1 a.3)
-    work_later Below Below' f (EndBlock ∷ w) todo before a = f None a
-    work_later Below Below' f (EndProcedure leaves ∷ w) todo before a = (a.0, a.1, a.2, a.3, a.4, f _ a.5)
-    work_later Below Below' f (EndProgram ∷ w) todo before a = a
+    pub work_later : (Outermost : Type 0) (Below Below' : Option Kinds → Type 0) → ((v : Option Kinds) → Below v → Below' v) → (w : List Item) (todo : List DeclNo) (before : List Kinds) → WorkFine s o m Below Outermost j t w todo before → WorkFine s o' m' Below' Outermost j t w todo before
+    work_later Outermost Below Below' f [] todo before a = a
+    work_later Outermost Below Below' f (Do op ∷ w) todo before a = (a.0, a.1, op_later op todo a.0 before a.1 a.2, work_later Outermost Below Below' f w a.0 a.1 a.3)
+    work_later Outermost Below Below' f (EndBlock ∷ w) todo before a = f None a
+    work_later Outermost Below Below' f (EndProcedure leaves ∷ w) todo before a = (a.0, a.1, a.2, a.3, a.4, f _ a.5)
+    work_later Outermost Below Below' f (EndProgram ∷ w) todo before a = a
 
 pub later_under : (s : Source) (o : AllArrays) (m : Instances) (o' : AllArrays) (m' : Instances) (bound less : ℕ) → less ≤ bound → Later s o m o' m' bound → Later s o m o' m' less
 later_under s o m o' m' bound less le e = record {
   arrays = λ j k a lt. e.arrays j k a (omega (arith, lt, le));
   elements = λ j k a n lt. e.elements j k a n (omega (arith, lt, le));
   own = λ j t x lt. e.own j t x (omega (arith, lt, le));
+  parked = e.parked;
 }
 
 pub chain_later : (s : Source) (o : AllArrays) (m : Instances) (o' : AllArrays) (m' : Instances) (bound : ℕ) → Later s o m o' m' bound → ((j d : ℕ) → j < bound → Copies o o' j d) → (chain : List Activation) (v : Option Kinds) → ChainFine s o m bound chain v → ChainFine s o' m' bound chain v
@@ -184,7 +186,7 @@ chain_later s o m o' m' bound e all (a ∷ rest) v c =
       begun = begun_later s o m o' m' bound e a.instance c.of_text c.todo c.before c.begun;
       kinds = c.kinds;
       hands = hands_later s o m o' m' bound e a.instance c.before c.kinds a.values (all a.instance (length a.values) c.before) c.hands;
-      goes = work_later s o m o' m' bound e a.instance c.of_text c.before (λ w. ChainFine s o m a.instance rest w) (λ w. ChainFine s o' m' a.instance rest w) (λ w b. chain_later s o m o' m' a.instance (later_under s o m o' m' bound a.instance le e) (λ j d less. all j d (omega (arith, less, le))) rest w b) a.work c.todo _ c.goes;
+      goes = work_later s o m o' m' bound e a.instance c.of_text c.before (rest ≡ []) (λ w. ChainFine s o m a.instance rest w) (λ w. ChainFine s o' m' a.instance rest w) (λ w b. chain_later s o m o' m' a.instance (later_under s o m o' m' bound a.instance le e) (λ j d less. all j d (omega (arith, less, le))) rest w b) a.work c.todo _ c.goes;
     }
 
 -- one after the other
@@ -196,7 +198,8 @@ later_then s o m o' m' o'' m'' bound e f = record {
       let y = e.own j t x lt a in
       let z = f.own j t y.now lt y.own in
       record { now = z.now; own = z.own; encloser = z.encloser ∙ y.encloser; made = λ todo w. z.made todo (y.made todo w) };
+  parked = λ p. f.parked (e.parked p);
 }
 
 pub later_none : (s : Source) (o : AllArrays) (m : Instances) (bound : ℕ) → Later s o m o m bound
-later_none s o m bound = record { arrays = λ j k a lt x. x; elements = λ j k a n lt x. x; own = λ j t x lt a. record { now = x; own = a; encloser = refl; made = λ todo w. w } }
+later_none s o m bound = record { arrays = λ j k a lt x. x; elements = λ j k a n lt x. x; own = λ j t x lt a. record { now = x; own = a; encloser = refl; made = λ todo w. w }; parked = λ p. p }

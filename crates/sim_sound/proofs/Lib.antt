@@ -20,5 +20,6 @@ pub mod FirstCells
 pub mod Handing
 pub mod ArrayWork
 pub mod Entering
+pub mod Keeping
 pub mod Main
 pub mod Examples

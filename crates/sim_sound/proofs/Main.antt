@@ -8,10 +8,12 @@ use Rattle.sim_values.specs.declared.kind.Kind.TheVariants as kind
 use Rattle.sim_code.specs.Outcome.{Ended, Ending, Going, NoRule, Normal, Run, World, after, next}
 use Rattle.sim_meaning.specs.Meaning.{do_chain, do_item, do_op, do_work, opening, run, step, sub_block_entered}
 use Rattle.sim_meaning.specs.Pending.{Activation, AgainOp, ArrayOp, BackOp, BranchOp, CallOp, ChooseOp, Configuration, CopyOp, Do, DropOp, ElementOp, ElementsOp, EndBlock, EndProcedure, EndProgram, EnterOp, Eval, Exec, Execs, FetchOp, GiveOp, IfOp, Instances, Item, JoinOp, OneOp, Op, PastOp, RaiseOp, ShareOp, StandardOp, StepOp, StepTestOp, StoreOp, TestOp, TwoOp, Val, WhileElementOp}
+use Rattle.sim_meaning.specs.Sane.{Sane, StaysSane}
 use Rattle.sim_sound.specs.Typed.{Simply, Typed}
 use Rattle.sim_sound.proofs.Ends.{leaves, procedure_ends}
 use Rattle.sim_sound.proofs.Entering.{block_entered, called_goes, first_goes}
 use Rattle.sim_sound.proofs.Evals.{IsFine, Work, goes_on}
+use Rattle.sim_sound.proofs.Keeping.{fine_sane}
 use Rattle.sim_sound.proofs.Lifts.{Goes, stops}
 use Rattle.sim_sound.proofs.Operators.{again_op, array_op, copy_op, drop_op, element_op, eval_op, fetch_op, give_op, if_op, join_op, one_op, past_op, share_op, standard_op, step_op, store_op, two_op}
 use Rattle.sim_sound.proofs.Sound.{Begun, ChainFine, Fine, HandsFine, Kinds, OpFine, Sight, Value, opens, runs, see}
@@ -82,7 +84,7 @@ module _ (s : Source) (ok : Typed s) (l : Limits) (o : World) (sights : List Sig
         ready todo todo' before behind (Stepped (WhileElementOp x e c d)) a.0 a.1 a.2 b h work (λ b h work. while_goes s ok l o sights long m i t rest lt w vals before b h work x e c d y.0 y.1 y.2 y.3 y.4)
     op_goes (StepTestOp x line f g c) todo todo' before behind a b h work =
         waiting kind.Integer todo todo' before behind (Stepped (StepTestOp x line f g c)) a.0 a.1 a.2 b h work (λ b h work.
-        step_goes s ok l o sights long m i t rest lt (EndProgram ∷ []) vals (Value (Simply kind.Integer) ∷ behind) b h tt x line f g c behind refl a.3 a.4 a.5 a.6 w work)
+        step_goes s ok l o sights long m i t rest lt (Do DropOp ∷ w) vals (Value (Simply kind.Integer) ∷ behind) b h ([], behind, (Value (Simply kind.Integer), refl, refl), work) x line f g c behind refl a.3 a.4 a.5 a.6 w work)
     op_goes (StepOp line) todo todo' before behind a b h work = step_op s ok l o sights long m i t rest lt w vals todo todo' before behind b h work line a
     op_goes (RaiseOp x line f g c) todo todo' before behind a b h work =
         let y = a.3 in
@@ -104,7 +106,7 @@ module _ (s : Source) (ok : Typed s) (l : Limits) (o : World) (sights : List Sig
 
   -- a step from where there is a rule leads to where there is one, or to an end
   pub fine_step : (c : Configuration) → Fine s (see sights o) c → Goes (IsFine s) (step s l o c)
-  fine_step c (opens none empty) = subst (λ z. Goes (IsFine s) (do_chain s l o c.memory z)) (sym none) (first_goes s ok l o sights long c.memory empty)
+  fine_step c (opens none empty kept) = subst (λ z. Goes (IsFine s) (do_chain s l o c.memory z)) (sym none) (first_goes s ok l o sights long c.memory empty kept)
   fine_step c (runs f) = chain_goes c.memory c.chain f
 
 next_goes : (s : Source) → Typed s → (l : Limits) (r : Run Configuration) → Goes (IsFine s) r → Goes (IsFine s) (next (step s l) r)
@@ -119,6 +121,17 @@ after_goes s ok l (suc n) r f = after_goes s ok l n (next (step s l) r) (next_go
 pub no_end : (s : Source) (r : Run Configuration) (o : World) (e : Ending) → r ≡ Ended o e → Goes (IsFine s) r → e ≢ NoRule
 no_end s r o e is f = subst (Goes (IsFine s)) is f
 
+opened : (s : Source) → Typed s → (l : Limits) (input : List ℕ) (n : ℕ) → Goes (IsFine s) (run s l input n)
+opened s ok l input n = after_goes s ok l n (opening s l input) ([], refl, opens refl refl (λ j x e. absurd (cc)))
+
 -- a typed program never comes to where there is no rule
 pub never_no_rule : (s : Source) → Typed s → (l : Limits) (input : List ℕ) (n : ℕ) (o : World) → run s l input n ≡ Ended o NoRule → ⊥
-never_no_rule s ok l input n o is = no_end s (run s l input n) o NoRule is (after_goes s ok l n (opening s l input) ([], refl, opens refl refl)) refl
+never_no_rule s ok l input n o is = no_end s (run s l input n) o NoRule is (opened s ok l input n) refl
+
+-- ---- each configuration is sane
+
+sane_on : (s : Source) (r : Run Configuration) (o : World) (c : Configuration) → r ≡ Going o c → Goes (IsFine s) r → Sane c
+sane_on s r o c is f = let g = subst (Goes (IsFine s)) is f in fine_sane s (see g.0 o) c g.2
+
+pub stays_sane : (s : Source) → Typed s → StaysSane s
+stays_sane s ok l input n o c is = sane_on s (run s l input n) o c is (opened s ok l input n)

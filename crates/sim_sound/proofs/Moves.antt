@@ -1,5 +1,5 @@
 -- Cells that are set, instances that are entered and given back.
-use Rattle.std.proofs.Common.{◌≡◌, ◌≢◌, ◌<◌, ℕ, zero, suc, Bool, true, false, List, [], ◌∷◌, length, Option, Some, None, ⊎_elim, refl, sym, ap, ◌∙◌, subst, arith}
+use Rattle.std.proofs.Common.{◌≡◌, ◌≢◌, ◌<◌, ℕ, zero, suc, Bool, true, false, List, [], ◌∷◌, ◌++◌, length, Option, Some, None, ⊎_elim, refl, sym, ap, ◌∙◌, subst, arith}
 use Rattle.std.proofs.lemmas.Bool.{cases_eq}
 use Rattle.std.specs.Prelude.{◌==◌, ◌&&◌, not, if◌then◌else◌, slice_get}
 use Rattle.sim_chains.specs.Components.{Standing}
@@ -13,7 +13,7 @@ use Rattle.sim_meaning.specs.Pending.{Activation, Declared, Held, Instances, Key
 use Rattle.sim_meaning.specs.Meaning.{instances_left, text_of, words_of_text, world_left}
 use Rattle.sim_meaning.specs.Texts.{text}
 use Rattle.sim_sound.specs.Typed.{Holds, key_holds}
-use Rattle.sim_sound.proofs.Sound.{AllArrays, ArrayFine, Own, Sight, ValFine, see}
+use Rattle.sim_sound.proofs.Sound.{AllArrays, ArrayFine, KeepsNone, NothingKept, Own, Sight, ValFine, see}
 use Rattle.sim_sound.proofs.Changes.{cells_set, held_stays, keys_set}
 use Rattle.sim_sound.proofs.Later.{Copies, Later, OwnLater, later_none}
 use Rattle.sim_sound.proofs.Lists.{append_before, if_false, other_numbers, same_some, set_len, set_other, set_same}
@@ -57,7 +57,7 @@ module _ (s : Source) (o : AllArrays) (m : Instances) (e u : ℕ) (y : Instance 
   set_later_own = record { now = other; own = own_set; encloser = refl; made = λ todo f d k a c b. f d k a c (held_stays key v (Declared d.0) y.cells cells set b) }
 
   pub later_cell : (bound : ℕ) → Later s o m o set_in bound
-  later_cell bound = record { arrays = λ j k a lt f. f; elements = λ j k a n lt f. f; own = λ j t x lt a. ⊎_elim (here j t x a) (elsewhere j t x a) (cases_eq j e) }
+  later_cell bound = record { arrays = λ j k a lt f. f; elements = λ j k a n lt f. f; own = λ j t x lt a. ⊎_elim (here j t x a) (elsewhere j t x a) (cases_eq j e); parked = λ p. p }
     where
       here : (j t : ℕ) (x : Instance (List Held)) → Own s o m j t x → j ≡ e → OwnLater s o set_in j t x
       here j t x a same =
@@ -75,8 +75,14 @@ module _ (s : Source) (o : AllArrays) (m : Instances) (e u : ℕ) (y : Instance 
 
 -- ---- one instance more
 
-pub later_entered : (s : Source) (o : AllArrays) (m : Instances) (x : Instance (List Held)) (z : Standing Activation) → Later s o m o (entered m x z) (length m.instances)
-later_entered s o m x z = record {
+kept_more : (xs : List (Standing Activation)) (z : Standing Activation) → KeepsNone z → ((j : ℕ) (x : Standing Activation) → slice_get xs j ≡ Some x → KeepsNone x) → (j : ℕ) (x : Standing Activation) → slice_get (xs ++ z ∷ []) j ≡ Some x → KeepsNone x
+kept_more [] z k f zero x e = subst KeepsNone (cc) k
+kept_more [] z k f (suc j) x e = absurd (cc)
+kept_more (y ∷ xs) z k f zero x e = f zero x e
+kept_more (y ∷ xs) z k f (suc j) x e = kept_more xs z k (λ i. f (suc i)) j x e
+
+pub later_entered : (s : Source) (o : AllArrays) (m : Instances) (x : Instance (List Held)) (z : Standing Activation) → KeepsNone z → Later s o m o (entered m x z) (length m.instances)
+later_entered s o m x z none = record {
   arrays = λ j k a lt f. f;
   elements = λ j k a n lt f. f;
   own = λ j t y lt a. record {
@@ -85,6 +91,7 @@ later_entered s o m x z = record {
     encloser = refl;
     made = λ todo f. f;
   };
+  parked = kept_more m.standings z none;
 }
 
 -- ---- an instance that ends
@@ -124,6 +131,10 @@ given_len : (m : Instances) (i : ℕ) (x : Option (Instance (List Held))) → le
 given_len m i None = refl
 given_len m i (Some x) = set_len m.instances i (record x { given_back = true })
 
+given_kept : (m : Instances) (i : ℕ) (x : Option (Instance (List Held))) → NothingKept m → NothingKept (given_in m i x)
+given_kept m i None p = p
+given_kept m i (Some x) p = p
+
 later_given : (s : Source) (o : AllArrays) (m : Instances) (i : ℕ) → Later s o m (given_view i o) (given m i) i
 unfolding array_given
 later_given s o m i = record {
@@ -143,6 +154,7 @@ later_given s o m i = record {
     encloser = refl;
     made = λ todo f. f;
   };
+  parked = given_kept m i (slice_get m.instances i);
 }
 
 later_if : (s : Source) (g : List Sight) (o p : World) (m n : Instances) (i : ℕ) (b : Bool) → Later s (see g o) m (see g p) n i → Later s (see g o) m (see g (if b then p else o)) (if b then n else m) i

@@ -1,5 +1,5 @@
 -- The operators of expressions and assignments.
-use Rattle.std.proofs.Common.{◌≡◌, ℕ, ◌<◌, true, List, ◌∷◌, length, Option, Some, None, ◌⊎◌, inl, inr, ⊎_elim, refl, sym, ap, ◌∙◌, subst, arith}
+use Rattle.std.proofs.Common.{◌≡◌, ℕ, ◌<◌, true, List, [], ◌∷◌, length, Option, Some, None, ◌⊎◌, inl, inr, ⊎_elim, refl, sym, ap, ◌∙◌, subst, arith}
 use Rattle.sim_base.specs.declared.limits.Limits.{Limits}
 use Rattle.sim_base.specs.declared.numbering.DeclNo.{DeclNo}
 use Rattle.sim_scope.specs.Source.{Source}
@@ -54,8 +54,8 @@ module _ (s : Source) (ok : Typed s) (l : Limits) (o : World) (g : List Sight) (
     below_later : (v : Option Kinds) → ChainFine s (see g o) m i rest v → ChainFine s (see g' o') n i rest v
     below_later v c = chain_later s (see g o) m (see g' o') n i under (λ j d less. copies j d (omega (arith, less, lt))) rest v c
 
-    pub later_work : (w : List Item) (todo : List DeclNo) (ks : List Kinds) → Wk w todo ks → WorkFine s (see g' o') n (λ v. ChainFine s (see g' o') n i rest v) i t w todo ks
-    later_work w todo ks a = work_later s (see g o) m (see g' o') n (length m.instances) e i t lt (λ v. ChainFine s (see g o) m i rest v) (λ v. ChainFine s (see g' o') n i rest v) below_later w todo ks a
+    pub later_work : (w : List Item) (todo : List DeclNo) (ks : List Kinds) → Wk w todo ks → WorkFine s (see g' o') n (λ v. ChainFine s (see g' o') n i rest v) (rest ≡ []) i t w todo ks
+    later_work w todo ks a = work_later s (see g o) m (see g' o') n (length m.instances) e i t lt (rest ≡ []) (λ v. ChainFine s (see g o) m i rest v) (λ v. ChainFine s (see g' o') n i rest v) below_later w todo ks a
 
     pub later_hands : (ks : List Kinds) (vals : List Val) → Hd ks vals → HandsFine s (see g' o') n i ks vals
     later_hands ks vals h = hands_later s (see g o) m (see g' o') n (length m.instances) e i lt ks vals (copies i (length vals) lt) h
@@ -108,6 +108,7 @@ module _ (s : Source) (ok : Typed s) (l : Limits) (o : World) (g : List Sight) (
         own = own_set s (see g o) m i t x own (Declared d.0) (ArrayOf k) v holds fine r.0 r.1;
         made = made_now todo todo' d v x.cells r.0 r.1 is b.made;
         out = enclosed_later s (see g o) m (see g o) n (length m.instances) e i t x (other s (see g o) m i t x own (Declared d.0) (ArrayOf k) v holds fine r.0 r.1) refl lt b.out;
+        parked = b.parked;
       }) (later_hands g o long n e same_copies (set_len m.instances i (record x { cells = r.0 })) ks vals h) work)
 
   -- ---- an element is set

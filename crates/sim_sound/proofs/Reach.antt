@@ -49,7 +49,7 @@ module _ (s : Source) (ok : Typed s) (o : AllArrays) (m : Instances) where
       by_out (alone none around) = absurd (cc)
       by_out (within {e = out} {u = w} {y = y} is around less own made inner) =
           let same : w ≡ v = same_some (encloser s.tables t) w v around e in
-          let whole : Whole s o m out v = subst (Whole s o m out) same (record { now = y; own = own; made = made; out = inner }) in
+          let whole : Whole s o m out v = subst (Whole s o m out) same (record { now = y; own = own; made = made; out = inner; parked = b.parked }) in
           let y' = f out (omega (arith, lt, less)) whole in
           let deeper = ok.levels t v e in
           let above = outward_levels ins in

@@ -2,6 +2,7 @@
 use Rattle.std.proofs.Common.{◌≡◌, ◌<◌, ◌≤◌, ℕ, zero, suc, Bool, true, false, List, [], ◌∷◌, length, map, Option, Some, None}
 use Rattle.std.specs.Prelude.{slice_get, ◌*◌}
 use Rattle.sim_base.specs.declared.numbering.DeclNo.{DeclNo}
+use Rattle.sim_chains.specs.Components.{DetachedObject, NoObject, Standing}
 use Rattle.sim_scope.specs.declared.types.Formal.{Formal}
 use Rattle.sim_scope.specs.Access.{encloser}
 use Rattle.sim_scope.specs.Source.{Source, level_of}
@@ -106,12 +107,22 @@ pub data Enclosed (s : Source) (o : AllArrays) (m : Instances) : (j t : ℕ) →
   alone : {j t : ℕ} {x : Instance (List Held)} → x.encloser ≡ None → encloser s.tables t ≡ None → Enclosed s o m j t x
   within : {j t e u : ℕ} {x y : Instance (List Held)} → x.encloser ≡ Some e → encloser s.tables t ≡ Some u → e < j → Own s o m e u y → Made s u [] y.cells → Enclosed s o m e u y → Enclosed s o m j t x
 
+-- no chain is kept: no system head waits, no object is detached
+abbrev pub KeepsNone : Standing Activation → Type 0
+KeepsNone (NoObject (Some chain)) = ⊥
+KeepsNone (DetachedObject chain) = ⊥
+KeepsNone _ = Unit {0}
+
+abbrev pub NothingKept : Instances → Type 0
+NothingKept m = (j : ℕ) (x : Standing Activation) → slice_get m.standings j ≡ Some x → KeepsNone x
+
 -- an instance whose arrays are made but for these, among whole ones
 pub record Begun (s : Source) (o : AllArrays) (m : Instances) (j t : ℕ) (todo : List DeclNo) : Type 0 where
   pub now : Instance (List Held)
   pub own : Own s o m j t now
   pub made : Made s t todo now.cells
   pub out : Enclosed s o m j t now
+  pub parked : NothingKept m
 
 abbrev pub Whole : Source → AllArrays → Instances → (j t : ℕ) → Type 0
 Whole s o m j t = Begun s o m j t []
@@ -371,32 +382,33 @@ OpFine s o m j t (StepOp line) todo todo' before behind = (left : List Kinds) ×
 OpFine s o m j t (RaiseOp x line step limit a) todo todo' before behind =
     Ready todo todo' before behind (VariableFine s o m j x kind.Integer × ExprIs s (Some t) step (Simply kind.Integer) × ExprIs s (Some t) limit (Simply kind.Integer) × StatementIs s t a)
 
--- The pending work of an instance. `Below` tells what is below on the chain where it waits for such a value, or for none.
-abbrev pub WorkFine : Source → AllArrays → Instances → (Below : Option Kinds → Type 0) → (j t : ℕ) → List Item → (todo : List DeclNo) → (before : List Kinds) → Type 0
-WorkFine s o m Below j t [] todo before = ⊥
-WorkFine s o m Below j t (Do op ∷ w) todo before = (todo' : List DeclNo) × (behind : List Kinds) × OpFine s o m j t op todo todo' before behind × WorkFine s o m Below j t w todo' behind
-WorkFine s o m Below j t (EndBlock ∷ w) todo before = Below None
-WorkFine s o m Below j t (EndProcedure leaves ∷ w) todo before =
+-- The pending work of an instance. `Below` tells what is below on the chain where it waits for such a value, or for none; `Outermost`
+-- that nothing is.
+abbrev pub WorkFine : Source → AllArrays → Instances → (Below : Option Kinds → Type 0) → (Outermost : Type 0) → (j t : ℕ) → List Item → (todo : List DeclNo) → (before : List Kinds) → Type 0
+WorkFine s o m Below Outermost j t [] todo before = ⊥
+WorkFine s o m Below Outermost j t (Do op ∷ w) todo before = (todo' : List DeclNo) × (behind : List Kinds) × OpFine s o m j t op todo todo' before behind × WorkFine s o m Below Outermost j t w todo' behind
+WorkFine s o m Below Outermost j t (EndBlock ∷ w) todo before = Below None
+WorkFine s o m Below Outermost j t (EndProcedure leaves ∷ w) todo before =
     (result : Option TypeName) × (heading : Heading) × (body : Statement) × (text s t ≡ Some (ProcedureText result heading body)) × (has_result result ≡ leaves) × Below (held_kinds (result_holds (text s t)))
-WorkFine s o m Below j t (EndProgram ∷ w) todo before = Unit {0}
+WorkFine s o m Below Outermost j t (EndProgram ∷ w) todo before = Outermost
 
 -- ---- chains
 
-pub record ActFine (s : Source) (o : AllArrays) (m : Instances) (bound : ℕ) (a : Activation) (waits : Option Kinds) (Below : Option Kinds → Type 0) : Type 0 where
+pub record ActFine (s : Source) (o : AllArrays) (m : Instances) (bound : ℕ) (a : Activation) (waits : Option Kinds) (Below : Option Kinds → Type 0) (Outermost : Type 0) : Type 0 where
   pub before : a.instance < bound
   pub of_text : ℕ
   pub todo : List DeclNo
   pub begun : Begun s o m a.instance of_text todo
   pub kinds : List Kinds
   pub hands : HandsFine s o m a.instance kinds a.values
-  pub goes : WorkFine s o m Below a.instance of_text a.work todo (given waits kinds)
+  pub goes : WorkFine s o m Below Outermost a.instance of_text a.work todo (given waits kinds)
 
 -- the numbers of the instances on a chain fall; something is there
 abbrev pub ChainFine : Source → AllArrays → Instances → (bound : ℕ) → List Activation → (waits : Option Kinds) → Type 0
 ChainFine s o m bound [] waits = ⊥
-ChainFine s o m bound (a ∷ rest) waits = ActFine s o m bound a waits (λ v. ChainFine s o m a.instance rest v)
+ChainFine s o m bound (a ∷ rest) waits = ActFine s o m bound a waits (λ v. ChainFine s o m a.instance rest v) (rest ≡ [])
 
 -- before the first step there is nothing
 pub data Fine (s : Source) (o : AllArrays) (c : Configuration) : Type 0 where
-  opens : c.chain ≡ [] → (c.memory).instances ≡ [] → Fine s o c
+  opens : c.chain ≡ [] → (c.memory).instances ≡ [] → NothingKept c.memory → Fine s o c
   runs : ChainFine s o c.memory (length (c.memory).instances) c.chain None → Fine s o c

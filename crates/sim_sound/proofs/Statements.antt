@@ -105,14 +105,14 @@ module _ (s : Source) (ok : Typed s) (l : Limits) (o : World) (sights : List Sig
       ([], given (held_kinds a.0) ks, (held_kinds a.0, dot_fine s ok (see sights o) m i t [] (Some t) (reaches_whole s ok (see sights o) m i t b) token x name es a.0 a.1, refl, refl), dropped a.0 (leaves s (syntax.Dot token x name es)) a.2)
   call_goes _ a = absurd a
 
-  assign_goes : (es : List LeftSide) (e : Expression) (k : Kind) → Found s ok (see sights o) m i t b (Rest s o sights long m i t rest lt) k es → ExprIs s (Some t) e (Simply k) → (t' w' : ℕ) → Goes P (assigned s (ran o t' w') m i w vals rest (lefts s m i es) e)
+  assign_goes : (es : List LeftSide) (e : Expression) (k : Kind) → Found s ok (see sights o) m i t b (Rest s o sights long m i t rest lt) (rest ≡ []) k es → ExprIs s (Some t) e (Simply k) → (t' w' : ℕ) → Goes P (assigned s (ran o t' w') m i w vals rest (lefts s m i es) e)
   assign_goes es e k f a t' w' =
       let ts = (f.is).targets in
       subst (λ z. Goes P (assigned s (ran o t' w') m i w vals rest z e)) (sym f.found)
       (goes ((f.is).work ++ Do (Eval (close s m i e)) ∷ Do (assigning ts) ∷ w)
       (f.works (Do (Eval (close s m i e)) ∷ Do (assigning ts) ∷ w) ks
-      (evals e (Simply k) (Do (assigning ts) ∷ w) (addresses s ok (see sights o) m i t b (Rest s o sights long m i t rest lt) k ts ks) a
-      ([], ks, assigning_fine s ok (see sights o) m i t b (Rest s o sights long m i t rest lt) k ts ks f.each, work))))
+      (evals e (Simply k) (Do (assigning ts) ∷ w) (addresses s ok (see sights o) m i t b (Rest s o sights long m i t rest lt) (rest ≡ []) k ts ks) a
+      ([], ks, assigning_fine s ok (see sights o) m i t b (Rest s o sights long m i t rest lt) (rest ≡ []) k ts ks f.each, work))))
 
   loop_goes : (text : Bool) (sign : Assignment) (line : ℕ) (x : Left) (k : Kind) (es : List Element) (a : Statement) → ControlIs text sign k → IsCell x → LeftFine s ok (see sights o) m i t b x k → ElementsAre s t k es → StatementIs s t a → (t' w' : ℕ) → Goes P (looping (ran o t' w') m i w vals rest (controlled text sign line x) es a)
   loop_goes true assignment.Value line (LeftCell j key) k es a v c x y z t' w' = goes (Do (ElementsOp (ToTextOf j key line) es a) ∷ w) ([], ks, (refl, refl, refl, (k, (x, v), y, z)), work)
@@ -132,7 +132,7 @@ module _ (s : Source) (ok : Typed s) (l : Limits) (o : World) (sights : List Sig
   exec_goes (syntax.Call e) x = ticked P l o (λ p. go p m i (Do (Eval (close s m i e)) ∷ dropping (leaves s e) w) vals rest) (λ t' w'. goes (Do (Eval (close s m i e)) ∷ dropping (leaves s e) w) (call_goes e x))
   exec_goes (syntax.Assign left rs) x =
       ticked P l o (λ p. assigned s p m i w vals rest (lefts s m i (left_sides left rs)) (last_value left rs)) (λ t' w'.
-      assign_goes (left_sides left rs) (last_value left rs) x.0 (lefts_found s ok (see sights o) m i t b (Rest s o sights long m i t rest lt) x.0 (left_sides left rs) x.1) x.2 t' w')
+      assign_goes (left_sides left rs) (last_value left rs) x.0 (lefts_found s ok (see sights o) m i t b (Rest s o sights long m i t rest lt) (rest ≡ []) x.0 (left_sides left rs) x.1) x.2 t' w')
   exec_goes (syntax.Choose token c a other) x =
       ticked P l o (λ p. go p m i (Do (Eval (close s m i c)) ∷ Do (ChooseOp a other) ∷ w) vals rest) (λ t' w'.
       goes (Do (Eval (close s m i c)) ∷ Do (ChooseOp a other) ∷ w) (evals c (Simply kind.Boolean) (Do (ChooseOp a other) ∷ w) ks x.0 ([], ks, (refl, refl, refl, x.1, x.2), work)))

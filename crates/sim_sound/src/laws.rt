@@ -1,9 +1,10 @@
-//! That a typed program always has a rule. Each law is a function that does nothing; its clause is the law.
+//! That a typed program always has a rule, and what its code may count on meanwhile. Each law is a function that does nothing; its clause is the law.
 ghost use Rattle.std.specs.Prelude.{◌≡◌, ℕ, List};
 ghost use Rattle.sim_base.specs.declared.limits.Limits.{Limits};
 ghost use Rattle.sim_scope.specs.Source.{Source};
 ghost use Rattle.sim_code.specs.Outcome.{Ended, NoRule, World};
 ghost use Rattle.sim_meaning.specs.Meaning.{run};
+ghost use Rattle.sim_meaning.specs.Sane.{StaysSane};
 ghost use Rattle.sim_sound.specs.Examples.{WorkedPrograms};
 ghost use Rattle.sim_sound.specs.Typed.{Typed};
 
@@ -11,6 +12,12 @@ ghost use Rattle.sim_sound.specs.Typed.{Typed};
 #[tactic(auto, using(crate::proofs::Main::never_no_rule))]
 pub fn typed_programs_have_a_rule()
     ensures { (s : Source) → Typed s → (l : Limits) (input : List ℕ) (n : ℕ) (o : World) → run s l input n ≡ Ended o NoRule → ⊥ }
+{}
+
+/// At each moment of a typed program's run the instance that operates lives with its enclosers, and stands at no other place of the chains.
+#[tactic(auto, using(crate::proofs::Main::stays_sane))]
+pub fn typed_programs_stay_sane()
+    ensures { (s : Source) → Typed s → StaysSane s }
 {}
 
 /// There are typed programs: a `for` list, a procedure that calls itself, a sub-block with arrays, texts, an array by value. So no part
