@@ -6,6 +6,7 @@ use Rattle.sim_scope.specs.Declare.{declared_by}
 use Rattle.sim_scope.specs.Source.{Source}
 use Rattle.sim_code.specs.Outcome.{Ended, NoRule, World}
 use Rattle.sim_meaning.specs.Meaning.{run}
+use Rattle.sim_meaning.specs.Sane.{StaysSane}
 use Rattle.sim_tree.specs.declared.program.Program.{Program as Tree}
 use Rattle.sim_tree.specs.Filled.{Filled}
 use Rattle.sim_tree.specs.Order.{InOrder}
@@ -19,6 +20,8 @@ use Rattle.sim_agree.specs.TablesOf.{TablesOf}
 use Rattle.sim_agree.proofs.Whole.{tables_agree}
 use Rattle.sim_allowed.proofs.Allowed.{allowed_never_no_rule, allowed_typed, passed}
 use Rattle.sim_plain.proofs.Whole.{whole}
+use Rattle.sim_sound.proofs.Main.{stays_sane}
+use Rattle.sim_sound.specs.Typed.{Typed}
 use Rattle.sim_built.specs.Allowed.{IsAllowed}
 use Rattle.sim_built.proofs.Lying.{lies}
 use Rattle.sim_built.proofs.Programs.{program_built}
@@ -35,13 +38,19 @@ tables tree s tokens is =
       unbroken = ap (λ (p : Program). (declared_by p).least) (sym same) ∙ said.unbroken;
     }
 
+typed : (tokens : List Token) (tree : Tree) (s : Source) → IsAllowed tokens tree s → Typed s
+typed tokens tree s is = allowed_typed tokens tree s is.reads is.checked.program is.checked.allowed (plain tokens tree s is)
+
 pub built : (tokens : List Token) (tree : Tree) (s : Source) → IsAllowed tokens tree s → ProgramBuilt s
 built tokens tree s is =
     let same = sym is.checked.program in
     let free = plain tokens tree s is in
-    program_built s (allowed_typed tokens tree s is.reads is.checked.program is.checked.allowed free)
+    program_built s (typed tokens tree s is)
     (lies s (tables_agree s (tables tree s tokens is) free (subst InOrder same (in_order tokens tree is.reads)))) free
     (subst Filled same (filled tokens tree is.reads))
 
 pub ruled : (tokens : List Token) (tree : Tree) (s : Source) → IsAllowed tokens tree s → (l : Limits) (input : List ℕ) (n : ℕ) (o : World) → run s l input n ≡ Ended o NoRule → ⊥
 ruled tokens tree s is = allowed_never_no_rule tokens tree s is.reads is.checked.program is.checked.allowed (plain tokens tree s is)
+
+pub sane : (tokens : List Token) (tree : Tree) (s : Source) → IsAllowed tokens tree s → StaysSane s
+sane tokens tree s is = stays_sane s (typed tokens tree s is)

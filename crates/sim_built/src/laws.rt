@@ -4,6 +4,7 @@ ghost use Rattle.sim_base.specs.declared.limits.Limits.{Limits};
 ghost use Rattle.sim_base.specs.declared.token.Token.{Token};
 ghost use Rattle.sim_code.specs.Outcome.{Ended, NoRule, World};
 ghost use Rattle.sim_meaning.specs.Meaning.{run};
+ghost use Rattle.sim_meaning.specs.Sane.{StaysSane};
 ghost use Rattle.sim_scope.specs.Source.{Source};
 ghost use Rattle.sim_agree.specs.Plain.{Plain};
 ghost use Rattle.sim_agree.specs.TablesAgree.{TablesAgree};
@@ -26,8 +27,10 @@ pub fn tables_lie()
 {}
 
 /// A program that breaks no rule and has no classes, parameters by name and formal procedures is built, and never comes to where its
-/// meaning has no rule, whatever the limits and the input are.
+/// meaning has no rule, whatever the limits and the input are. At each moment of its run the instance that operates lives with its
+/// enclosers, and stands at no other place of the chains.
 pub fn allowed_programs_run()
     ensures built { (tokens : List Token) (tree : Tree) (s : Source) → IsAllowed tokens tree s → ProgramBuilt s }
     ensures ruled { (tokens : List Token) (tree : Tree) (s : Source) → IsAllowed tokens tree s → (l : Limits) (input : List ℕ) (n : ℕ) (o : World) → run s l input n ≡ Ended o NoRule → ⊥ }
+    ensures stays_sane { (tokens : List Token) (tree : Tree) (s : Source) → IsAllowed tokens tree s → StaysSane s }
 {}

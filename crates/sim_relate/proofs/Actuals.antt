@@ -25,9 +25,9 @@ use Rattle.sim_meaning.specs.Pending as meaning
 use Rattle.sim_meaning.specs.Texts.{is_class_free}
 use Rattle.codegen.specs.Compiled.{RecordOf, code_formal, type_of_name}
 use Rattle.sim_relate.proofs.Ends.{is_typed}
-use Rattle.sim_relate.proofs.Heads.{Same, kept_same}
+use Rattle.sim_relate.proofs.Heads.{Same, kept_same, kept_standings}
 use Rattle.sim_relate.proofs.Lists.{same_length}
-use Rattle.sim_relate.proofs.Relation.{Any, Keeps, Kind, Later, StackAt, StoreAt, ValAt, anys, array_at, element_at, image_at, link_at, more_at, plain_at}
+use Rattle.sim_relate.proofs.Relation.{Any, Every, Keeps, Kind, Later, StackAt, StoreAt, ValAt, anys, array_at, element_at, image_at, link_at, more_at, plain_at}
 use Rattle.sim_relate.proofs.Slots.{results}
 use Rattle.sim_relate.proofs.Stores.{SameOwners, keeps_kept, later_kept, store_kept}
 
@@ -103,19 +103,23 @@ module _ (s : Source) (code : CodeOf) where
   pub record KeptIs (m : Instances) (fs : Frames) (m' : Instances) (fs' : Frames) : Type 0 where
     pub store : StoreAt s code m' fs'
     pub count : length m'.instances ≡ length m.instances
-    pub later : (bound : ℕ) → Later s m m' bound
-    pub keeps : (bound : ℕ) → Keeps s m fs fs' bound
+    pub later : Later s m m'
+    pub keeps : Keeps s m fs fs' Every
+    pub standings : m'.standings ≡ m.standings
+    pub standings' : fs'.standings ≡ fs.standings
 
   kept_alike : (m : Instances) (fs : Frames) → StoreAt s code m fs → (chain : List Activation) (below : List machine.Activation) → SameOwners s code chain below → (b b' : Bool) → b' ≡ b → KeptIs m fs (if b then kept_on meaning.owner chain m else m) (if b' then kept_on machine.owner below fs else fs)
   kept_alike m fs a chain below owners true true e = record {
     store = store_kept s code chain below owners m fs a;
     count = sym (same_length Same m.instances (kept_on meaning.owner chain m).instances (λ k. kept_same meaning.owner k chain m));
-    later = λ bound. later_kept s m chain bound;
-    keeps = λ bound. keeps_kept s m fs below bound;
+    later = later_kept s m chain;
+    keeps = keeps_kept s m fs below;
+    standings = kept_standings meaning.owner chain m;
+    standings' = kept_standings machine.owner below fs;
   }
   kept_alike m fs a chain below owners true false e = absurd (cc)
   kept_alike m fs a chain below owners false true e = absurd (cc)
-  kept_alike m fs a chain below owners false false e = record { store = a; count = refl; later = λ bound. record { stands = λ k t lt st. st; same = λ level k t lt st. refl }; keeps = λ bound. record { temps = λ k t c lt st le. refl } }
+  kept_alike m fs a chain below owners false false e = record { store = a; count = refl; later = record { stands = λ k t st. st; same = λ level k t st. refl }; keeps = record { temps = λ k t c is st le. refl }; standings = refl; standings' = refl }
 
   pub both_kept : (m : Instances) (fs : Frames) → StoreAt s code m fs → (chain : List Activation) (below : List machine.Activation) → SameOwners s code chain below → (k : ℕ) (kind : BlockKind) (result : CodeType) (b : BlockOf) → RecordOf s k kind result b → KeptIs m fs (instances_kept s k chain m) (frames_kept b below fs)
   both_kept m fs a chain below owners k kind result b heads =

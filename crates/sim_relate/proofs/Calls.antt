@@ -47,7 +47,7 @@ has_room_is : (r : Option StandardType) (room values operands left : ℕ) → (h
 has_room_is None room values operands left f e = refl
 has_room_is (Some x) room values operands left f e = let lt : left < room = f refl in grind (arith, lt, e)
 
-module _ (s : Source) (code : CodeOf) (l : Limits) (o : World) (m : Instances) (inst : ℕ) (w : List Item) (vals : List Val) (rest : List Activation) (fs : Frames) (t : ℕ) (b : BlockOf) (pc : ℕ) (stack : List Value) (below : List machine.Activation) (ks : List Kind) (here : Here s code m fs inst t b ks vals stack) (u q : ℕ) (ks' : List Kind) (low : length (cells_in s t (text s t)) ≤ u) (k : WorkAt s code m fs (λ v. ChainAt s code m fs inst rest v below) inst t b u w q ks') where
+module _ (s : Source) (code : CodeOf) (l : Limits) (o : World) (m : Instances) (inst : ℕ) (w : List Item) (vals : List Val) (rest : List Activation) (fs : Frames) (t : ℕ) (b : BlockOf) (pc : ℕ) (stack : List Value) (below : List machine.Activation) (ks : List Kind) (here : Here s code m fs inst rest t b ks vals stack) (u q : ℕ) (ks' : List Kind) (low : length (cells_in s t (text s t)) ≤ u) (k : WorkAt s code m fs (λ v. ChainAt s code m fs rest v below) inst t b u w q ks') where
   abbrev R : Configuration → Machine → Type 0
   R = StateAt s code
 
@@ -73,7 +73,7 @@ module _ (s : Source) (code : CodeOf) (l : Limits) (o : World) (m : Instances) (
   operand_same _ _ (element_at {a} {n}) = plain_same (element o a n)
   operand_same _ _ (image_at {n}) = plain_same (image_value o n)
 
-  reads_same : (k : Kind) → IsRead k → (v : Val) (x : Value) → HandAt s m inst k v x → operand o m v ≡ machine.operand o fs x
+  reads_same : (k : Kind) → IsRead k → (v : Val) (x : Value) → HandAt s m k v x → operand o m v ≡ machine.operand o fs x
   reads_same Any r v x h = operand_same v x h
   reads_same Located r v x h =
       ap (operand o m) h.is_val ∙
@@ -97,14 +97,14 @@ module _ (s : Source) (code : CodeOf) (l : Limits) (o : World) (m : Instances) (
         alike_having Configuration Machine R Instances Frames (Written s code m fs) (cell_set m j key (meaning.Of (Text t2))) (machine.cell_set fs j (slot_of s u key) (machine.Of (Text t2))) p _ _
         (cell_write s code m fs j u key (meaning.Of (Text t2)) (machine.Of (Text t2)) here.store stands has plain_at) (λ m' fs' em efs w. after p m' fs' w)
 
-    back : (k : Kind) → IsRead k → (v : Val) (x : Value) → HandAt s m inst k v x → Alike R (put_back v t2 p m r) (rows.put_back x t2 p fs y)
+    back : (k : Kind) → IsRead k → (v : Val) (x : Value) → HandAt s m k v x → Alike R (put_back v t2 p m r) (rows.put_back x t2 p fs y)
     back Any i v x h = value_back v x h
     back Located i v x h =
         subst (λ z. Alike R (put_back z t2 p m r) (rows.put_back x t2 p fs y)) (sym h.is_val)
         (subst (λ z. Alike R (put_back (meaning.Address (CellPlace h.instance h.key None)) t2 p m r) (rows.put_back z t2 p fs y)) (sym h.is_value) (cell_back h.instance h.text h.key h.stands h.has))
     back (LinkTo text) i v x h = absurd i
 
-  moves_back : (f : Option Val) (f' : Option Value) → Both (FirstAt Configuration Machine R Val Value (HandAt s m inst) (operand o m) (machine.operand o fs) reads_same) f f' → (moved : Option TextVal) (p : World) (r : World → Instances → Run Configuration) (y : World → Frames → Run Machine) → ((p : World) → Alike R (r p m) (y p fs)) → ((p : World) (m' : Instances) (fs' : Frames) → Written s code m fs m' fs' → Alike R (r p m') (y p fs'))
+  moves_back : (f : Option Val) (f' : Option Value) → Both (FirstAt Configuration Machine R Val Value (HandAt s m) (operand o m) (machine.operand o fs) reads_same) f f' → (moved : Option TextVal) (p : World) (r : World → Instances → Run Configuration) (y : World → Frames → Run Machine) → ((p : World) → Alike R (r p m) (y p fs)) → ((p : World) (m' : Instances) (fs' : Frames) → Written s code m fs m' fs' → Alike R (r p m') (y p fs'))
       → Alike R (putting_back put_back f moved p m r) (putting_back rows.put_back f' moved p fs y)
   unfolding putting_back
   moves_back None None h moved p r y as_is after = as_is p
@@ -115,7 +115,7 @@ module _ (s : Source) (code : CodeOf) (l : Limits) (o : World) (m : Instances) (
 
   -- ---- the value that it leaves, if it leaves one
 
-  left_with : (value : Option Plain) (result : Option StandardType) (left : List Kind) (vals' : List Val) (stack' : List Value) → is_some value ≡ has_value result → ks' ≡ given (has_value result) left → StackAt (HandAt s m inst) left vals' stack' → StackAt (HandAt s m inst) ks' (with_value value vals') (rows.with_value value stack')
+  left_with : (value : Option Plain) (result : Option StandardType) (left : List Kind) (vals' : List Val) (stack' : List Value) → is_some value ≡ has_value result → ks' ≡ given (has_value result) left → StackAt (HandAt s m) left vals' stack' → StackAt (HandAt s m) ks' (with_value value vals') (rows.with_value value stack')
   left_with None result left vals' stack' e out h = kinds_as s code (sym (out ∙ ap (λ g. given g left) (sym e))) h
   left_with (Some v) result left vals' stack' e out h = kinds_as s code (sym (out ∙ ap (λ g. given g left) (sym e))) (more_at plain_at h)
 
@@ -130,7 +130,7 @@ module _ (s : Source) (code : CodeOf) (l : Limits) (o : World) (m : Instances) (
 
   -- what it does with its operands
   module _ (name : Standard) (line : ℕ) (left : List Kind) (out : ks' ≡ given (has_value (row_of name).result) left) (place : q ≡ suc pc) where
-    answered : (ps : List Plain) (effect : Effect) (f : Option Val) (f' : Option Value) (vals' : List Val) (stack' : List Value) → Both (FirstAt Configuration Machine R Val Value (HandAt s m inst) (operand o m) (machine.operand o fs) reads_same) f f' → StackAt (HandAt s m inst) left vals' stack' → standard_effect name ps o.store ≡ Some effect → (p : World) (x : Result (Option Plain) RunError) → effect.answer ≡ x
+    answered : (ps : List Plain) (effect : Effect) (f : Option Val) (f' : Option Value) (vals' : List Val) (stack' : List Value) → Both (FirstAt Configuration Machine R Val Value (HandAt s m) (operand o m) (machine.operand o fs) reads_same) f f' → StackAt (HandAt s m) left vals' stack' → standard_effect name ps o.store ≡ Some effect → (p : World) (x : Result (Option Plain) RunError) → effect.answer ≡ x
         → Alike R (computing line x p (λ value. putting_back put_back f effect.moved p m (λ p m. go p m inst w (with_value value vals') rest)))
         (computing line x p (λ value. putting_back rows.put_back f' effect.moved p fs (λ p m. machine.on p m a_top (rows.with_value value stack') below)))
     unfolding computing
@@ -141,7 +141,7 @@ module _ (s : Source) (code : CodeOf) (l : Limits) (o : World) (m : Instances) (
         (λ p m' fs' r. wrote_on s code l o m inst w vals rest fs t b pc stack below ks here u q ks' low k m' fs' r ks' hs refl place)
     answered ps effect f f' vals' stack' b2 h e p (Err error) is = alike_stopping Configuration Machine R _ p
 
-    effected : (ps : List Plain) (x : Option Effect) (f : Option Val) (f' : Option Value) (vals' : List Val) (stack' : List Value) → Both (FirstAt Configuration Machine R Val Value (HandAt s m inst) (operand o m) (machine.operand o fs) reads_same) f f' → StackAt (HandAt s m inst) left vals' stack' → standard_effect name ps o.store ≡ x
+    effected : (ps : List Plain) (x : Option Effect) (f : Option Val) (f' : Option Value) (vals' : List Val) (stack' : List Value) → Both (FirstAt Configuration Machine R Val Value (HandAt s m) (operand o m) (machine.operand o fs) reads_same) f f' → StackAt (HandAt s m) left vals' stack' → standard_effect name ps o.store ≡ x
         → Alike R (having x o (λ effect. taking l line effect.wanted o (λ p. computing line effect.answer (record p { store = effect.store }) (λ value. putting_back put_back f effect.moved (record p { store = effect.store }) m (λ p m. go p m inst w (with_value value vals') rest)))))
         (having x o (λ effect. taking l line effect.wanted o (λ p. computing line effect.answer (record p { store = effect.store }) (λ value. putting_back rows.put_back f' effect.moved (record p { store = effect.store }) fs (λ p m. machine.on p m a_top (rows.with_value value stack') below)))))
     unfolding having
@@ -151,7 +151,7 @@ module _ (s : Source) (code : CodeOf) (l : Limits) (o : World) (m : Instances) (
     performed : AllRead (length (operands_of (row_of name).function)) ks left → Alike R (performing operand put_back l line name vals o m (λ p m value vals. go p m inst w (with_value value vals) rest)) (performing machine.operand rows.put_back l line name stack o fs (λ p m value stack. machine.on p m a_top (rows.with_value value stack) below))
     unfolding performing
     performed r =
-        hand_operands Configuration Machine R Val Value (HandAt s m inst) (operand o m) (machine.operand o fs) reads_same (length (operands_of (row_of name).function)) ks left None None vals stack o _ _ tt r here.values
+        hand_operands Configuration Machine R Val Value (HandAt s m) (operand o m) (machine.operand o fs) reads_same (length (operands_of (row_of name).function)) ks left None None vals stack o _ _ tt r here.values
         (λ ps f f' vals' stack' b2 h. effected ps (standard_effect name ps o.store) f f' vals' stack' b2 h refl)
 
   pub standard : (name : Standard) (line : ℕ) → OpAt s code m fs inst (site_at t b u) (StandardOp name line) pc q ks ks' → Alike R (do_op s l o m inst w vals rest (StandardOp name line)) (on_top code l o fs a_top below)

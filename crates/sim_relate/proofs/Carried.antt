@@ -1,13 +1,17 @@
 -- What is related stays so in later stores.
-use Rattle.std.proofs.Common.{◌≡◌, ◌<◌, ◌≤◌, ℕ, suc, Bool, false, List, [], ◌∷◌, length, ◌∙◌, arith}
+use Rattle.std.proofs.Common.{◌≡◌, ◌<◌, ◌≤◌, ℕ, suc, Bool, false, List, [], ◌∷◌, length, Option, Some, None, refl, sym, subst, ◌∙◌, arith}
+use Rattle.std.specs.Prelude.{slice_get}
+use Rattle.sim_chains.specs.Components.{AttachedObject, DetachedObject, NoObject, ResumedObject, Standing, TerminatedObject}
 use Rattle.sim_scope.specs.Source.{Source, level_of}
+use Rattle.sim_code.proofs.Lifts.{Both}
 use Rattle.sim_code.specs.Code.{BlockOf, CodeOf}
 use Rattle.sim_code.specs.Machine.{Frames, Value}
 use Rattle.sim_code.specs.Machine as machine
 use Rattle.sim_meaning.specs.Pending.{Activation, BackOp, BranchOp, CallOf, Cell, CopyOf, Do, Either, ElementOf, ElementsOp, EndBlock, EndProcedure, EndProgram, Eval, Further, Given, GiveOp, IfOp, ImageOf, Instances, Item, Joined, NoTerm, One, Op, PlaceOf, RaiseOp, ShareOp, StandardOf, StepTestOp, StoreOp, Target, Term, Terms, ToAddress, ToCell, ToText, ToTextOf, Two, Unbuilt, Val, ValueAt, WhileElementOp}
 use Rattle.sim_meaning.specs.Texts.{text}
 use Rattle.codegen_expr.specs.Sites.{Site, cells_in}
-use Rattle.sim_relate.proofs.Relation.{Any, ChainAt, ComesTo, EndAt, GivesIs, HandAt, Keeps, Kind, Later, LinkTo, Located, OpAt, OperandAt, Reaches, ReadsAt, StackAt, Stands, TargetAt, TermAt, TermsAt, VariableIs, WorkAt, more_at, none_at, over, returning, site_at, there}
+use Rattle.sim_relate.proofs.Relation.{Any, Bottom, ChainAt, ChainOn, ComesTo, EndAt, Every, GivesIs, HandAt, Keeps, Kind, Later, LinkTo, Located, OpAt, OperandAt, Reaches, ReadsAt, StackAt, StandingAt, StandingsAt, Stands, TargetAt, TermAt, TermsAt, VariableIs, WorkAt, more_at, none_at, over, placed, returning, site_at, there}
+use Rattle.sim_meaning.specs.Sane.{AllKept, AllOf, KeptOf}
 
 end_later : (s : Source) (code : CodeOf) (Below Below' : Bool → Type 0) → ((v : Bool) → Below v → Below' v) → (t : ℕ) (b : BlockOf) (x : Item) (p : ℕ) (ks : List Kind) → EndAt s code Below t b x p ks → EndAt s code Below' t b x p ks
 end_later s code Below Below' f t b (Do op) p ks a = absurd a
@@ -16,30 +20,24 @@ end_later s code Below Below' f t b (EndProcedure v) p ks a =
     record { result = a.result; heading = a.heading; body = a.body; is = a.is; same = a.same; ends = let x = a.ends in record { last = x.last; at = x.at; heads = x.heads; none = x.none; below = f v x.below } }
 end_later s code Below Below' f t b EndProgram p ks a = (a.0, let x = a.1 in record { last = x.last; at = x.at; heads = x.heads; none = x.none; below = f false x.below })
 
-module _ (s : Source) (code : CodeOf) (m m' : Instances) (bound : ℕ) (e : Later s m m' bound) where
-  reaches_later : (from t u j : ℕ) → from < bound → Stands s m from t → Reaches s m from u j → Reaches s m' from u j
-  reaches_later from t u j lt st r =
-      let under : j < bound = omega (arith, lt, r.before) in
-      record { found = e.same (level_of s u) from t lt st ∙ r.found; stands = e.stands j u under r.stands; before = r.before }
+module _ (s : Source) (code : CodeOf) (m m' : Instances) (e : Later s m m') where
+  reaches_later : (from t u j : ℕ) → Stands s m from t → Reaches s m from u j → Reaches s m' from u j
+  reaches_later from t u j st r = record { found = e.same (level_of s u) from t st ∙ r.found; stands = e.stands j u r.stands }
 
-  pub hand_later : (from : ℕ) → from < bound → (k : Kind) (v : Val) (x : Value) → HandAt s m from k v x → HandAt s m' from k v x
-  hand_later from lt Any v x h = h
-  hand_later from lt Located v x h =
-      let under : h.instance < bound = omega (arith, lt, h.before) in
-      record { instance = h.instance; text = h.text; key = h.key; is_val = h.is_val; is_value = h.is_value; stands = e.stands h.instance h.text under h.stands; before = h.before; has = h.has }
-  hand_later from lt (LinkTo u) v x h =
-      let under : h.instance < bound = omega (arith, lt, h.before) in
-      record { instance = h.instance; is_val = h.is_val; is_value = h.is_value; stands = e.stands h.instance u under h.stands; before = h.before }
+  pub hand_later : (k : Kind) (v : Val) (x : Value) → HandAt s m k v x → HandAt s m' k v x
+  hand_later Any v x h = h
+  hand_later Located v x h = record { instance = h.instance; text = h.text; key = h.key; is_val = h.is_val; is_value = h.is_value; stands = e.stands h.instance h.text h.stands; has = h.has }
+  hand_later (LinkTo u) v x h = record { instance = h.instance; is_val = h.is_val; is_value = h.is_value; stands = e.stands h.instance u h.stands }
 
-  pub stack_later : (from : ℕ) → from < bound → (ks : List Kind) (vals : List Val) (stack : List Value) → StackAt (HandAt s m from) ks vals stack → StackAt (HandAt s m' from) ks vals stack
-  stack_later from lt _ _ _ none_at = none_at
-  stack_later from lt _ _ _ (more_at {k} {ks} {v} {vals} {x} {stack} h more) = more_at (hand_later from lt k v x h) (stack_later from lt ks vals stack more)
+  pub stack_later : (ks : List Kind) (vals : List Val) (stack : List Value) → StackAt (HandAt s m) ks vals stack → StackAt (HandAt s m') ks vals stack
+  stack_later _ _ _ none_at = none_at
+  stack_later _ _ _ (more_at {k} {ks} {v} {vals} {x} {stack} h more) = more_at (hand_later k v x h) (stack_later ks vals stack more)
 
-  module _ (inst t : ℕ) (lt : inst < bound) (st : Stands s m inst t) where
+  module _ (inst t : ℕ) (st : Stands s m inst t) where
     mutual
       pub term_later : (site : Site) (n : ℕ) (x : Term) (p q : ℕ) → TermAt s code m inst site n x p q → TermAt s code m' inst site n x p q
       term_later site n (Given v) p q a = a
-      term_later site n (Cell j key) p q a = record { text = a.text; load = a.load; reaches = reaches_later inst t a.text j lt st a.reaches; has = a.has }
+      term_later site n (Cell j key) p q a = record { text = a.text; load = a.load; reaches = reaches_later inst t a.text j st a.reaches; has = a.has }
       term_later site n (One op line x) p q a = (a.0, (term_later site n x p a.0 (a.1).0, (a.1).1), a.2)
       term_later site n (Two op line x y) p q a = (a.0, a.1, (term_later site n x p a.0 (a.2).0, (a.2).1), (term_later site (suc n) y a.0 a.1 (a.3).0, (a.3).1), a.4)
       term_later site n (Either c x y) p q a = record {
@@ -63,14 +61,14 @@ module _ (s : Source) (code : CodeOf) (m m' : Instances) (bound : ℕ) (e : Late
         x = a.x;
         y = a.y;
         link = a.link;
-        reaches = reaches_later inst t a.text j lt st a.reaches;
+        reaches = reaches_later inst t a.text j st a.reaches;
         actuals = terms_later site (suc n) ts a.x a.y a.actuals;
         call = a.call;
         procedure = a.procedure;
         as_many = a.as_many;
       }
       term_later site n (StandardOf name ts line) p q a = (a.0, reads_later site n ts p a.0 a.1, a.2)
-      term_later site n (PlaceOf j key) p q a = record { text = a.text; address = a.address; reaches = reaches_later inst t a.text j lt st a.reaches; has = a.has }
+      term_later site n (PlaceOf j key) p q a = record { text = a.text; address = a.address; reaches = reaches_later inst t a.text j st a.reaches; has = a.has }
       term_later site n (ImageOf image) p q a = a
       term_later site n (Joined line x y) p q a = (a.0, a.1, (term_later site n x p a.0 (a.2).0, (a.2).1), (term_later site (suc n) y a.0 a.1 (a.3).0, (a.3).1), a.4)
       term_later site n Unbuilt p q a = a
@@ -87,7 +85,7 @@ module _ (s : Source) (code : CodeOf) (m m' : Instances) (bound : ℕ) (e : Late
     operand_later site n x p q a = (term_later site n x p q a.0, a.1)
 
     target_later : (x : Target) (p q : ℕ) (ks ks' : List Kind) → TargetAt s code m inst x p q ks ks' → TargetAt s code m' inst x p q ks ks'
-    target_later (ToCell j key) p q ks ks' a = (let c = a.0 in record { text = c.text; is = c.is; reaches = reaches_later inst t c.text j lt st c.reaches; has = c.has }, a.1)
+    target_later (ToCell j key) p q ks ks' a = (let c = a.0 in record { text = c.text; is = c.is; reaches = reaches_later inst t c.text j st c.reaches; has = c.has }, a.1)
     target_later ToAddress p q ks ks' a = a
     target_later (ToText line) p q ks ks' a = a
     target_later (ToTextOf j key line) p q ks ks' a = a
@@ -97,12 +95,12 @@ module _ (s : Source) (code : CodeOf) (m m' : Instances) (bound : ℕ) (e : Late
     gives_later site temp (x ∷ xs) p q ks ks' a = (a.0, a.1, a.2, a.3, target_later x a.0 a.1 (Any ∷ ks) a.2 a.4, gives_later site temp xs a.1 q a.2 ks' a.5)
 
     variable_later : (x : Target) → VariableIs s code m inst x → VariableIs s code m' inst x
-    variable_later x v = record { text = v.text; key = v.key; assigned = v.assigned; instance = v.instance; is = v.is; reaches = reaches_later inst t v.text v.instance lt st v.reaches; has = v.has }
+    variable_later x v = record { text = v.text; key = v.key; assigned = v.assigned; instance = v.instance; is = v.is; reaches = reaches_later inst t v.text v.instance st v.reaches; has = v.has }
 
     module _ (fs fs' : Frames) where
       -- the temps of the instance that are in use
       abbrev pub TempsKept : (used : ℕ) → Type 0
-      TempsKept used = (c : ℕ) → length (cells_in s t (text s t)) ≤ c → c < used → machine.cell fs' inst c ≡ machine.cell fs inst c
+      TempsKept used = (c : ℕ) → length (cells_in s t (text s t)) ≤ c → c < used → placed fs' inst c ≡ placed fs inst c
 
       pub op_later : (b : BlockOf) (used : ℕ) → TempsKept used → (op : Op) (p q : ℕ) (ks ks' : List Kind) → OpAt s code m fs inst (site_at t b used) op p q ks ks' → OpAt s code m' fs' inst (site_at t b used) op p q ks ks'
       unfolding variable_later
@@ -168,31 +166,89 @@ module _ (s : Source) (code : CodeOf) (m m' : Instances) (bound : ℕ) (e : Late
       work_later Below Below' f b used keeps (EndProcedure v ∷ w) p ks a = (a.0, comes_later b used keeps (length ks) a.0 p a.1, end_later s code Below Below' f t b (EndProcedure v) a.0 ks a.2)
       work_later Below Below' f b used keeps (EndProgram ∷ w) p ks a = (a.0, comes_later b used keeps (length ks) a.0 p a.1, end_later s code Below Below' f t b EndProgram a.0 ks a.2)
 
-pub later_under : (s : Source) (m m' : Instances) (bound less : ℕ) → less ≤ bound → Later s m m' bound → Later s m m' less
-later_under s m m' bound less le e = record { stands = λ j t lt. e.stands j t (omega (arith, lt, le)); same = λ level j t lt. e.same level j t (omega (arith, lt, le)) }
+pub keeps_of : (s : Source) (m : Instances) (fs fs' : Frames) (Of Some_of : ℕ → Type 0) → ((j : ℕ) → Some_of j → Of j) → Keeps s m fs fs' Of → Keeps s m fs fs' Some_of
+keeps_of s m fs fs' Of Some_of f k = record { temps = λ j t c x. k.temps j t c (f j x) }
 
-pub keeps_under : (s : Source) (m : Instances) (fs fs' : Frames) (bound less : ℕ) → less ≤ bound → Keeps s m fs fs' bound → Keeps s m fs fs' less
-keeps_under s m fs fs' bound less le k = record { temps = λ j t c lt. k.temps j t c (omega (arith, lt, le)) }
+module _ (s : Source) (code : CodeOf) (m m' : Instances) (fs fs' : Frames) (e : Later s m m') (Of : ℕ → Type 0) (k : Keeps s m fs fs' Of) where
+  pub chain_later : (Ground Ground' : Bool → List machine.Activation → Type 0) → ((v : Bool) (below : List machine.Activation) → Ground v below → Ground' v below) → (chain : List Activation) → AllOf Of chain → (v : Bool) (below : List machine.Activation) → ChainOn s code Ground m fs chain v below → ChainOn s code Ground' m' fs' chain v below
+  chain_later Ground Ground' g [] all v below c = g v below c
+  chain_later Ground Ground' g (a ∷ rest) all v [] c = absurd c
+  chain_later Ground Ground' g (a ∷ rest) all v (x ∷ below) c = record {
+    base = c.base;
+    home = c.home;
+    text = c.text;
+    block = c.block;
+    found = c.found;
+    stands = e.stands a.instance c.text c.stands;
+    room = c.room;
+    kinds = c.kinds;
+    values = stack_later s code m m' e c.kinds a.values x.stack c.values;
+    fits = c.fits;
+    used = c.used;
+    goes = work_later s code m m' e a.instance c.text c.stands fs fs' (λ w. ChainOn s code Ground m fs rest w below) (λ w. ChainOn s code Ground' m' fs' rest w below)
+        (λ w b. chain_later Ground Ground' g rest all.1 w below b) c.block c.used (λ t le lt. k.temps a.instance c.text t all.0 c.stands le) a.work x.pc _ c.goes;
+  }
 
-module _ (s : Source) (code : CodeOf) (m m' : Instances) (fs fs' : Frames) where
-  pub chain_later : (bound : ℕ) → Later s m m' bound → Keeps s m fs fs' bound → (chain : List Activation) (v : Bool) (below : List machine.Activation) → ChainAt s code m fs bound chain v below → ChainAt s code m' fs' bound chain v below
-  chain_later bound e k [] v below c = c
-  chain_later bound e k (a ∷ rest) v [] c = absurd c
-  chain_later bound e k (a ∷ rest) v (x ∷ below) c =
-      let le : a.instance ≤ bound = omega (arith, c.before) in
-      record {
-        base = c.base;
-        home = c.home;
-        before = c.before;
-        text = c.text;
-        block = c.block;
-        found = c.found;
-        stands = e.stands a.instance c.text c.before c.stands;
-        room = c.room;
-        kinds = c.kinds;
-        values = stack_later s code m m' bound e a.instance c.before c.kinds a.values x.stack c.values;
-        fits = c.fits;
-        used = c.used;
-        goes = work_later s code m m' bound e a.instance c.text c.before c.stands fs fs' (λ w. ChainAt s code m fs a.instance rest w below) (λ w. ChainAt s code m' fs' a.instance rest w below)
-            (λ w b. chain_later a.instance (later_under s m m' bound a.instance le e) (keeps_under s m fs fs' bound a.instance le k) rest w below b) c.block c.used (λ t le lt. k.temps a.instance c.text t c.before c.stands le) a.work x.pc _ c.goes;
-      }
+  pub stands_later : (chain : List Activation) → AllOf Of chain → (v : Bool) (below : List machine.Activation) → ChainAt s code m fs chain v below → ChainAt s code m' fs' chain v below
+  stands_later chain all v below c = chain_later (Bottom s code) (Bottom s code) (λ w b g. g) chain all v below c
+
+  -- the chains that are kept
+  standing_later : (x : Standing Activation) (y : Standing machine.Activation) → KeptOf Of x → StandingAt s code m fs x y → StandingAt s code m' fs' x y
+  standing_later (NoObject None) (NoObject None) o a = a
+  standing_later (NoObject (Some chain)) (NoObject (Some below)) o a = stands_later chain o false below a
+  standing_later AttachedObject AttachedObject o a = a
+  standing_later (DetachedObject chain) (DetachedObject below) o a = stands_later chain o false below a
+  standing_later ResumedObject ResumedObject o a = a
+  standing_later TerminatedObject TerminatedObject o a = a
+  standing_later (NoObject None) (NoObject (Some below)) o a = absurd a
+  standing_later (NoObject None) AttachedObject o a = absurd a
+  standing_later (NoObject None) (DetachedObject below) o a = absurd a
+  standing_later (NoObject None) ResumedObject o a = absurd a
+  standing_later (NoObject None) TerminatedObject o a = absurd a
+  standing_later (NoObject (Some chain)) (NoObject None) o a = absurd a
+  standing_later (NoObject (Some chain)) AttachedObject o a = absurd a
+  standing_later (NoObject (Some chain)) (DetachedObject below) o a = absurd a
+  standing_later (NoObject (Some chain)) ResumedObject o a = absurd a
+  standing_later (NoObject (Some chain)) TerminatedObject o a = absurd a
+  standing_later AttachedObject (NoObject main) o a = absurd a
+  standing_later AttachedObject (DetachedObject below) o a = absurd a
+  standing_later AttachedObject ResumedObject o a = absurd a
+  standing_later AttachedObject TerminatedObject o a = absurd a
+  standing_later (DetachedObject chain) (NoObject main) o a = absurd a
+  standing_later (DetachedObject chain) AttachedObject o a = absurd a
+  standing_later (DetachedObject chain) ResumedObject o a = absurd a
+  standing_later (DetachedObject chain) TerminatedObject o a = absurd a
+  standing_later ResumedObject (NoObject main) o a = absurd a
+  standing_later ResumedObject AttachedObject o a = absurd a
+  standing_later ResumedObject (DetachedObject below) o a = absurd a
+  standing_later ResumedObject TerminatedObject o a = absurd a
+  standing_later TerminatedObject (NoObject main) o a = absurd a
+  standing_later TerminatedObject AttachedObject o a = absurd a
+  standing_later TerminatedObject (DetachedObject below) o a = absurd a
+  standing_later TerminatedObject ResumedObject o a = absurd a
+
+  pub both_later : (x : Option (Standing Activation)) (y : Option (Standing machine.Activation)) → ((z : Standing Activation) → x ≡ Some z → KeptOf Of z) → Both (StandingAt s code m fs) x y → Both (StandingAt s code m' fs') x y
+  both_later None None o a = a
+  both_later None (Some y) o a = absurd a
+  both_later (Some x) None o a = absurd a
+  both_later (Some x) (Some y) o a = standing_later x y (o x refl) a
+
+  -- where neither store has other standings
+  pub standings_later : m'.standings ≡ m.standings → fs'.standings ≡ fs.standings → AllKept Of m → StandingsAt s code m fs → StandingsAt s code m' fs'
+  standings_later e f all a j =
+      subst (λ z. Both (StandingAt s code m' fs') (slice_get z j) (slice_get fs'.standings j)) (sym e)
+      (subst (λ z. Both (StandingAt s code m' fs') (slice_get m.standings j) (slice_get z j)) (sym f)
+      (both_later (slice_get m.standings j) (slice_get fs.standings j) (λ z is. all j z is) (a j)))
+
+-- of every instance
+pub all_every : (chain : List Activation) → AllOf Every chain
+all_every [] = tt
+all_every (a ∷ rest) = (tt, all_every rest)
+
+pub kept_every : (m : Instances) → AllKept Every m
+kept_every m j (NoObject None) e = tt
+kept_every m j (NoObject (Some chain)) e = all_every chain
+kept_every m j AttachedObject e = tt
+kept_every m j (DetachedObject chain) e = all_every chain
+kept_every m j ResumedObject e = tt
+kept_every m j TerminatedObject e = tt

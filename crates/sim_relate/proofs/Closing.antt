@@ -13,7 +13,7 @@ use Rattle.sim_scope.specs.declared.types.Mode.{Mode}
 use Rattle.sim_scope.specs.declared.types.Mode.TheVariants as mode
 use Rattle.sim_scope.specs.declared.types.SimType.{SimType}
 use Rattle.sim_scope.specs.Scopes.{entry_of}
-use Rattle.sim_scope.specs.Source.{Source, block_of, denoted, line_at}
+use Rattle.sim_scope.specs.Source.{Source, block_of, denoted, line_at, level_of}
 use Rattle.sim_tree.specs.declared.expr.Identifier.{Identifier}
 use Rattle.sim_tree.specs.declared.expr.Sign.{Sign}
 use Rattle.sim_tree.specs.declared.expr.Sign.TheVariants as sign
@@ -22,6 +22,7 @@ use Rattle.sim_tree.specs.Syntax as syntax
 use Rattle.sim_values.specs.declared.standard.Standard.{Standard}
 use Rattle.sim_values.specs.Plain.{Plain, Character, Integer, Nothing, Object, Text, Truth}
 use Rattle.sim_code.specs.declared.instr.Instr.TheVariants as i
+use Rattle.sim_code.specs.Instances.{at_level}
 use Rattle.sim_code.specs.Code.{CodeOf}
 use Rattle.sim_meaning.specs.Closing.{Joining, Lazily, Negated, Plainly, Sort, actual_term, array_term, close, close_actuals, close_all, constant_term, declared_term, formal_term, formals_at, home_of, in_instance, is_text, is_text_type, literal_term, named_term, signed_term, sort_of, standard_term, two_term, variable_term, array_place, attribute_term, behind_dot, close_place, declared_place, dot_term, formal_place, given_term, image_place, is_variable, name_term, named_place, object_term, stream_denoted, stream_of, sysout, variable_place}
 use Rattle.sim_meaning.specs.Names.{procedure_named, stream_named}
@@ -42,7 +43,7 @@ use Rattle.sim_values.specs.Standard.{is_image, moves_position, on_image, row_of
 use Rattle.sim_meaning.specs.Constants.{text_constant}
 use Rattle.sim_relate.proofs.Pending.{read_given}
 
-module _ (s : Source) (code : CodeOf) (m : Instances) (inst : ℕ) (site : Site) (agrees : Agrees s) (reach : (u : ℕ) → Inside s.tables site.text u → (j : ℕ) × Reaches s m inst u j) where
+module _ (s : Source) (code : CodeOf) (m : Instances) (inst : ℕ) (site : Site) (agrees : Agrees s) (reach : (u : ℕ) → Inside s.tables site.text u → (j : ℕ) × Reaches s m inst u j × (at_level m (level_of s u) inst ≡ Some j)) where
   -- the tree evaluates, and leaves a value just where g says so
   abbrev pub NamedIs : (n : ℕ) → Bool → Term → ℕ → ℕ → Type 0
   NamedIs n g t p q = TermAt s code m inst site n t p q × (gives s t ≡ g)
@@ -94,7 +95,7 @@ module _ (s : Source) (code : CodeOf) (m : Instances) (inst : ℕ) (site : Site)
   unfolding home_of
   cell_at d n p q a =
       let r = reach (block_of s d) a.inside in
-      there (home_of s m inst d) r.0 (λ j. Cell j (Declared d.0)) n true p q ((r.1).found) (record { text = block_of s d; load = a.load; reaches = r.1; has = a.within }, refl)
+      there (home_of s m inst d) r.0 (λ j. Cell j (Declared d.0)) n true p q r.2 (record { text = block_of s d; load = a.load; reaches = r.1; has = a.within }, refl)
 
   variable_at : (d : DeclNo) (es : Expressions) (n p q : ℕ) → VariableAt s code site n d es p q → NamedIs n true (variable_term s m inst d es) p q
   variable_at d NoMore n p q a = cell_at d n p q a
@@ -112,7 +113,7 @@ module _ (s : Source) (code : CodeOf) (m : Instances) (inst : ℕ) (site : Site)
   unfolding home_of
   element_at d line n es Inner terms f counts p q a =
       let r = reach (block_of s d) a.array.inside in
-      there (home_of s m inst d) r.0 (λ j. ElementOf line (Cell j (Declared d.0)) terms) n true p q ((r.1).found)
+      there (home_of s m inst d) r.0 (λ j. ElementOf line (Cell j (Declared d.0)) terms) n true p q r.2
       ((a.x, a.y, (record { text = block_of s d; load = a.array.load; reaches = r.1; has = a.array.within }, refl), f a.x a.y a.subscripts, subst (λ k. At code (i.Elem (pos k) (pos 0)) line a.y q) counts a.found), refl)
 
   array_at : (d : DeclNo) (line n : ℕ) (es : Expressions) (Inner : ℕ → ℕ → Type 0) (terms : Terms) → ((p q : ℕ) → Inner p q → TermsAt s code m inst site (suc n) terms p q) → operands es ≡ count terms → (p q : ℕ) → ArrayAt s code site n line d es Inner p q → NamedIs n true (array_term s m inst line d es terms) p q
@@ -121,7 +122,7 @@ module _ (s : Source) (code : CodeOf) (m : Instances) (inst : ℕ) (site : Site)
   array_at d line n (Then e es) Inner terms f counts p q a =
       let x = a.1 in
       let r = reach (block_of s d) x.array.inside in
-      there (home_of s m inst d) r.0 (λ j. ValueAt (ElementOf line (Cell j (Declared d.0)) terms)) n true p q ((r.1).found)
+      there (home_of s m inst d) r.0 (λ j. ValueAt (ElementOf line (Cell j (Declared d.0)) terms)) n true p q r.2
       ((a.0, ((x.x, x.y, (record { text = block_of s d; load = x.array.load; reaches = r.1; has = x.array.within }, refl), f x.x x.y x.subscripts, subst (λ k. At code (i.Elem (pos k) (pos 0)) line x.y a.0) counts x.found), refl), a.2), refl)
 
   formal_at : (d : DeclNo) (line n : ℕ) (by : Mode) (kind : FormalKind) (es : Expressions) (Inner : ℕ → ℕ → Type 0) (terms : Terms) → ((p q : ℕ) → Inner p q → TermsAt s code m inst site (suc n) terms p q) → operands es ≡ count terms → (p q : ℕ) → FormalAt s code site n line d by kind es Inner p q → NamedIs n true (formal_term s m inst line d by kind es terms) p q
@@ -141,7 +142,7 @@ module _ (s : Source) (code : CodeOf) (m : Instances) (inst : ℕ) (site : Site)
       let r = reach (block_of s d) a.inside in
       let x = agrees.procedures d result k is in
       let inner = f a.x a.y a.actuals in
-      there (home_of s m inst d) r.0 (λ j. CallOf j k terms line) n (gives_entry (Some (entry.Procedure result k))) p q ((r.1).found) (
+      there (home_of s m inst d) r.0 (λ j. CallOf j k terms line) n (gives_entry (Some (entry.Procedure result k))) p q r.2 (
         record {
           text = block_of s d;
           x = a.x;
@@ -222,7 +223,7 @@ module _ (s : Source) (code : CodeOf) (m : Instances) (inst : ℕ) (site : Site)
   unfolding home_of
   variable_place_at d NoMore n p q a =
       let r = reach (block_of s d) a.inside in
-      subst (λ o. ReadAt n (in_instance o (λ j. PlaceOf j (Declared d.0))) p q) (sym (r.1).found) (record { text = block_of s d; address = a.address; reaches = r.1; has = a.within }, refl)
+      subst (λ o. ReadAt n (in_instance o (λ j. PlaceOf j (Declared d.0))) p q) (sym r.2) (record { text = block_of s d; address = a.address; reaches = r.1; has = a.within }, refl)
   variable_place_at d (Then e es) n p q a = absurd a
 
   array_place_at : (d : DeclNo) (line n : ℕ) (es : Expressions) (Inner : ℕ → ℕ → Type 0) (terms : Terms) → ((p q : ℕ) → Inner p q → TermsAt s code m inst site (suc n) terms p q) → operands es ≡ count terms → (p q : ℕ) → ArrayPlaceAt s code site n line d es Inner p q → ReadAt n (array_place s m inst line d es terms) p q

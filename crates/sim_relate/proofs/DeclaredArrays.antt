@@ -17,8 +17,9 @@ use Rattle.codegen.specs.Agrees.{Agrees}
 use Rattle.codegen.specs.CodeArrays.{ArraysAt, BoundsAt, FurtherAt, KeepsArray, LoadsArray, MakesAt, SegmentsAt}
 use Rattle.sim_relate.proofs.Closing.{close_at}
 use Rattle.sim_relate.proofs.Pending.{anys_more, evals, pends}
-use Rattle.sim_relate.proofs.Reach.{own_reaches, reach}
+use Rattle.sim_relate.proofs.Reach.{own_reaches, reach_found}
 use Rattle.sim_relate.proofs.Relation.{Any, Kind, Stands, WorkAt, anys, site_at}
+use Rattle.sim_meaning.specs.Sane.{Lives}
 
 -- two values for each dimension
 abbrev bounded : List BoundPair → List Kind → List Kind
@@ -36,7 +37,7 @@ further_some : (s : Source) (i : ℕ) (first : DeclNo) (x : Identifier) (xs : Li
     → further_arrays s i first (x ∷ xs) w ≡ Do (Eval (Cell i (Declared first.0))) ∷ Do (CopyOp (line_at s x.token.0)) ∷ Do (StoreOp (ToCell i (Declared d.0))) ∷ further_arrays s i first xs w
 further_some s i first x xs w d e = rw e
 
-module _ (s : Source) (code : CodeOf) (agrees : Agrees s) (m : Instances) (fs : Frames) (Below : Bool → Type 0) (inst t : ℕ) (b : BlockOf) (u : ℕ) (low : length (cells_in s t (text s t)) ≤ u) (st : Stands s m inst t) where
+module _ (s : Source) (code : CodeOf) (agrees : Agrees s) (m : Instances) (fs : Frames) (Below : Bool → Type 0) (inst t : ℕ) (b : BlockOf) (u : ℕ) (low : length (cells_in s t (text s t)) ≤ u) (st : Stands s m inst t) (lives : Lives m inst) where
   abbrev Work : List Item → ℕ → List Kind → Type 0
   Work w p ks = WorkAt s code m fs Below inst t b u w p ks
 
@@ -70,8 +71,8 @@ module _ (s : Source) (code : CodeOf) (agrees : Agrees s) (m : Instances) (fs : 
   bounds_at : (w : List Item) (xs : List BoundPair) (End : ℕ → ℕ → Type 0) (p q : ℕ) (ks : List Kind) → BoundsAt s code (site_at t b u) (length ks) xs End p q → ((y : ℕ) → End y q → Work w y (bounded xs ks)) → Work (bounds_of s m inst xs w) p ks
   bounds_at w [] End p q ks a f = f p a
   bounds_at w (x ∷ xs) End p q ks a f =
-      let lower = close_at s code m inst (site_at t b u) agrees (λ v inside. reach s m inst t v agrees st inside) x.lower (length ks) p a.0 a.2 in
-      let upper = close_at s code m inst (site_at t b u) agrees (λ v inside. reach s m inst t v agrees st inside) x.upper (suc (length ks)) a.0 a.1 a.3 in
+      let lower = close_at s code m inst (site_at t b u) agrees (λ v inside. reach_found s m inst t v agrees st lives inside) x.lower (length ks) p a.0 a.2 in
+      let upper = close_at s code m inst (site_at t b u) agrees (λ v inside. reach_found s m inst t v agrees st lives inside) x.upper (suc (length ks)) a.0 a.1 a.3 in
       let more = bounds_of s m inst xs w in
       evals s code m fs Below inst t b u low (Do (Eval (close s m inst x.upper)) ∷ more) (close s m inst x.lower) p a.0 ks lower
       (evals s code m fs Below inst t b u low more (close s m inst x.upper) a.0 a.1 (Any ∷ ks) upper (bounds_at w xs End a.1 q (Any ∷ Any ∷ ks) a.4 f))

@@ -27,11 +27,12 @@ use Rattle.sim_meaning.specs.Entries.{first_cells}
 use Rattle.codegen_expr.specs.CodeExpr.{block_number}
 use Rattle.codegen_expr.specs.Sites.{HasCell, cells_in, place_of, slot_of}
 use Rattle.codegen.specs.Compiled.{type_of_name}
-use Rattle.sim_relate.proofs.Carried.{chain_later}
+use Rattle.sim_relate.proofs.Carried.{all_every, kept_every, standings_later, stands_later}
 use Rattle.sim_relate.proofs.Hands.{stack_length}
-use Rattle.sim_relate.proofs.Heads.{given_length, is_live_at}
+use Rattle.sim_relate.proofs.Heads.{given_length, given_standings, is_live_at}
+use Rattle.sim_relate.proofs.Reach.{lives_now}
 use Rattle.sim_relate.proofs.Here.{Here, act, at_row}
-use Rattle.sim_relate.proofs.Relation.{Any, ChainAt, EndAt, EndIs, Keeps, Kind, Later, StateAt, StoreAt, ValAt, more_at}
+use Rattle.sim_relate.proofs.Relation.{Any, ChainAt, EndAt, EndIs, Every, Keeps, Kind, Later, StandingsAt, StateAt, StoreAt, ValAt, more_at}
 use Rattle.sim_relate.proofs.Stores.{cell_read, framed, given_at_end_same, keeps_given, later_given, store_given}
 
 pub chosen : {A : Type 0} (P : A → Type 0) (b : Bool) (x y : A) → b ≡ true → P x → P (if b then x else y)
@@ -80,14 +81,16 @@ module _ (s : Source) (code : CodeOf) where
   pub record Behind (m : Instances) (fs : Frames) (j : ℕ) (m' : Instances) (fs' : Frames) : Type 0 where
     pub store : StoreAt s code m' fs'
     pub count : length m'.instances ≡ length m.instances
-    pub later : Later s m m' j
-    pub keeps : Keeps s m fs fs' j
+    pub later : Later s m m'
+    pub keeps : Keeps s m fs fs' Every
+    pub standings : m'.standings ≡ m.standings
+    pub standings' : fs'.standings ≡ fs.standings
 
   left_alike : (m : Instances) (fs : Frames) → StoreAt s code m fs → (j : ℕ) (b b' : Bool) → b' ≡ b → Behind m fs j (if b then given m j else m) (if b' then given fs j else fs)
-  left_alike m fs a j true true e = record { store = store_given s code m fs a j; count = given_length m j (slice_get m.instances j); later = later_given s m j; keeps = keeps_given s m fs j }
+  left_alike m fs a j true true e = record { store = store_given s code m fs a j; count = given_length m j (slice_get m.instances j); later = later_given s m j; keeps = keeps_given s m fs j; standings = given_standings m j (slice_get m.instances j); standings' = given_standings fs j (slice_get fs.instances j) }
   left_alike m fs a j true false e = absurd (cc)
   left_alike m fs a j false true e = absurd (cc)
-  left_alike m fs a j false false e = record { store = a; count = refl; later = record { stands = λ k t lt st. st; same = λ level k t lt st. refl }; keeps = record { temps = λ k t c lt st le. refl } }
+  left_alike m fs a j false false e = record { store = a; count = refl; later = record { stands = λ k t st. st; same = λ level k t st. refl }; keeps = record { temps = λ k t c is st le. refl }; standings = refl; standings' = refl }
 
   pub stores_left : (m : Instances) (fs : Frames) → StoreAt s code m fs → (j : ℕ) → Behind m fs j (instances_left j m) (frames_left j fs)
   stores_left m fs a j = left_alike m fs a j (is_given_at_end m j) (is_given_at_end fs j) (sym (given_at_end_same s code m fs a j))
@@ -97,46 +100,30 @@ module _ (s : Source) (code : CodeOf) where
       let same : words_of_block b ≡ words_of_text s (text_of m j) (text s (text_of m j)) = sym words ∙ ap (λ k. words_of_text s k (text s k)) (sym is) in
       ap (λ f. if f then giving_back o j (words_of_block b) else o) (sym (given_at_end_same s code m fs a j)) ∙ ap (λ n. if is_given_at_end m j then giving_back o j n else o) same
 
-  -- the chain below, in later stores
-  pub chain_raised : (m : Instances) (fs : Frames) (bound more : ℕ) → bound ≤ more → (chain : List Activation) (v : Bool) (below : List machine.Activation) → ChainAt s code m fs bound chain v below → ChainAt s code m fs more chain v below
-  chain_raised m fs bound more le [] v below c = c
-  chain_raised m fs bound more le (a ∷ rest) v [] c = absurd c
-  chain_raised m fs bound more le (a ∷ rest) v (x ∷ below) c = record {
-    base = c.base;
-    home = c.home;
-    before = omega (arith, c.before, le);
-    text = c.text;
-    block = c.block;
-    found = c.found;
-    stands = c.stands;
-    room = c.room;
-    kinds = c.kinds;
-    values = c.values;
-    fits = c.fits;
-    used = c.used;
-    goes = c.goes;
-  }
-
-  module _ (o : World) (m : Instances) (fs : Frames) (a : StoreAt s code m fs) (j t : ℕ) (b : BlockOf) (lives : j < length m.instances) (is : text_of m j ≡ t) (words : words_of_text s t (text s t) ≡ words_of_block b) where
-    chain_left : (rest : List Activation) (v : Bool) (below : List machine.Activation) → ChainAt s code m fs j rest v below → ChainAt s code (instances_left j m) (frames_left j fs) (length (instances_left j m).instances) rest v below
+  module _ (o : World) (m : Instances) (fs : Frames) (a : StoreAt s code m fs) (parked : StandingsAt s code m fs) (j t : ℕ) (b : BlockOf) (is : text_of m j ≡ t) (words : words_of_text s t (text s t) ≡ words_of_block b) where
+    chain_left : (rest : List Activation) (v : Bool) (below : List machine.Activation) → ChainAt s code m fs rest v below → ChainAt s code (instances_left j m) (frames_left j fs) rest v below
     chain_left rest v below c =
         let x = stores_left m fs a j in
-        let le : j ≤ length (instances_left j m).instances = omega (arith, lives, x.count) in
-        chain_raised (instances_left j m) (frames_left j fs) j (length (instances_left j m).instances) le rest v below (chain_later s code m (instances_left j m) fs (frames_left j fs) j x.later x.keeps rest v below c)
+        stands_later s code m (instances_left j m) fs (frames_left j fs) x.later Every x.keeps rest (all_every rest) v below c
+
+    parked_left : StandingsAt s code (instances_left j m) (frames_left j fs)
+    parked_left =
+        let x = stores_left m fs a j in
+        standings_later s code m (instances_left j m) fs (frames_left j fs) x.later Every x.keeps x.standings x.standings' (kept_every m) parked
 
     in_world : (c : Configuration) (x : Machine) → R c x → Alike R (Going (world_left s j o m) c) (Going (machine.world_left b j o fs) x)
     in_world c x h = subst (λ z. Alike R (Going (world_left s j o m) c) (Going z x)) (sym (worlds_left o m fs a j t b is words)) (going h)
 
     -- control goes on below, with no value
-    pub leave_still : (rest : List Activation) (below : List machine.Activation) → ChainAt s code m fs j rest false below → Alike R (leaving s rest None j o m) (machine.leaving b below None j o fs)
+    pub leave_still : (rest : List Activation) (below : List machine.Activation) → ChainAt s code m fs rest false below → Alike R (leaving s rest None j o m) (machine.leaving b below None j o fs)
     unfolding leaving machine.leaving
     leave_still [] [] c = alike_no_rule Configuration Machine R o
     leave_still [] (x ∷ below) c = absurd (cc (c.is))
     leave_still (y ∷ rest) [] c = absurd c
-    leave_still (y ∷ rest) (x ∷ below) c = in_world _ _ (record { chain = chain_left (y ∷ rest) false (x ∷ below) c; store = (stores_left m fs a j).store })
+    leave_still (y ∷ rest) (x ∷ below) c = in_world _ _ (record { chain = chain_left (y ∷ rest) false (x ∷ below) c; store = (stores_left m fs a j).store; parked = parked_left })
 
     -- with a value
-    pub leave_value : (v : Val) (z : Value) → ValAt v z → (rest : List Activation) (below : List machine.Activation) → ChainAt s code m fs j rest true below → Alike R (leaving s rest (Some v) j o m) (machine.leaving b below (Some z) j o fs)
+    pub leave_value : (v : Val) (z : Value) → ValAt v z → (rest : List Activation) (below : List machine.Activation) → ChainAt s code m fs rest true below → Alike R (leaving s rest (Some v) j o m) (machine.leaving b below (Some z) j o fs)
     unfolding leaving machine.leaving pushing when
     leave_value v z w [] [] c = alike_no_rule Configuration Machine R o
     leave_value v z w [] (x ∷ below) c = absurd (cc (c.is))
@@ -152,7 +139,6 @@ module _ (s : Source) (code : CodeOf) where
           chain = record {
             base = k.base;
             home = k.home;
-            before = k.before;
             text = k.text;
             block = k.block;
             found = k.found;
@@ -165,9 +151,10 @@ module _ (s : Source) (code : CodeOf) where
             goes = k.goes;
           };
           store = (stores_left m fs a j).store;
+          parked = parked_left;
         }))
 
-module _ (s : Source) (code : CodeOf) (l : Limits) (o : World) (m : Instances) (inst : ℕ) (w : List Item) (vals : List Val) (rest : List Activation) (fs : Frames) (t : ℕ) (b : BlockOf) (pc : ℕ) (stack : List Value) (below : List machine.Activation) (ks : List Kind) (here : Here s code m fs inst t b ks vals stack) (used : ℕ) where
+module _ (s : Source) (code : CodeOf) (l : Limits) (o : World) (m : Instances) (inst : ℕ) (w : List Item) (vals : List Val) (rest : List Activation) (fs : Frames) (t : ℕ) (b : BlockOf) (pc : ℕ) (stack : List Value) (below : List machine.Activation) (ks : List Kind) (here : Here s code m fs inst rest t b ks vals stack) (used : ℕ) where
   abbrev Related : Configuration → Machine → Type 0
   Related = StateAt s code
 
@@ -176,17 +163,19 @@ module _ (s : Source) (code : CodeOf) (l : Limits) (o : World) (m : Instances) (
 
   -- what an end's lemma says
   abbrev pub EndFollows : Item → Type 0
-  EndFollows x = EndAt s code (λ v. ChainAt s code m fs inst rest v below) t b x pc ks → Alike Related (do_item s l o m inst w vals rest x) (on_top code l o fs top below)
+  EndFollows x = EndAt s code (λ v. ChainAt s code m fs rest v below) t b x pc ks → Alike Related (do_item s l o m inst w vals rest x) (on_top code l o fs top below)
 
   number_here : text_in (slice_get fs.instances inst) ≡ Some (block_number s t)
   number_here =
-      let f = framed s code m fs here.store here.stands in
+      let now = lives_now m inst here.lives in
+      let f = framed s code m fs here.store here.stands now.0 now.1 in
       let there = is_live_at (slice_get fs.instances inst) f.frame f.frame_lives in
       ap text_in there.there ∙ ap Some ((f.pair).number ∙ ap (block_number s) f.of_text)
 
   text_here : text_of m inst ≡ t
   text_here =
-      let f = framed s code m fs here.store here.stands in
+      let now = lives_now m inst here.lives in
+      let f = framed s code m fs here.store here.stands now.0 now.1 in
       let there = is_live_at (slice_get m.instances inst) f.now f.lives in
       text_of_is m inst f.now there.there ∙ f.of_text
 
@@ -203,7 +192,7 @@ module _ (s : Source) (code : CodeOf) (l : Limits) (o : World) (m : Instances) (
       let x = a.1 in
       at_row s code l o fs top below _ i.Leave x.at.line x.last x.at.is
       (own_alike block_kind.SubBlock _ _ (ap (λ z. same_kind z block_kind.SubBlock) (x.heads).is_kind)
-      (leave_still s code o m fs here.store inst t b here.live text_here (words_agree s t b _ (a.0).is (x.heads).cells) rest below x.below))
+      (leave_still s code o m fs here.store here.parked inst t b text_here (words_agree s t b _ (a.0).is (x.heads).cells) rest below x.below))
 
   result_alike : (r : Run Configuration) (go : Option Value → Run Machine) → is_nothing b.result_type ≡ false → Alike Related r (having (machine.cell fs inst 0) o (λ v. go (Some v))) → Alike Related r (with_result b fs inst o go)
   unfolding with_result
@@ -213,23 +202,23 @@ module _ (s : Source) (code : CodeOf) (l : Limits) (o : World) (m : Instances) (
   unfolding with_result
   no_result_alike r go e h = chosen (λ q. Alike Related r q) (is_nothing b.result_type) (go None) (having (machine.cell fs inst 0) o (λ v. go (Some v))) e h
 
-  end_typed : (type : TypeName) (h : Heading) (body : Statement) → text s t ≡ Some (ProcedureText (Some type) h body) → EndIs s code i.Return block_kind.Procedure (type_of_name (Some type)) t b pc ks (ChainAt s code m fs inst rest true below) → Alike Related (do_item s l o m inst w vals rest (EndProcedure true)) (on_top code l o fs top below)
+  end_typed : (type : TypeName) (h : Heading) (body : Statement) → text s t ≡ Some (ProcedureText (Some type) h body) → EndIs s code i.Return block_kind.Procedure (type_of_name (Some type)) t b pc ks (ChainAt s code m fs rest true below) → Alike Related (do_item s l o m inst w vals rest (EndProcedure true)) (on_top code l o fs top below)
   end_typed type h body is x =
       at_row s code l o fs top below _ i.Return x.at.line x.last x.at.is
       (own_alike block_kind.Procedure _ _ (ap (λ z. same_kind z block_kind.Procedure) (x.heads).is_kind)
       (result_alike _ _ (ap is_nothing (x.heads).gives ∙ is_typed type)
       (alike_having Configuration Machine Related Val Value ValAt (cell m inst Result) (machine.cell fs inst 0) o _ _
       (subst (λ c. Both ValAt (cell m inst Result) (machine.cell fs inst c)) (result_slot s t type h body is) (cell_read s code m fs inst t Result here.store here.stands (result_there s t type h body is)))
-      (λ v z ev ez vz. leave_value s code o m fs here.store inst t b here.live text_here (words_agree s t b _ is (x.heads).cells) v z vz rest below x.below))))
+      (λ v z ev ez vz. leave_value s code o m fs here.store here.parked inst t b text_here (words_agree s t b _ is (x.heads).cells) v z vz rest below x.below))))
 
-  end_untyped : (h : Heading) (body : Statement) → text s t ≡ Some (ProcedureText None h body) → EndIs s code i.Return block_kind.Procedure (type_of_name None) t b pc ks (ChainAt s code m fs inst rest false below) → Alike Related (do_item s l o m inst w vals rest (EndProcedure false)) (on_top code l o fs top below)
+  end_untyped : (h : Heading) (body : Statement) → text s t ≡ Some (ProcedureText None h body) → EndIs s code i.Return block_kind.Procedure (type_of_name None) t b pc ks (ChainAt s code m fs rest false below) → Alike Related (do_item s l o m inst w vals rest (EndProcedure false)) (on_top code l o fs top below)
   end_untyped h body is x =
       at_row s code l o fs top below _ i.Return x.at.line x.last x.at.is
       (own_alike block_kind.Procedure _ _ (ap (λ z. same_kind z block_kind.Procedure) (x.heads).is_kind)
       (no_result_alike _ _ (ap is_nothing (x.heads).gives)
-      (leave_still s code o m fs here.store inst t b here.live text_here (words_agree s t b _ is (x.heads).cells) rest below x.below)))
+      (leave_still s code o m fs here.store here.parked inst t b text_here (words_agree s t b _ is (x.heads).cells) rest below x.below)))
 
-  end_of : (leaves : Bool) (result : Option TypeName) (h : Heading) (body : Statement) → has_result result ≡ leaves → text s t ≡ Some (ProcedureText result h body) → EndIs s code i.Return block_kind.Procedure (type_of_name result) t b pc ks (ChainAt s code m fs inst rest leaves below) → Alike Related (do_item s l o m inst w vals rest (EndProcedure leaves)) (on_top code l o fs top below)
+  end_of : (leaves : Bool) (result : Option TypeName) (h : Heading) (body : Statement) → has_result result ≡ leaves → text s t ≡ Some (ProcedureText result h body) → EndIs s code i.Return block_kind.Procedure (type_of_name result) t b pc ks (ChainAt s code m fs rest leaves below) → Alike Related (do_item s l o m inst w vals rest (EndProcedure leaves)) (on_top code l o fs top below)
   end_of true (Some type) h body e is x = end_typed type h body is x
   end_of false None h body e is x = end_untyped h body is x
   end_of true None h body e is x = absurd (cc)

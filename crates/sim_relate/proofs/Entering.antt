@@ -7,7 +7,7 @@ use Rattle.sim_scope.specs.Access.{around, encloser}
 use Rattle.sim_scope.specs.Source.{Source}
 use Rattle.sim_scope.specs.Tables.{BlockOf as ScopeOf}
 use Rattle.sim_tree.specs.Syntax.{Begin, Block, Prefix}
-use Rattle.sim_chains.specs.Components.{NoObject}
+use Rattle.sim_chains.specs.Components.{Standing}
 use Rattle.sim_code.specs.declared.code.BlockKind.{BlockKind}
 use Rattle.sim_code.specs.declared.code.CodeType.{CodeType}
 use Rattle.sim_code.specs.declared.instr.Lined.{Lined}
@@ -26,11 +26,12 @@ use Rattle.codegen_expr.specs.CodeExpr.{block_number}
 use Rattle.codegen_expr.specs.Sites.{cells_in}
 use Rattle.codegen.specs.Agrees.{Agrees}
 use Rattle.codegen.specs.Compiled.{CodeHas, Compiled, RecordOf, TextCode, type_of_cell}
-use Rattle.sim_relate.proofs.Carried.{chain_later, keeps_under}
+use Rattle.sim_relate.proofs.Carried.{all_every, both_later, kept_every, stands_later}
 use Rattle.sim_relate.proofs.Ends.{chosen, left_out}
-use Rattle.sim_relate.proofs.Relation.{CellsAt, ChainAt, InstanceAt, Kind, StateAt, StoreAt, Stands, ValAt, WorkAt, key_of, none_at, plain_at, value_of}
+use Rattle.sim_relate.proofs.Relation.{CellsAt, ChainAt, Every, InstanceAt, Kind, StandingAt, StandingsAt, StateAt, StoreAt, Stands, ValAt, WorkAt, key_of, none_at, plain_at, value_of}
 use Rattle.sim_relate.proofs.Slots.{first_all, first_cells_at}
 use Rattle.sim_relate.proofs.Stores.{SameOwners, keeps_entered, later_entered, store_entered}
+use Rattle.sim_relate.proofs.Lists.{append_both}
 
 -- ---- texts and blocks that are there
 
@@ -88,13 +89,13 @@ module _ (s : Source) (code : CodeOf) where
   work_below m fs Below inst t b used (EndProcedure leaves ∷ w) p ks a = (leaves, ((a.2).ends).below)
   work_below m fs Below inst t b used (EndProgram ∷ w) p ks a = (false, ((a.2).1).below)
 
-  pub chain_owners : (m : Instances) (fs : Frames) (bound : ℕ) (chain : List Activation) (v : Bool) (below : List machine.Activation) → ChainAt s code m fs bound chain v below → SameOwners s code chain below
-  chain_owners m fs bound [] v [] c = tt
-  chain_owners m fs bound [] v (x ∷ below) c = absurd (cc (c.is))
-  chain_owners m fs bound (a ∷ rest) v [] c = absurd c
-  chain_owners m fs bound (a ∷ rest) v (x ∷ below) c =
-      let k = work_below m fs (λ w. ChainAt s code m fs a.instance rest w below) a.instance c.text c.block c.used a.work x.pc _ c.goes in
-      (ap (λ z. if z then None else Some x.home) c.base ∙ ap Some c.home, chain_owners m fs a.instance rest k.0 below k.1)
+  pub chain_owners : (m : Instances) (fs : Frames) (chain : List Activation) (v : Bool) (below : List machine.Activation) → ChainAt s code m fs chain v below → SameOwners s code chain below
+  chain_owners m fs [] v [] c = tt
+  chain_owners m fs [] v (x ∷ below) c = absurd (cc (c.is))
+  chain_owners m fs (a ∷ rest) v [] c = absurd c
+  chain_owners m fs (a ∷ rest) v (x ∷ below) c =
+      let k = work_below m fs (λ w. ChainAt s code m fs rest w below) a.instance c.text c.block c.used a.work x.pc _ c.goes in
+      (ap (λ z. if z then None else Some x.home) c.base ∙ ap Some c.home, chain_owners m fs rest k.0 below k.1)
 
   -- ---- blocks that are entered
 
@@ -150,38 +151,39 @@ module _ (s : Source) (code : CodeOf) where
 
   -- ---- a new instance on top
 
-  module _ (m : Instances) (fs : Frames) (a : StoreAt s code m fs) (x : Instance (List Held)) (y : Instance Cells) where
+  module _ (m : Instances) (fs : Frames) (a : StoreAt s code m fs) (x : Instance (List Held)) (y : Instance Cells) (p : Standing Activation) (r : Standing machine.Activation) where
     abbrev pub later_m : Instances
-    later_m = entered m x (NoObject None)
+    later_m = entered m x p
 
     abbrev pub later_fs : Frames
-    later_fs = entered fs y (NoObject None)
+    later_fs = entered fs y r
 
-    pub chain_entered : (chain : List Activation) (v : Bool) (below : List machine.Activation) → ChainAt s code m fs (length m.instances) chain v below → ChainAt s code later_m later_fs (length m.instances) chain v below
-    chain_entered chain v below c =
-        let le : length m.instances ≤ length fs.instances = omega (arith, a.as_many) in
-        chain_later s code m later_m fs later_fs (length m.instances) (later_entered s m x (NoObject None)) (keeps_under s m fs later_fs (length fs.instances) (length m.instances) le (keeps_entered s m fs y (NoObject None))) chain v below c
+    pub chain_entered : (chain : List Activation) (v : Bool) (below : List machine.Activation) → ChainAt s code m fs chain v below → ChainAt s code later_m later_fs chain v below
+    chain_entered chain v below c = stands_later s code m later_m fs later_fs (later_entered s m x p) Every (keeps_entered s m fs a.as_many y r) chain (all_every chain) v below c
 
-    pub enters : (chain : List Activation) (below : List machine.Activation) (k : ℕ) (b : BlockOf) → InstanceAt s code x y → slice_get code.blocks (block_number s k) ≡ Some b → Stands s later_m (length m.instances) k → (w : List Item) (used : ℕ)
-        → WorkAt s code later_m later_fs (λ v. ChainAt s code later_m later_fs (length m.instances) chain v below) (length m.instances) k b used w b.entry []
-        → R (record { chain = record { instance = length m.instances; work = w; values = [] } ∷ chain; memory = later_m }) (record { chain = record { thunk = false; home = length fs.instances; pc = b.entry; stack = []; room = b.room } ∷ below; memory = later_fs })
-    enters chain below k b pair found stands w used work =
-        let longer : length later_m.instances ≡ length m.instances + 1 = length-append m.instances (x ∷ []) in
-        record {
-          chain = record {
-            base = refl;
-            home = sym a.as_many;
-            before = omega (arith, longer);
-            text = k;
-            block = b;
-            found = found;
-            stands = stands;
-            room = refl;
-            kinds = [];
-            values = none_at;
-            fits = λ no. absurd (cc);
-            used = used;
-            goes = work;
-          };
-          store = store_entered s code m fs a x y (NoObject None) (NoObject None) pair;
-        }
+    pub parked_entered : StandingAt s code later_m later_fs p r → StandingsAt s code m fs → StandingsAt s code later_m later_fs
+    parked_entered new old =
+        append_both (StandingAt s code later_m later_fs) m.standings fs.standings p r
+        (λ j. both_later s code m later_m fs later_fs (later_entered s m x p) Every (keeps_entered s m fs a.as_many y r) (slice_get m.standings j) (slice_get fs.standings j) (λ z is. kept_every m j z is) (old j)) new
+
+    pub enters : StandingsAt s code later_m later_fs → (chain : List Activation) (below : List machine.Activation) (k : ℕ) (b : BlockOf) → InstanceAt s code x y → slice_get code.blocks (block_number s k) ≡ Some b → Stands s later_m (length m.instances) k → (w : List Item) (used pc : ℕ)
+        → WorkAt s code later_m later_fs (λ v. ChainAt s code later_m later_fs chain v below) (length m.instances) k b used w pc []
+        → R (record { chain = record { instance = length m.instances; work = w; values = [] } ∷ chain; memory = later_m }) (record { chain = record { thunk = false; home = length fs.instances; pc = pc; stack = []; room = b.room } ∷ below; memory = later_fs })
+    enters parked chain below k b pair found stands w used pc work = record {
+      chain = record {
+        base = refl;
+        home = sym a.as_many;
+        text = k;
+        block = b;
+        found = found;
+        stands = stands;
+        room = refl;
+        kinds = [];
+        values = none_at;
+        fits = λ no. absurd (cc);
+        used = used;
+        goes = work;
+      };
+      store = store_entered s code m fs a x y p r pair;
+      parked = parked;
+    }

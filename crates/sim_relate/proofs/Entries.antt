@@ -37,17 +37,18 @@ use Rattle.codegen.specs.CodeArrays.{ArraysAt, element_number}
 use Rattle.codegen.specs.CodeStm.{StmsAt}
 use Rattle.codegen.specs.Compiled.{Compiled, ProcedureTextOf, ProgramOf, TextCode, type_of_name}
 use Rattle.sim_relate.proofs.Actuals.{KeptIs, arrays_same, behind_result, both_kept, counted_many, each_length}
-use Rattle.sim_relate.proofs.Carried.{chain_later}
+use Rattle.sim_relate.proofs.Carried.{all_every, kept_every, standings_later, stands_later}
 use Rattle.sim_relate.proofs.DeclaredArrays.{arrays_at}
 use Rattle.sim_relate.proofs.Ends.{chosen}
-use Rattle.sim_relate.proofs.Entering.{block_alike, block_refused, chain_entered, chain_owners, code_there, enters, first_at, first_size, first_text, instance_at, later_fs, later_m, new_frame, text_there}
+use Rattle.sim_relate.proofs.Entering.{block_alike, block_refused, chain_entered, chain_owners, code_there, enters, parked_entered, first_at, first_size, first_text, instance_at, later_fs, later_m, new_frame, text_there}
 use Rattle.sim_relate.proofs.Formals.{formals_fit}
 use Rattle.sim_relate.proofs.Hands.{hand_integers, hand_popping, stack_length}
 use Rattle.sim_relate.proofs.Here.{Here, act, at_row, goes, kinds_as, with_values}
 use Rattle.sim_relate.proofs.Pending.{ends_at, pends}
-use Rattle.sim_relate.proofs.Relation.{Any, CallOpIs, ChainAt, HandAt, Kind, LinkIs, LinkTo, OpAt, StackAt, StateAt, StoreAt, Stands, ValAt, WorkAt, anys, array_at, element_at, given, link_at, more_at, plain_at, site_at, straight, image_at}
+use Rattle.sim_relate.proofs.Relation.{Any, CallOpIs, ChainAt, Every, HandAt, Kind, LinkIs, StandingsAt, LinkTo, OpAt, StackAt, StateAt, StoreAt, Stands, ValAt, WorkAt, anys, array_at, element_at, given, link_at, more_at, plain_at, site_at, straight, image_at}
+use Rattle.sim_meaning.specs.Sane.{Lives, lives_alone}
 use Rattle.sim_relate.proofs.Slots.{Written, cells_filled_behind, cells_fit, machine_fills, put_from, put_length, results}
-use Rattle.sim_relate.proofs.Stores.{is_live_same, new_inside, new_outermost}
+use Rattle.sim_relate.proofs.Stores.{is_live_same, new_inside, new_lives, new_lives_inside, new_outermost}
 
 no_around : (o : Option ℕ) (u : ℕ) → o ≡ None → o ≡ Some u → ⊥
 no_around o u e f = cc
@@ -62,14 +63,14 @@ words_same s k x b is c = ap (λ n. instance_words n false) (c ∙ ap (λ z. len
 
 -- ---- the work of a block that is entered
 
-module _ (s : Source) (code : CodeOf) (compiled : Compiled s code) (m : Instances) (fs : Frames) (Below : Bool → Type 0) (j k : ℕ) (b : BlockOf) (stands : Stands s m j k) where
+module _ (s : Source) (code : CodeOf) (compiled : Compiled s code) (m : Instances) (fs : Frames) (Below : Bool → Type 0) (j k : ℕ) (b : BlockOf) (stands : Stands s m j k) (lives : Lives m j) where
   fits : b.cells ≡ length (cells_in s k (text s k)) → length (cells_in s k (text s k)) ≤ b.cells
   fits e = omega (arith, e)
 
   pub block_pends : (ds : Declarations) (ss : Statements) (end : Item) (p y q : ℕ) → b.cells ≡ length (cells_in s k (text s k)) → ArraysAt s code (site_at k b b.cells) ds p y → StmsAt s code (site_at k b b.cells) 0 ss y q → WorkAt s code m fs Below j k b b.cells (end ∷ []) q []
       → WorkAt s code m fs Below j k b b.cells (block_work s m j ds ss end) p []
   block_pends ds ss end p y q e arrays stms ends =
-      arrays_at s code compiled.agrees m fs Below j k b b.cells (fits e) stands (Do (Execs ss) ∷ end ∷ []) ds p y arrays (pends s code m fs Below j k b b.cells (fits e) (end ∷ []) (Execs ss) y q [] [] (stms, refl) ends)
+      arrays_at s code compiled.agrees m fs Below j k b b.cells (fits e) stands lives (Do (Execs ss) ∷ end ∷ []) ds p y arrays (pends s code m fs Below j k b b.cells (fits e) (end ∷ []) (Execs ss) y q [] [] (stms, refl) ends)
 
 module _ (s : Source) (code : CodeOf) (compiled : Compiled s code) (l : Limits) (o : World) where
   abbrev R : Configuration → Machine → Type 0
@@ -77,10 +78,10 @@ module _ (s : Source) (code : CodeOf) (compiled : Compiled s code) (l : Limits) 
 
   -- ---- the first step
 
-  first_block : (m : Instances) (fs : Frames) → StoreAt s code m fs → (begin : ℕ) (ds : Declarations) (ss : Statements) → text s 0 ≡ Some (BlockText begin ds ss) → (b : BlockOf) → slice_get code.blocks 0 ≡ Some b → ProgramOf s code begin ds ss b
+  first_block : (m : Instances) (fs : Frames) → StoreAt s code m fs → StandingsAt s code m fs → (begin : ℕ) (ds : Declarations) (ss : Statements) → text s 0 ≡ Some (BlockText begin ds ss) → (b : BlockOf) → slice_get code.blocks 0 ≡ Some b → ProgramOf s code begin ds ss b
       → Alike R (program_entered s l o m (Some (BlockText begin ds ss))) (machine.block_at code block_kind.SubBlock (pos 0) o (λ k b x. entering l x.line.0 (words_of_block b) o (λ p. in_frame p fs k b None (machine.first_cells b) [])))
   unfolding block_number
-  first_block m fs a begin ds ss is b found h =
+  first_block m fs a parked begin ds ss is b found h =
       let heads = h.heads in
       let body = h.body in
       let cells = first_cells s 0 (BlockText begin ds ss) in
@@ -88,18 +89,19 @@ module _ (s : Source) (code : CodeOf) (compiled : Compiled s code) (l : Limits) 
       alike_entering Configuration Machine R l (line_at s begin) x.line.0 (words_of_cells cells) (words_of_block b) o _ _ (same_line x ex (h.enter).at) (words_same s 0 (BlockText begin ds ss) b is heads.cells) (λ p.
       let new = new_instance s 0 None cells in
       let frame = new_frame s code 0 b None (machine.first_cells b) in
-      let m' = later_m s code m fs a new frame in
-      let fs' = later_fs s code m fs a new frame in
-      let stands : Stands s m' (length m.instances) 0 = new_outermost s m 0 new (NoObject None) refl refl refl refl compiled.agrees.outermost in
-      let Below : Bool → Type 0 = λ v. ChainAt s code m' fs' (length m.instances) [] v [] in
+      let m' = later_m s code m fs a new frame (NoObject None) (NoObject None) in
+      let fs' = later_fs s code m fs a new frame (NoObject None) (NoObject None) in
+      let stands : Stands s m' (length m.instances) 0 = new_outermost s m 0 new (NoObject None) refl refl refl compiled.agrees.outermost in
+      let born : Lives m' (length m.instances) = lives_alone (new_lives m new (NoObject None) refl) refl in
+      let Below : Bool → Type 0 = λ v. ChainAt s code m' fs' [] v [] in
       let low : length (cells_in s 0 (text s 0)) ≤ b.cells = omega (arith, heads.cells) in
       let next = (h.enter).on in
       let start = body.there in
       let ahead : b.entry < h.start = omega (arith, next) in
-      let work = block_pends s code compiled m' fs' Below (length m.instances) 0 b stands ds ss EndProgram h.start (body.body).0 body.stop heads.cells (body.body).1 (body.body).2
+      let work = block_pends s code compiled m' fs' Below (length m.instances) 0 b stands born ds ss EndProgram h.start (body.body).0 body.stop heads.cells (body.body).1 (body.body).2
       (ends_at s code m' fs' Below (length m.instances) 0 b b.cells EndProgram [] body.stop [] (refl, record { last = body.last; at = body.ends; heads = heads; none = refl; below = record { still = refl; is = refl } })) in
-      going (enters s code m fs a new frame [] [] 0 b (instance_at s code 0 (BlockText begin ds ss) block_kind.SubBlock type.Nothing b is heads found None cells (machine.first_cells b) (first_at s code 0 (BlockText begin ds ss) block_kind.SubBlock type.Nothing b is heads) refl (first_size s code b))
-      found stands (Do PastOp ∷ block_work s m' (length m.instances) ds ss EndProgram) b.cells
+      going (enters s code m fs a new frame (NoObject None) (NoObject None) (parked_entered s code m fs a new frame (NoObject None) (NoObject None) tt parked) [] [] 0 b (instance_at s code 0 (BlockText begin ds ss) block_kind.SubBlock type.Nothing b is heads found None cells (machine.first_cells b) (first_at s code 0 (BlockText begin ds ss) block_kind.SubBlock type.Nothing b is heads) refl (first_size s code b))
+      found stands (Do PastOp ∷ block_work s m' (length m.instances) ds ss EndProgram) b.cells b.entry
       (pends s code m' fs' Below (length m.instances) 0 b b.cells low (block_work s m' (length m.instances) ds ss EndProgram) PastOp b.entry h.start [] []
       (h.start, record { line = line_at s begin; is = h.enter }, record { forward = ahead; there = start }, refl) work))))
     where
@@ -109,28 +111,28 @@ module _ (s : Source) (code : CodeOf) (compiled : Compiled s code) (l : Limits) 
   when_equal : (b b' : Bool) (r : Run Configuration) (q : Run Machine) → b' ≡ b → Alike R r q → Alike R (when b o r) (when b' o q)
   when_equal b b' r q e h = subst (λ c. Alike R (when b o r) (when c o q)) (sym e) (alike_when Configuration Machine R b o r q h)
 
-  first_some : (m : Instances) (fs : Frames) → StoreAt s code m fs → (x : Text) → text s 0 ≡ Some x → Alike R (program_entered s l o m (Some x)) (machine.block_at code block_kind.SubBlock (pos 0) o (λ k b x. entering l x.line.0 (words_of_block b) o (λ p. in_frame p fs k b None (machine.first_cells b) [])))
+  first_some : (m : Instances) (fs : Frames) → StoreAt s code m fs → StandingsAt s code m fs → (x : Text) → text s 0 ≡ Some x → Alike R (program_entered s l o m (Some x)) (machine.block_at code block_kind.SubBlock (pos 0) o (λ k b x. entering l x.line.0 (words_of_block b) o (λ p. in_frame p fs k b None (machine.first_cells b) [])))
   unfolding block_number
-  first_some m fs a (BlockText begin ds ss) is = let c = code_there s code compiled 0 (BlockText begin ds ss) is in first_block m fs a begin ds ss is c.block c.found c.has
-  first_some m fs a (ProcedureText result h body) is =
+  first_some m fs a parked (BlockText begin ds ss) is = let c = code_there s code compiled 0 (BlockText begin ds ss) is in first_block m fs a parked begin ds ss is c.block c.found c.has
+  first_some m fs a parked (ProcedureText result h body) is =
       let c = code_there s code compiled 0 (ProcedureText result h body) is in
       let heads = (procedure_code s code 0 result h body c.block c.has).heads in
       block_refused s code o block_kind.SubBlock 0 c.block c.found (ap (λ z. same_kind z block_kind.SubBlock) heads.is_kind) _
-  first_some m fs a (ClassText prefix h body) is = absurd ((code_there s code compiled 0 (ClassText prefix h body) is).has)
-  first_some m fs a (PrefixedText class arguments ds ss) is = absurd ((code_there s code compiled 0 (PrefixedText class arguments ds ss) is).has)
-  first_some m fs a ConnectionText is = absurd ((code_there s code compiled 0 ConnectionText is).has)
+  first_some m fs a parked (ClassText prefix h body) is = absurd ((code_there s code compiled 0 (ClassText prefix h body) is).has)
+  first_some m fs a parked (PrefixedText class arguments ds ss) is = absurd ((code_there s code compiled 0 (PrefixedText class arguments ds ss) is).has)
+  first_some m fs a parked ConnectionText is = absurd ((code_there s code compiled 0 ConnectionText is).has)
 
   -- both enter the program's block
-  pub first_alike : (m : Instances) (fs : Frames) → StoreAt s code m fs → Alike R (first_step s l o m) (rows.first_step code l o fs)
+  pub first_alike : (m : Instances) (fs : Frames) → StoreAt s code m fs → StandingsAt s code m fs → Alike R (first_step s l o m) (rows.first_step code l o fs)
   unfolding text
-  first_alike m fs a =
+  first_alike m fs a parked =
       let x = first_text s.program.prefix s.program.block in
       when_equal (length m.instances == 0) (length fs.instances == 0) (program_entered s l o m (text s 0)) _ (ap (λ n. n == 0) (sym a.as_many))
-      (subst (λ z. Alike R (program_entered s l o m z) (machine.block_at code block_kind.SubBlock (pos 0) o (λ k b x. entering l x.line.0 (words_of_block b) o (λ p. in_frame p fs k b None (machine.first_cells b) [])))) (sym x.1) (first_some m fs a x.0 x.1))
+      (subst (λ z. Alike R (program_entered s l o m z) (machine.block_at code block_kind.SubBlock (pos 0) o (λ k b x. entering l x.line.0 (words_of_block b) o (λ p. in_frame p fs k b None (machine.first_cells b) [])))) (sym x.1) (first_some m fs a parked x.0 x.1))
 
 -- ---- entries from an instance
 
-module _ (s : Source) (code : CodeOf) (compiled : Compiled s code) (l : Limits) (o : World) (m : Instances) (inst : ℕ) (w : List Item) (vals : List Val) (rest : List Activation) (fs : Frames) (t : ℕ) (b : BlockOf) (pc : ℕ) (stack : List Value) (below : List machine.Activation) (ks : List Kind) (here : Here s code m fs inst t b ks vals stack) (u q : ℕ) (ks' : List Kind) (low : length (cells_in s t (text s t)) ≤ u) (work : WorkAt s code m fs (λ v. ChainAt s code m fs inst rest v below) inst t b u w q ks') where
+module _ (s : Source) (code : CodeOf) (compiled : Compiled s code) (l : Limits) (o : World) (m : Instances) (inst : ℕ) (w : List Item) (vals : List Val) (rest : List Activation) (fs : Frames) (t : ℕ) (b : BlockOf) (pc : ℕ) (stack : List Value) (below : List machine.Activation) (ks : List Kind) (here : Here s code m fs inst rest t b ks vals stack) (u q : ℕ) (ks' : List Kind) (low : length (cells_in s t (text s t)) ≤ u) (work : WorkAt s code m fs (λ v. ChainAt s code m fs rest v below) inst t b u w q ks') where
   abbrev Related : Configuration → Machine → Type 0
   Related = StateAt s code
 
@@ -141,11 +143,10 @@ module _ (s : Source) (code : CodeOf) (compiled : Compiled s code) (l : Limits) 
   Follows op = OpAt s code m fs inst (site_at t b u) op pc q ks ks' → Alike Related (do_op s l o m inst w vals rest op) (on_top code l o fs top below)
 
   -- the instance waits, with what is left in its hand
-  waits : (v : Bool) (left : List Kind) (vals2 : List Val) (stack2 : List Value) → StackAt (HandAt s m inst) left vals2 stack2 → (v ≡ true → length left < b.room) → ks' ≡ given v left → q ≡ suc pc → ChainAt s code m fs (length m.instances) (record { instance = inst; work = w; values = vals2 } ∷ rest) v (waiting top stack2 ∷ below)
+  waits : (v : Bool) (left : List Kind) (vals2 : List Val) (stack2 : List Value) → StackAt (HandAt s m) left vals2 stack2 → (v ≡ true → length left < b.room) → ks' ≡ given v left → q ≡ suc pc → ChainAt s code m fs (record { instance = inst; work = w; values = vals2 } ∷ rest) v (waiting top stack2 ∷ below)
   waits v left vals2 stack2 h fits e place = record {
     base = refl;
     home = refl;
-    before = here.live;
     text = t;
     block = b;
     found = here.found;
@@ -155,7 +156,7 @@ module _ (s : Source) (code : CodeOf) (compiled : Compiled s code) (l : Limits) 
     values = h;
     fits = fits;
     used = u;
-    goes = subst (λ z. WorkAt s code m fs (λ v. ChainAt s code m fs inst rest v below) inst t b u w (suc pc) z) e (subst (λ z. WorkAt s code m fs (λ v. ChainAt s code m fs inst rest v below) inst t b u w z ks') place work);
+    goes = subst (λ z. WorkAt s code m fs (λ v. ChainAt s code m fs rest v below) inst t b u w (suc pc) z) e (subst (λ z. WorkAt s code m fs (λ v. ChainAt s code m fs rest v below) inst t b u w z ks') place work);
   }
 
   -- ---- sub-blocks
@@ -173,16 +174,17 @@ module _ (s : Source) (code : CodeOf) (compiled : Compiled s code) (l : Limits) 
       alike_entering Configuration Machine Related l line line (words_of_cells cells) (words_of_block new_block) o _ _ refl (words_same s (suc k) (BlockText begin ds ss) new_block is heads.cells) (λ p.
       let new = new_instance s (suc k) (Some inst) cells in
       let frame = new_frame s code (block_number s (suc k)) new_block (Some inst) (machine.first_cells new_block) in
-      let m' = later_m s code m fs here.store new frame in
-      let fs' = later_fs s code m fs here.store new frame in
+      let m' = later_m s code m fs here.store new frame (NoObject None) (NoObject None) in
+      let fs' = later_fs s code m fs here.store new frame (NoObject None) (NoObject None) in
       let chain : List Activation = record { instance = inst; work = w; values = vals } ∷ rest in
       let under : List machine.Activation = waiting top stack ∷ below in
-      let Below : Bool → Type 0 = λ v. ChainAt s code m' fs' (length m.instances) chain v under in
-      let stands : Stands s m' (length m.instances) (suc k) = new_inside s m (suc k) inst t new (NoObject None) refl refl refl refl around here.live here.stands in
-      let waiting_chain = chain_entered s code m fs here.store new frame chain false under (waits false ks vals stack here.values (λ no. absurd (cc)) e at.on) in
-      going (enters s code m fs here.store new frame chain under (suc k) new_block (instance_at s code (suc k) (BlockText begin ds ss) block_kind.SubBlock type.Nothing new_block is heads c.found (Some inst) cells (machine.first_cells new_block) (first_at s code (suc k) (BlockText begin ds ss) block_kind.SubBlock type.Nothing new_block is heads) refl (first_size s code new_block))
-      c.found stands (block_work s m' (length m.instances) ds ss EndBlock) new_block.cells
-      (block_pends s code compiled m' fs' Below (length m.instances) (suc k) new_block stands ds ss EndBlock new_block.entry (body.body).0 body.stop heads.cells (body.body).1 (body.body).2
+      let Below : Bool → Type 0 = λ v. ChainAt s code m' fs' chain v under in
+      let stands : Stands s m' (length m.instances) (suc k) = new_inside s m (suc k) inst t new (NoObject None) refl refl refl around here.stands in
+      let born : Lives m' (length m.instances) = new_lives_inside m new (NoObject None) refl inst refl here.lives in
+      let waiting_chain = chain_entered s code m fs here.store new frame (NoObject None) (NoObject None) chain false under (waits false ks vals stack here.values (λ no. absurd (cc)) e at.on) in
+      going (enters s code m fs here.store new frame (NoObject None) (NoObject None) (parked_entered s code m fs here.store new frame (NoObject None) (NoObject None) tt here.parked) chain under (suc k) new_block (instance_at s code (suc k) (BlockText begin ds ss) block_kind.SubBlock type.Nothing new_block is heads c.found (Some inst) cells (machine.first_cells new_block) (first_at s code (suc k) (BlockText begin ds ss) block_kind.SubBlock type.Nothing new_block is heads) refl (first_size s code new_block))
+      c.found stands (block_work s m' (length m.instances) ds ss EndBlock) new_block.cells new_block.entry
+      (block_pends s code compiled m' fs' Below (length m.instances) (suc k) new_block stands born ds ss EndBlock new_block.entry (body.body).0 body.stop heads.cells (body.body).1 (body.body).2
       (ends_at s code m' fs' Below (length m.instances) (suc k) new_block new_block.cells EndBlock [] body.stop [] (record { begin = begin; declarations = ds; statements = ss; is = is }, record { last = body.last; at = body.ends; heads = heads; none = refl; below = waiting_chain })))))))
 
   enter_some : (k line : ℕ) (x : Text) → text s k ≡ Some x → At code (i.Enter (pos (block_number s k))) line pc q → encloser s.tables k ≡ Some t → ks' ≡ ks → Alike Related (sub_block_entered s l o m inst w vals rest k line (Some x)) (on_top code l o fs top below)
@@ -209,7 +211,7 @@ module _ (s : Source) (code : CodeOf) (compiled : Compiled s code) (l : Limits) 
   found_left A x a r p e h = subst (λ z. Alike Related (having z o r) p) (sym e) h
 
   -- a procedure whose actual parameters are in hand, with what is left
-  module _ (k line : ℕ) (result : Option TypeName) (heading : Heading) (body : Statement) (is : text s k ≡ Some (ProcedureText result heading body)) (new_block : BlockOf) (found : slice_get code.blocks (block_number s k) ≡ Some new_block) (h : ProcedureTextOf s code k result body new_block) (j around : ℕ) (in_text : encloser s.tables k ≡ Some around) (link : Stands s m j around) (under_inst : j ≤ inst) (values : List Val) (values' : List Value) (each : EachAt ValAt values values') (many : length values ≡ length (formals_of s k)) (vals2 : List Val) (stack2 : List Value) (waiting_here : ChainAt s code m fs (length m.instances) (record { instance = inst; work = w; values = vals2 } ∷ rest) (has_result result) (waiting top stack2 ∷ below)) where
+  module _ (k line : ℕ) (result : Option TypeName) (heading : Heading) (body : Statement) (is : text s k ≡ Some (ProcedureText result heading body)) (new_block : BlockOf) (found : slice_get code.blocks (block_number s k) ≡ Some new_block) (h : ProcedureTextOf s code k result body new_block) (j around : ℕ) (in_text : encloser s.tables k ≡ Some around) (link : Stands s m j around) (values : List Val) (values' : List Value) (each : EachAt ValAt values values') (many : length values ≡ length (formals_of s k)) (vals2 : List Val) (stack2 : List Value) (waiting_here : ChainAt s code m fs (record { instance = inst; work = w; values = vals2 } ∷ rest) (has_result result) (waiting top stack2 ∷ below)) where
     abbrev cells : List Held
     cells = first_cells s k (ProcedureText result heading body)
 
@@ -243,7 +245,7 @@ module _ (s : Source) (code : CodeOf) (compiled : Compiled s code) (l : Limits) 
     kept_fs = frames_kept new_block (top ∷ below) fs
 
     kept : KeptIs s code m fs kept_m kept_fs
-    kept = both_kept s code m fs here.store chain (top ∷ below) (chain_owners s code m fs (length m.instances) chain (has_result result) under waiting_here) k block_kind.Procedure (type_of_name result) new_block h.heads
+    kept = both_kept s code m fs here.store chain (top ∷ below) (chain_owners s code m fs chain (has_result result) under waiting_here) k block_kind.Procedure (type_of_name result) new_block h.heads
 
     abbrev new : Instance (List Held)
     new = new_instance s k (Some j) cells_at.now
@@ -251,25 +253,22 @@ module _ (s : Source) (code : CodeOf) (compiled : Compiled s code) (l : Limits) 
     abbrev frame : Instance Cells
     frame = new_frame s code (block_number s k) new_block (Some j) cells'
 
-    state_entered : Related (record { chain = record { instance = length kept_m.instances; work = Do (Exec body) ∷ EndProcedure (has_result result) ∷ []; values = [] } ∷ chain; memory = later_m s code kept_m kept_fs kept.store new frame }) (record { chain = record { thunk = false; home = length kept_fs.instances; pc = new_block.entry; stack = []; room = new_block.room } ∷ under; memory = later_fs s code kept_m kept_fs kept.store new frame })
+    state_entered : Related (record { chain = record { instance = length kept_m.instances; work = Do (Exec body) ∷ EndProcedure (has_result result) ∷ []; values = [] } ∷ chain; memory = later_m s code kept_m kept_fs kept.store new frame (NoObject None) (NoObject None) }) (record { chain = record { thunk = false; home = length kept_fs.instances; pc = new_block.entry; stack = []; room = new_block.room } ∷ under; memory = later_fs s code kept_m kept_fs kept.store new frame (NoObject None) (NoObject None) })
     state_entered =
         let heads = h.heads in
         let code_body = h.body in
-        let m' = later_m s code kept_m kept_fs kept.store new frame in
-        let fs' = later_fs s code kept_m kept_fs kept.store new frame in
-        let Below : Bool → Type 0 = λ v. ChainAt s code m' fs' (length kept_m.instances) chain v under in
-        let n = kept.count in
-        let deep = here.live in
-        let lives : j < length kept_m.instances = omega (arith, under_inst, deep, n) in
-        let out = (kept.later (suc j)).stands j around (omega arith) link in
-        let stands : Stands s m' (length kept_m.instances) k = new_inside s kept_m k j around new (NoObject None) refl refl refl refl in_text lives out in
-        let chain_kept = chain_later s code m kept_m fs kept_fs (length m.instances) (kept.later (length m.instances)) (kept.keeps (length m.instances)) chain (has_result result) under waiting_here in
-        let chain_here = subst (λ z. ChainAt s code kept_m kept_fs z chain (has_result result) under) (sym n) chain_kept in
-        let chain_there = chain_entered s code kept_m kept_fs kept.store new frame chain (has_result result) under chain_here in
+        let m' = later_m s code kept_m kept_fs kept.store new frame (NoObject None) (NoObject None) in
+        let fs' = later_fs s code kept_m kept_fs kept.store new frame (NoObject None) (NoObject None) in
+        let Below : Bool → Type 0 = λ v. ChainAt s code m' fs' chain v under in
+        let out = (kept.later).stands j around link in
+        let stands : Stands s m' (length kept_m.instances) k = new_inside s kept_m k j around new (NoObject None) refl refl refl in_text out in
+        let chain_kept = stands_later s code m kept_m fs kept_fs kept.later Every kept.keeps chain (all_every chain) (has_result result) under waiting_here in
+        let parked_kept = standings_later s code m kept_m fs kept_fs kept.later Every kept.keeps kept.standings kept.standings' (kept_every m) here.parked in
+        let chain_there = chain_entered s code kept_m kept_fs kept.store new frame (NoObject None) (NoObject None) chain (has_result result) under chain_kept in
         let size : length cells' ≡ length new_block.types = put_length (results result) values' (machine.first_cells new_block) ∙ first_size s code new_block in
         let pair = instance_at s code k (ProcedureText result heading body) block_kind.Procedure (type_of_name result) new_block is heads found (Some j) cells_at.now cells' cells_at.at cells_at.keys size in
         let low' : length (cells_in s k (text s k)) ≤ new_block.cells = omega (arith, heads.cells) in
-        enters s code kept_m kept_fs kept.store new frame chain under k new_block pair found stands (Do (Exec body) ∷ EndProcedure (has_result result) ∷ []) new_block.cells
+        enters s code kept_m kept_fs kept.store new frame (NoObject None) (NoObject None) (parked_entered s code kept_m kept_fs kept.store new frame (NoObject None) (NoObject None) tt parked_kept) chain under k new_block pair found stands (Do (Exec body) ∷ EndProcedure (has_result result) ∷ []) new_block.cells new_block.entry
         (pends s code m' fs' Below (length kept_m.instances) k new_block new_block.cells low' (EndProcedure (has_result result) ∷ []) (Exec body) new_block.entry code_body.stop [] [] (straight code_body.body, refl)
         (ends_at s code m' fs' Below (length kept_m.instances) k new_block new_block.cells (EndProcedure (has_result result)) [] code_body.stop [] (record { result = result; heading = heading; body = body; is = is; same = refl; ends = record { last = code_body.last; at = code_body.ends; heads = heads; none = refl; below = chain_there } })))
 
@@ -295,7 +294,7 @@ module _ (s : Source) (code : CodeOf) (compiled : Compiled s code) (l : Limits) 
   by_equal A x y f q e h = subst (λ z. Alike Related (f z) q) (sym e) h
 
   -- the link is an instance of the text around
-  called_at : (k n line : ℕ) (a : CallOpIs s code (site_at t b u) k n line pc q ks ks') → (values : List Val) (values' : List Value) → EachAt ValAt values values' → length values ≡ n → (v : Val) (x : Value) (vals2 : List Val) (stack2 : List Value) → LinkIs s m inst a.text v x → StackAt (HandAt s m inst) a.left vals2 stack2
+  called_at : (k n line : ℕ) (a : CallOpIs s code (site_at t b u) k n line pc q ks ks') → (values : List Val) (values' : List Value) → EachAt ValAt values values' → length values ≡ n → (v : Val) (x : Value) (vals2 : List Val) (stack2 : List Value) → LinkIs s m a.text v x → StackAt (HandAt s m) a.left vals2 stack2
       → Alike Related (having (instance_in v) o (λ j. when (is_live m j) o (procedure_entered s l o m inst w vals2 rest k line values j (text s k))))
       (having (machine.frame_in x) o (λ parent. when (is_live fs parent) o (machine.block_at code block_kind.Procedure (pos (block_number s k)) o (λ n b x. having (machine.filled (if is_nothing b.result_type then 0 else 1) values' (machine.first_cells b)) o (λ cells. entering l line (words_of_block b) o (λ p. in_frame (handed_over (length fs.instances) (machine.arrays_by_value b.formals values') p) (frames_kept b (top ∷ below) fs) n b (Some parent) cells (waiting top stack2 ∷ below)))))))
   called_at k n line a values values' each counted v x vals2 stack2 link h =
@@ -308,13 +307,13 @@ module _ (s : Source) (code : CodeOf) (compiled : Compiled s code) (l : Limits) 
       (alike_found Configuration Machine Related ℕ (machine.frame_in x) j o _ _ (ap machine.frame_in link.is_value)
       (when_equal s code compiled l o (is_live m j) (is_live fs j) _ _ (sym (is_live_same s code m fs here.store j))
       (by_equal (Option Text) (text s k) (Some (ProcedureText p.result p.heading p.body)) (λ z. procedure_entered s l o m inst w vals2 rest k line values j z) _ p.is
-      (procedure_enters k line p.result p.heading p.body p.is c.block c.found has j a.text p.stands_in link.stands link.before values values' each (counted ∙ a.as_many) vals2 stack2 under))))
+      (procedure_enters k line p.result p.heading p.body p.is c.block c.found has j a.text p.stands_in link.stands values values' each (counted ∙ a.as_many) vals2 stack2 under))))
 
   call_row : (n : ℕ) (r : Run Configuration) (go : ℕ → Run Machine) → Alike Related r (go n) → Alike Related r (machine.index (pos n) o go)
   unfolding machine.index
   call_row n r go h = alike_found Configuration Machine Related ℕ (number (pos n)) n o r go refl h
 
-  same_hand : (v : Val) (x : Value) → HandAt s m inst Any v x → plain v ≡ machine.plain x
+  same_hand : (v : Val) (x : Value) → HandAt s m Any v x → plain v ≡ machine.plain x
   same_hand _ _ plain_at = refl
   same_hand _ _ link_at = refl
   same_hand _ _ array_at = refl
@@ -325,8 +324,8 @@ module _ (s : Source) (code : CodeOf) (compiled : Compiled s code) (l : Limits) 
   call k n line a =
       at_row s code l o fs top below _ (i.Call (pos (block_number s k)) (pos n)) line q a.is
       (call_row n _ _
-      (counted_many Configuration Machine Related (HandAt s m inst) n n (LinkTo a.text ∷ a.left) [] [] vals stack o _ _ (kinds_as s code a.«in» here.values) tt (omega arith) (λ values values' vals1 stack1 each counted h1.
-      hand_popping Configuration Machine Related Val Value (HandAt s m inst) plain machine.plain same_hand (LinkTo a.text) a.left vals1 stack1 o _ _ h1 (λ v x vals2 stack2 ev ex link h2.
+      (counted_many Configuration Machine Related (HandAt s m) n n (LinkTo a.text ∷ a.left) [] [] vals stack o _ _ (kinds_as s code a.«in» here.values) tt (omega arith) (λ values values' vals1 stack1 each counted h1.
+      hand_popping Configuration Machine Related Val Value (HandAt s m) plain machine.plain same_hand (LinkTo a.text) a.left vals1 stack1 o _ _ h1 (λ v x vals2 stack2 ev ex link h2.
       called_at k n line a values values' each counted v x vals2 stack2 link h2))))
 
   -- ---- arrays
@@ -338,18 +337,18 @@ module _ (s : Source) (code : CodeOf) (compiled : Compiled s code) (l : Limits) 
   element_kind_is type_kind.Text = refl
   element_kind_is type_kind.Reference = refl
 
-  array_pushed : (left : List Kind) (vals2 : List Val) (stack2 : List Value) (p : World) (array : ℕ) → StackAt (HandAt s m inst) left vals2 stack2 → length left < b.room → ks' ≡ anys 1 left → q ≡ suc pc → Alike Related (go p m inst w (ArrayValue array ∷ vals2) rest) (machine.pushing b.room stack2 (machine.ArrayValue array) p (λ stack. machine.on p fs top stack below))
+  array_pushed : (left : List Kind) (vals2 : List Val) (stack2 : List Value) (p : World) (array : ℕ) → StackAt (HandAt s m) left vals2 stack2 → length left < b.room → ks' ≡ anys 1 left → q ≡ suc pc → Alike Related (go p m inst w (ArrayValue array ∷ vals2) rest) (machine.pushing b.room stack2 (machine.ArrayValue array) p (λ stack. machine.on p fs top stack below))
   unfolding machine.pushing when
   array_pushed left vals2 stack2 p array h fits e place =
       let n = stack_length left vals2 stack2 h in
       let less : nat_lt (length stack2) b.room ≡ true = grind (arith, n, fits) in
       chosen (λ z. Alike Related (go p m inst w (ArrayValue array ∷ vals2) rest) z) (nat_lt (length stack2) b.room) _ (no_rule p) less
-      (goes s code u q (with_values s code here (more_at array_at h)) (subst (λ z. WorkAt s code m fs (λ v. ChainAt s code m fs inst rest v below) inst t b u w q z) e work) place)
+      (goes s code u q (with_values s code here (more_at array_at h)) (subst (λ z. WorkAt s code m fs (λ v. ChainAt s code m fs rest v below) inst t b u w q z) e work) place)
 
   pub array : (kind : TypeKind) (n line : ℕ) → Follows (ArrayOp kind n line)
   array kind n line a =
       at_row s code l o fs top below _ (i.Array (element_number kind) (pos n)) line q a.is
       (alike_found Configuration Machine Related TypeKind (rows.element_kind (element_number kind)) kind o _ _ (element_kind_is kind)
       (call_row n _ _
-      (hand_integers Configuration Machine Related Val Value (HandAt s m inst) plain machine.plain same_hand (2 * n) a.left [] vals stack o _ _ (kinds_as s code a.«in» here.values) (λ bounds vals2 stack2 h.
+      (hand_integers Configuration Machine Related Val Value (HandAt s m) plain machine.plain same_hand (2 * n) a.left [] vals stack o _ _ (kinds_as s code a.«in» here.values) (λ bounds vals2 stack2 h.
       alike_making Configuration Machine Related l line inst kind (pairs bounds) o _ _ (λ array p. array_pushed a.left vals2 stack2 p array h a.fits a.out (a.is).on)))))

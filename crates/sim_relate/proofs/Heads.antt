@@ -4,12 +4,12 @@ use Rattle.std.proofs.lemmas.List.{length-set}
 use Rattle.std.specs.Prelude.{◌==◌, if◌then◌else◌, slice_get, slice_set}
 use Rattle.sim_chains.specs.Components.{Standing}
 use Rattle.sim_scope.specs.Source.{Source}
-use Rattle.sim_code.specs.Instances.{Instance, Memory, at_level, entered, found_at, given, given_in, kept_at, kept_further, kept_on, level_within, live, outward, unless_given, with_instance}
+use Rattle.sim_code.specs.Instances.{Instance, Memory, entered, found_at, given, given_in, kept_at, kept_further, kept_on, outward, unless_given, with_instance}
 use Rattle.sim_code.proofs.Lifts.{Both}
 use Rattle.sim_meaning.specs.Pending.{Held, Instances}
-use Rattle.sim_relate.proofs.Lists.{append_before, set_other}
+use Rattle.sim_relate.proofs.Lists.{append_before}
 use Rattle.sim_relate.proofs.Reach.{if_false}
-use Rattle.sim_relate.proofs.Relation.{Later, Stands, inside, outermost}
+use Rattle.sim_relate.proofs.Relation.{Later, Stands, inside, outermost, seen_at, seen_within}
 
 -- ---- both there
 
@@ -86,10 +86,9 @@ module _ {C : Type 0} where
     pub text : x'.text ≡ x.text
     pub level : x'.level ≡ x.level
     pub encloser : x'.encloser ≡ x.encloser
-    pub given_back : x'.given_back ≡ x.given_back
 
   pub heads_refl : (x : Instance C) → Heads x x
-  heads_refl x = record { text = refl; level = refl; encloser = refl; given_back = refl }
+  heads_refl x = record { text = refl; level = refl; encloser = refl }
 
   -- and have the same cells
   pub record Same (x x' : Instance C) : Type 0 where
@@ -103,7 +102,7 @@ module _ {C : Type 0} where
   same_trans x y z a b =
       let p = a.heads in
       let q = b.heads in
-      record { heads = record { text = q.text ∙ p.text; level = q.level ∙ p.level; encloser = q.encloser ∙ p.encloser; given_back = q.given_back ∙ p.given_back }; cells = b.cells ∙ a.cells }
+      record { heads = record { text = q.text ∙ p.text; level = q.level ∙ p.level; encloser = q.encloser ∙ p.encloser }; cells = b.cells ∙ a.cells }
 
   pub both_heads : (o o' : Option (Instance C)) → Both Same o o' → Both Heads o o'
   both_heads None None b = b
@@ -111,47 +110,36 @@ module _ {C : Type 0} where
   both_heads (Some x) None b = absurd b
   both_heads (Some x) (Some y) b = b.heads
 
-  pub live_heads : (o o' : Option (Instance C)) → Both Heads o o' → Both Heads (unless_given o) (unless_given o')
-  live_heads o o' b = given_both Heads (λ x y h. h.given_back) o o' b
-
-  pub live_same : (o o' : Option (Instance C)) → Both Same o o' → Both Same (unless_given o) (unless_given o')
-  live_same o o' b = given_both Same (λ x y h. h.heads.given_back) o o' b
-
 -- ---- what later stores keep
 
-module _ (s : Source) (m m' : Instances) (bound : ℕ) (heads : (k : ℕ) → k < bound → Both Heads (slice_get m.instances k) (slice_get m'.instances k)) where
-  now_heads : (k : ℕ) → k < bound → (x : Instance (List Held)) → live m k ≡ Some x → Found Heads x (live m' k)
-  now_heads k lt x e = both_found Heads (live m k) (live m' k) x e (live_heads (slice_get m.instances k) (slice_get m'.instances k) (heads k lt))
-
-  pub stands_later : (j t : ℕ) → j < bound → Stands s m j t → Stands s m' j t
-  stands_later j t lt (outermost {x = x} lives text level alone around) =
-      let y = now_heads j lt x lives in
+module _ (s : Source) (m m' : Instances) (heads : (k : ℕ) (x : Instance (List Held)) → slice_get m.instances k ≡ Some x → Found Heads x (slice_get m'.instances k)) where
+  pub stands_later : (j t : ℕ) → Stands s m j t → Stands s m' j t
+  stands_later j t (outermost {x = x} there text level alone around) =
+      let y = heads j x there in
       let h = y.related in
       outermost y.is (h.text ∙ text) (h.level ∙ level) (h.encloser ∙ alone) around
-  stands_later j t lt (inside {e = e} {u = u} {x = x} lives text level alone around before stands) =
-      let y = now_heads j lt x lives in
+  stands_later j t (inside {e = e} {u = u} {x = x} there text level alone around before stands) =
+      let y = heads j x there in
       let h = y.related in
-      let further : e < bound = omega arith in
-      inside y.is (h.text ∙ text) (h.level ∙ level) (h.encloser ∙ alone) around before (stands_later e u further stands)
+      inside y.is (h.text ∙ text) (h.level ∙ level) (h.encloser ∙ alone) around before (stands_later e u stands)
 
-  found_same : (look look' : ℕ → Option ℕ) (level j : ℕ) (x y : Instance (List Held)) → live m j ≡ Some x → live m' j ≡ Some y → Heads x y → outward look' x.encloser ≡ outward look x.encloser → found_at level look' j (live m' j) ≡ found_at level look j (live m j)
+  found_same : (look look' : ℕ → Option ℕ) (level j : ℕ) (x y : Instance (List Held)) → slice_get m.instances j ≡ Some x → slice_get m'.instances j ≡ Some y → Heads x y → outward look' x.encloser ≡ outward look x.encloser → found_at level look' j (slice_get m'.instances j) ≡ found_at level look j (slice_get m.instances j)
   found_same look look' level j x y ex ey h out =
       ap (found_at level look' j) ey ∙ ap (λ l. if l == level then Some j else outward look' y.encloser) h.level ∙ ap (λ e. if x.level == level then Some j else outward look' e) h.encloser ∙ ap (λ z. if x.level == level then Some j else z) out ∙ sym (ap (found_at level look j) ex)
 
-  within_later : (n level j t : ℕ) → j < bound → Stands s m j t → level_within n m' level j ≡ level_within n m level j
-  within_later zero level j t lt st = refl
-  within_later (suc n) level j t lt (outermost {x = x} lives text lev alone around) =
-      let y = now_heads j lt x lives in
-      found_same (level_within n m level) (level_within n m' level) level j x y.it lives y.is y.related (ap (outward (level_within n m' level)) alone ∙ sym (ap (outward (level_within n m level)) alone))
-  within_later (suc n) level j t lt (inside {e = e} {u = u} {x = x} lives text lev alone around before stands) =
-      let y = now_heads j lt x lives in
-      let further : e < bound = omega arith in
-      found_same (level_within n m level) (level_within n m' level) level j x y.it lives y.is y.related
-      (ap (outward (level_within n m' level)) alone ∙ within_later n level e u further stands ∙ sym (ap (outward (level_within n m level)) alone))
+  within_later : (n level j t : ℕ) → Stands s m j t → seen_within n m' level j ≡ seen_within n m level j
+  within_later zero level j t st = refl
+  within_later (suc n) level j t (outermost {x = x} there text lev alone around) =
+      let y = heads j x there in
+      found_same (seen_within n m level) (seen_within n m' level) level j x y.it there y.is y.related (ap (outward (seen_within n m' level)) alone ∙ sym (ap (outward (seen_within n m level)) alone))
+  within_later (suc n) level j t (inside {e = e} {u = u} {x = x} there text lev alone around before stands) =
+      let y = heads j x there in
+      found_same (seen_within n m level) (seen_within n m' level) level j x y.it there y.is y.related
+      (ap (outward (seen_within n m' level)) alone ∙ within_later n level e u stands ∙ sym (ap (outward (seen_within n m level)) alone))
 
-  pub later_heads : Later s m m' bound
-  unfolding at_level
-  later_heads = record { stands = stands_later; same = λ level j t lt st. within_later (suc j) level j t lt st }
+  pub later_heads : Later s m m'
+  unfolding seen_at
+  later_heads = record { stands = stands_later; same = λ level j t st. within_later (suc j) level j t st }
 
 -- ---- entries and ends
 
@@ -159,12 +147,16 @@ module _ {C A : Type 0} (m : Memory C A) where
   pub entered_same : (x : Instance C) (st : Standing A) (k : ℕ) → k < length m.instances → Both Same (slice_get m.instances k) (slice_get (entered m x st).instances k)
   entered_same x st k lt = both_equal Same same_refl (slice_get m.instances k) (slice_get (m.instances ++ x ∷ []) k) (append_before m.instances x k lt)
 
-  given_get : (i k : ℕ) (o : Option (Instance C)) → k ≢ i → slice_get (given_in m i o).instances k ≡ slice_get m.instances k
-  given_get i k None ne = refl
-  given_get i k (Some x) ne = set_other m.instances i k (record x { given_back = true }) ne
+  given_at : (i : ℕ) (o : Option (Instance C)) → slice_get m.instances i ≡ o → (k : ℕ) → Both Same (slice_get m.instances k) (slice_get (given_in m i o).instances k)
+  given_at i None e k = both_refl Same same_refl (slice_get m.instances k)
+  given_at i (Some x) e k = set_self Same same_refl m.instances i x (record x { given_back = true }) e (record { heads = record { text = refl; level = refl; encloser = refl }; cells = refl }) k
 
-  pub given_same : (i k : ℕ) → k ≢ i → Both Same (slice_get m.instances k) (slice_get (given m i).instances k)
-  given_same i k ne = both_equal Same same_refl (slice_get m.instances k) (slice_get (given m i).instances k) (given_get i k (slice_get m.instances i) ne)
+  pub given_same : (i k : ℕ) → Both Same (slice_get m.instances k) (slice_get (given m i).instances k)
+  given_same i k = given_at i (slice_get m.instances i) refl k
+
+  pub given_standings : (i : ℕ) (o : Option (Instance C)) → (given_in m i o).standings ≡ m.standings
+  given_standings i None = refl
+  given_standings i (Some x) = refl
 
   pub given_length : (i : ℕ) (o : Option (Instance C)) → length (given_in m i o).instances ≡ length m.instances
   given_length i None = refl
@@ -178,7 +170,7 @@ module _ {C A : Type 0} (owner : A → Option ℕ) (k : ℕ) where
   kept_if go ih m j x e false = both_refl Same same_refl (slice_get m.instances k)
   kept_if go ih m j x e true =
       let m1 : Memory C A = with_instance m j (record x { kept = true }) in
-      let p : Same x (record x { kept = true }) = record { heads = record { text = refl; level = refl; encloser = refl; given_back = refl }; cells = refl } in
+      let p : Same x (record x { kept = true }) = record { heads = record { text = refl; level = refl; encloser = refl }; cells = refl } in
       both_trans Same same_trans (slice_get m.instances k) (slice_get m1.instances k) (slice_get (go m1).instances k) (set_self Same same_refl m.instances j x (record x { kept = true }) e p k) (ih m1)
 
   kept_in : (go : Memory C A → Memory C A) → ((m : Memory C A) → KeepsAt m (go m)) → (m : Memory C A) (j : ℕ) (o : Option (Instance C)) → slice_get m.instances j ≡ o → KeepsAt m (kept_further go m j o)
@@ -193,3 +185,25 @@ module _ {C A : Type 0} (owner : A → Option ℕ) (k : ℕ) where
   unfolding kept_on
   kept_same [] m = both_refl Same same_refl (slice_get m.instances k)
   kept_same (a ∷ chain) m = kept_one (kept_on owner chain) (kept_same chain) m (owner a)
+
+-- instances that are kept stand as before
+module _ {C A : Type 0} (owner : A → Option ℕ) where
+  abbrev StandsAlike : (Memory C A → Memory C A) → Type 0
+  StandsAlike go = (m : Memory C A) → (go m).standings ≡ m.standings
+
+  kept_stands_if : (go : Memory C A → Memory C A) → StandsAlike go → (m : Memory C A) (j : ℕ) (x : Instance C) (b : Bool) → (if b then go (with_instance m j (record x { kept = true })) else m).standings ≡ m.standings
+  kept_stands_if go f m j x true = f (with_instance m j (record x { kept = true }))
+  kept_stands_if go f m j x false = refl
+
+  kept_stands_in : (go : Memory C A → Memory C A) → StandsAlike go → (m : Memory C A) (j : ℕ) (o : Option (Instance C)) → (kept_further go m j o).standings ≡ m.standings
+  kept_stands_in go f m j None = refl
+  kept_stands_in go f m j (Some x) = kept_stands_if go f m j x x.passing
+
+  kept_stands_at : (go : Memory C A → Memory C A) → StandsAlike go → (m : Memory C A) (o : Option ℕ) → (kept_at go m o).standings ≡ m.standings
+  kept_stands_at go f m None = f m
+  kept_stands_at go f m (Some j) = kept_stands_in go f m j (slice_get m.instances j)
+
+  pub kept_standings : (chain : List A) → StandsAlike (kept_on owner chain)
+  unfolding kept_on
+  kept_standings [] m = refl
+  kept_standings (a ∷ chain) m = kept_stands_at (kept_on owner chain) (kept_standings chain) m (owner a)

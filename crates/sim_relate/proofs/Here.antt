@@ -16,28 +16,39 @@ use Rattle.sim_meaning.specs.Pending.{Activation, Configuration, Instances, Item
 use Rattle.sim_meaning.specs.Steps.{go}
 use Rattle.codegen_expr.specs.Sites.{At, lined}
 use Rattle.codegen_expr.specs.CodeExpr.{block_number}
-use Rattle.sim_relate.proofs.Relation.{ChainAt, HandAt, Kind, StackAt, Stands, StateAt, StoreAt, WorkAt}
+use Rattle.sim_relate.proofs.Relation.{ChainAt, HandAt, Kind, StackAt, StandingsAt, Stands, StateAt, StoreAt, WorkAt}
+use Rattle.sim_meaning.specs.Sane.{AllKept, AllOf, Lives, Other}
 
 -- the activation of an instance
 abbrev pub act : (inst pc : ℕ) → List Value → (room : ℕ) → machine.Activation
 act inst pc stack room = record { thunk = false; home = inst; pc = pc; stack = stack; room = room }
 
 -- where both sides stand, apart from the work
-pub record Here (s : Source) (code : CodeOf) (m : Instances) (fs : Frames) (inst t : ℕ) (b : BlockOf) (ks : List Kind) (vals : List Val) (stack : List Value) : Type 0 where
+pub record There (s : Source) (code : CodeOf) (m : Instances) (fs : Frames) (inst t : ℕ) (b : BlockOf) (ks : List Kind) (vals : List Val) (stack : List Value) : Type 0 where
   pub store : StoreAt s code m fs
-  pub live : inst < length m.instances
+  pub parked : StandingsAt s code m fs
   pub stands : Stands s m inst t
   pub found : slice_get code.blocks (block_number s t) ≡ Some b
-  pub values : StackAt (HandAt s m inst) ks vals stack
+  pub values : StackAt (HandAt s m) ks vals stack
+
+-- The same of the instance that operates: it lives, and works on no other place.
+pub record Here (s : Source) (code : CodeOf) (m : Instances) (fs : Frames) (inst : ℕ) (rest : List Activation) (t : ℕ) (b : BlockOf) (ks : List Kind) (vals : List Val) (stack : List Value) : Type 0 where
+  pub store : StoreAt s code m fs
+  pub parked : StandingsAt s code m fs
+  pub lives : Lives m inst
+  pub alone : AllOf (Other inst) rest
+  pub kept_alone : AllKept (Other inst) m
+  pub stands : Stands s m inst t
+  pub found : slice_get code.blocks (block_number s t) ≡ Some b
+  pub values : StackAt (HandAt s m) ks vals stack
 
 module _ (s : Source) (code : CodeOf) where
-  pub state_at : {m : Instances} {fs : Frames} {inst t : ℕ} {b : BlockOf} {ks : List Kind} {vals : List Val} {stack : List Value} {w : List Item} {rest : List Activation} {pc : ℕ} {below : List machine.Activation} (used p : ℕ) → Here s code m fs inst t b ks vals stack → WorkAt s code m fs (λ v. ChainAt s code m fs inst rest v below) inst t b used w p ks → p ≡ pc
+  pub state_at : {m : Instances} {fs : Frames} {inst t : ℕ} {b : BlockOf} {ks : List Kind} {vals : List Val} {stack : List Value} {w : List Item} {rest : List Activation} {pc : ℕ} {below : List machine.Activation} (used p : ℕ) → There s code m fs inst t b ks vals stack → WorkAt s code m fs (λ v. ChainAt s code m fs rest v below) inst t b used w p ks → p ≡ pc
       → StateAt s code (record { chain = record { instance = inst; work = w; values = vals } ∷ rest; memory = m }) (record { chain = act inst pc stack b.room ∷ below; memory = fs })
   state_at {m} {fs} {inst} {t} {b} {ks} {vals} {stack} {w} {rest} {pc} {below} used p here work e = record {
     chain = record {
       base = refl;
       home = refl;
-      before = here.live;
       text = t;
       block = b;
       found = here.found;
@@ -47,12 +58,13 @@ module _ (s : Source) (code : CodeOf) where
       values = here.values;
       fits = λ no. absurd (cc);
       used = used;
-      goes = subst (λ x. WorkAt s code m fs (λ v. ChainAt s code m fs inst rest v below) inst t b used w x ks) e work;
+      goes = subst (λ x. WorkAt s code m fs (λ v. ChainAt s code m fs rest v below) inst t b used w x ks) e work;
     };
     store = here.store;
+    parked = here.parked;
   }
 
-  pub goes : {o : World} {m : Instances} {fs : Frames} {inst t : ℕ} {b : BlockOf} {ks : List Kind} {vals : List Val} {stack : List Value} {w : List Item} {rest : List Activation} {pc : ℕ} {below : List machine.Activation} (used p : ℕ) → Here s code m fs inst t b ks vals stack → WorkAt s code m fs (λ v. ChainAt s code m fs inst rest v below) inst t b used w p ks → p ≡ pc
+  pub goes : {o : World} {m : Instances} {fs : Frames} {inst t : ℕ} {b : BlockOf} {ks : List Kind} {vals : List Val} {stack : List Value} {w : List Item} {rest : List Activation} {pc : ℕ} {below : List machine.Activation} (used p : ℕ) → There s code m fs inst t b ks vals stack → WorkAt s code m fs (λ v. ChainAt s code m fs rest v below) inst t b used w p ks → p ≡ pc
       → Alike (StateAt s code) (go o m inst w vals rest) (Going o (record { chain = act inst pc stack b.room ∷ below; memory = fs }))
   goes used p here work e = going (state_at used p here work e)
 
@@ -60,9 +72,12 @@ module _ (s : Source) (code : CodeOf) where
   pub at_row : (l : Limits) (o : World) (fs : Frames) (a : machine.Activation) (below : List machine.Activation) (r : Run Configuration) (x : Instr) (line q : ℕ) → At code x line a.pc q → Alike (StateAt s code) r (row code l o fs a below line x) → Alike (StateAt s code) r (on_top code l o fs a below)
   at_row l o fs a below r x line q is like = alike_found Configuration Machine (StateAt s code) Lined (slice_get code.instrs a.pc) (lined x line) o r (λ y. row code l o fs a below y.line.0 y.instr) is.at like
 
-  -- the same place with other values
-  pub with_values : {m : Instances} {fs : Frames} {inst t : ℕ} {b : BlockOf} {ks ks' : List Kind} {vals vals' : List Val} {stack stack' : List Value} → Here s code m fs inst t b ks vals stack → StackAt (HandAt s m inst) ks' vals' stack' → Here s code m fs inst t b ks' vals' stack'
-  with_values here h = record { store = here.store; live = here.live; stands = here.stands; found = here.found; values = h }
+  pub there_of : {m : Instances} {fs : Frames} {inst : ℕ} {rest : List Activation} {t : ℕ} {b : BlockOf} {ks : List Kind} {vals : List Val} {stack : List Value} → Here s code m fs inst rest t b ks vals stack → There s code m fs inst t b ks vals stack
+  there_of here = record { store = here.store; parked = here.parked; stands = here.stands; found = here.found; values = here.values }
 
-  pub kinds_as : {m : Instances} {inst : ℕ} {ks ks' : List Kind} {vals : List Val} {stack : List Value} → ks ≡ ks' → StackAt (HandAt s m inst) ks vals stack → StackAt (HandAt s m inst) ks' vals stack
-  kinds_as {m} {inst} {vals = vals} {stack = stack} e h = subst (λ k. StackAt (HandAt s m inst) k vals stack) e h
+  -- the same place with other values
+  pub with_values : {m : Instances} {fs : Frames} {inst : ℕ} {rest : List Activation} {t : ℕ} {b : BlockOf} {ks ks' : List Kind} {vals vals' : List Val} {stack stack' : List Value} → Here s code m fs inst rest t b ks vals stack → StackAt (HandAt s m) ks' vals' stack' → There s code m fs inst t b ks' vals' stack'
+  with_values here h = record { store = here.store; parked = here.parked; stands = here.stands; found = here.found; values = h }
+
+  pub kinds_as : {m : Instances} {ks ks' : List Kind} {vals : List Val} {stack : List Value} → ks ≡ ks' → StackAt (HandAt s m) ks vals stack → StackAt (HandAt s m) ks' vals stack
+  kinds_as {m} {vals = vals} {stack = stack} e h = subst (λ k. StackAt (HandAt s m) k vals stack) e h

@@ -12,13 +12,14 @@ use Rattle.sim_scope.specs.declared.types.FormalKind.TheVariants as shape
 use Rattle.sim_scope.specs.declared.types.Mode.{Mode}
 use Rattle.sim_scope.specs.declared.types.Mode.TheVariants as mode
 use Rattle.sim_scope.specs.Scopes.{entry_of}
-use Rattle.sim_scope.specs.Source.{Source, block_of, denoted, line_at}
+use Rattle.sim_scope.specs.Source.{Source, block_of, denoted, line_at, level_of}
 use Rattle.sim_scope.specs.Assignments.{LeftSide}
 use Rattle.sim_tree.specs.declared.stmt.Assignment.{Assignment}
 use Rattle.sim_tree.specs.declared.stmt.Assignment.TheVariants as assignment
 use Rattle.sim_tree.specs.Syntax.{Expression, Expressions, NoMore, Then}
 use Rattle.sim_tree.specs.Syntax as syntax
 use Rattle.sim_code.specs.declared.instr.Instr.TheVariants as i
+use Rattle.sim_code.specs.Instances.{at_level}
 use Rattle.sim_code.specs.Code.{BlockOf, CodeOf}
 use Rattle.sim_code.specs.Machine.{Frames}
 use Rattle.sim_code.proofs.Lifts.{EachAt}
@@ -82,7 +83,7 @@ addresses_reverse : (xs : List Stored) → addresses (reverse xs) ≡ addresses 
 addresses_reverse [] = refl
 addresses_reverse (x ∷ xs) = ap addresses (reverse_first x xs) ∙ addresses_last (reverse xs) x ∙ addresses_first x (reverse xs) xs (addresses_reverse xs)
 
-module _ (s : Source) (code : CodeOf) (m : Instances) (inst t : ℕ) (b : BlockOf) (u : ℕ) (agrees : Agrees s) (reach : (v : ℕ) → Inside s.tables t v → (j : ℕ) × Reaches s m inst v j) where
+module _ (s : Source) (code : CodeOf) (m : Instances) (inst t : ℕ) (b : BlockOf) (u : ℕ) (agrees : Agrees s) (reach : (v : ℕ) → Inside s.tables t v → (j : ℕ) × Reaches s m inst v j × (at_level m (level_of s v) inst ≡ Some j)) where
   abbrev pub site : Site
   site = site_at t b u
 
@@ -96,7 +97,7 @@ module _ (s : Source) (code : CodeOf) (m : Instances) (inst t : ℕ) (b : BlockO
 
   left_cell : (d : DeclNo) (es : Expressions) → LeftFits (stored_variable s d es) (variable_left s m inst d es)
   unfolding home_of
-  left_cell d NoMore = λ ins has. let r = reach (block_of s d) ins in (r.0, ap (λ o. left_in o (λ j. LeftCell j (Declared d.0))) (r.1).found, r.1)
+  left_cell d NoMore = λ ins has. let r = reach (block_of s d) ins in (r.0, ap (λ o. left_in o (λ j. LeftCell j (Declared d.0))) r.2, r.1)
   left_cell d (Then e es) = tt
 
   left_element : (d : DeclNo) (es : Expressions) (line : ℕ) → LeftFits (stored_element d es line) (array_left s m inst line d es)
@@ -106,7 +107,7 @@ module _ (s : Source) (code : CodeOf) (m : Instances) (inst t : ℕ) (b : BlockO
       let r = reach (block_of s d) a.array.inside in
       let terms = close_all s m inst (Then e es) in (
         ElementOf line (Cell r.0 (Declared d.0)) terms,
-        ap (λ o. left_in o (λ j. LeftAddress (ElementOf line (Cell j (Declared d.0)) terms))) (r.1).found,
+        ap (λ o. left_in o (λ j. LeftAddress (ElementOf line (Cell j (Declared d.0)) terms))) r.2,
         ((a.x, a.y, (record { text = block_of s d; load = a.array.load; reaches = r.1; has = a.array.within }, refl), close_all_at s code m inst site agrees reach (Then e es) (suc n) a.x a.y a.subscripts, subst (λ c. At code (i.Elem (pos c) (pos 0)) line a.y q) (count_close s code m inst site agrees reach (Then e es)) a.found), refl),
       )
 
@@ -120,7 +121,7 @@ module _ (s : Source) (code : CodeOf) (m : Instances) (inst t : ℕ) (b : BlockO
   left_formal d es line mode.ByReference shape.Procedure = tt
 
   left_result : (k : ℕ) (es : Expressions) → LeftFits (stored_result k es) (result_left s m inst k es)
-  left_result k NoMore = λ ins has. let r = reach k ins in (r.0, ap (λ o. left_in o (λ j. LeftCell j Result)) (r.1).found, r.1)
+  left_result k NoMore = λ ins has. let r = reach k ins in (r.0, ap (λ o. left_in o (λ j. LeftCell j Result)) r.2, r.1)
   left_result k (Then e es) = tt
 
   left_declared : (d : DeclNo) (es : Expressions) (line : ℕ) (o : Option Entry) → LeftFits (stored_declared s d es line o) (declared_left s m inst line d o es)
@@ -160,7 +161,7 @@ module _ (s : Source) (code : CodeOf) (m : Instances) (inst t : ℕ) (b : BlockO
   left_text_at (Some k) e line = λ n p q a.
       let r = reach k a.inside in (
         Cell r.0 Result,
-        ap (λ o. LeftText line (in_instance o (λ j. Cell j Result))) (r.1).found,
+        ap (λ o. LeftText line (in_instance o (λ j. Cell j Result))) r.2,
         (record { text = k; load = a.load; reaches = r.1; has = a.within }, refl),
       )
 

@@ -35,11 +35,11 @@ use Rattle.codegen.specs.CodeLeft.{InCell, Stored, stored_left}
 use Rattle.codegen.specs.CodeStm.{StmAt}
 use Rattle.sim_relate.proofs.Relation.{Any, BeginsAt, ChainAt, ComesTo, HandAt, Kind, OpAt, StackAt, StateAt, TargetAt, TurnOf, VariableIs, WorkAt, anys, more_at, over, plain_at, site_at, straight, there, turning, variable, Reaches, variable_target}
 use Rattle.sim_relate.proofs.Hands.{hand_plain}
-use Rattle.sim_relate.proofs.Here.{Here, act, at_row, goes, kinds_as}
+use Rattle.sim_relate.proofs.Here.{Here, act, at_row, goes, kinds_as, there_of}
 use Rattle.sim_relate.proofs.Lefts.{LeftFits, left_at}
 use Rattle.sim_relate.proofs.Operators.{onward, same_plain}
 use Rattle.sim_relate.proofs.Pending.{evals, pends}
-use Rattle.sim_relate.proofs.Reach.{reach}
+use Rattle.sim_relate.proofs.Reach.{reach_found}
 use Rattle.sim_relate.proofs.Statements.{closing, ticks}
 use Rattle.std.specs.Prelude.{pos}
 
@@ -108,7 +108,7 @@ module _ (s : Source) (code : CodeOf) (site : Site) (n : ℕ) (v : Variable) whe
   elements_as [] A B f k p q a = a
   elements_as (e ∷ es) A B f k p q a = (a.0, one_as e (A k) (B k) (f k) p a.0 a.1, elements_as es A B f (suc k) a.0 q a.2)
 
-module _ (s : Source) (code : CodeOf) (l : Limits) (agrees : Agrees s) (o : World) (m : Instances) (inst : ℕ) (w : List Item) (vals : List Val) (rest : List Activation) (fs : Frames) (t : ℕ) (b : BlockOf) (pc : ℕ) (stack : List Value) (below : List machine.Activation) (ks : List Kind) (here : Here s code m fs inst t b ks vals stack) (u q : ℕ) (ks' : List Kind) (low : length (cells_in s t (text s t)) ≤ u) (k : WorkAt s code m fs (λ v. ChainAt s code m fs inst rest v below) inst t b u w q ks') where
+module _ (s : Source) (code : CodeOf) (l : Limits) (agrees : Agrees s) (o : World) (m : Instances) (inst : ℕ) (w : List Item) (vals : List Val) (rest : List Activation) (fs : Frames) (t : ℕ) (b : BlockOf) (pc : ℕ) (stack : List Value) (below : List machine.Activation) (ks : List Kind) (here : Here s code m fs inst rest t b ks vals stack) (u q : ℕ) (ks' : List Kind) (low : length (cells_in s t (text s t)) ≤ u) (k : WorkAt s code m fs (λ v. ChainAt s code m fs rest v below) inst t b u w q ks') where
   abbrev R : Configuration → Machine → Type 0
   R = StateAt s code
 
@@ -119,24 +119,24 @@ module _ (s : Source) (code : CodeOf) (l : Limits) (agrees : Agrees s) (o : Worl
   Follows op = OpAt s code m fs inst (site_at t b u) op pc q ks ks' → Alike R (do_op s l o m inst w vals rest op) (on_top code l o fs a_top below)
 
   abbrev Rests : List Item → ℕ → List Kind → Type 0
-  Rests x p before = WorkAt s code m fs (λ v. ChainAt s code m fs inst rest v below) inst t b u x p before
+  Rests x p before = WorkAt s code m fs (λ v. ChainAt s code m fs rest v below) inst t b u x p before
 
   -- this place in the code, as the words of statements have it
   puts : (x : List Item) (op : Op) (p p' : ℕ) (before behind : List Kind) → OpAt s code m fs inst (site_at t b u) op p p' before behind → Rests x p' behind → Rests (Do op ∷ x) p before
-  puts x op p p' before behind a r = pends s code m fs (λ v. ChainAt s code m fs inst rest v below) inst t b u low x op p p' before behind a r
+  puts x op p p' before behind a r = pends s code m fs (λ v. ChainAt s code m fs rest v below) inst t b u low x op p p' before behind a r
 
   closes : (x : List Item) (e : Expression) (p p' : ℕ) (before : List Kind) → ExprAt s code (site_at t b u) (length before) e p p' → Rests x p' (Any ∷ before) → Rests (Do (Eval (close s m inst e)) ∷ x) p before
   closes x e p p' before a r = closing s code l agrees o m inst w vals rest fs t b pc stack below ks here u q ks' low k x e p p' before a r
 
   moves_on : {p : World} (x : List Item) (place : ℕ) {next : ℕ} → Rests x place ks → place ≡ next → Alike R (go p m inst x vals rest) (Going p (record { chain = act inst next stack b.room ∷ below; memory = fs }))
-  moves_on x place r e = goes s code u place here r e
+  moves_on x place r e = goes s code u place (there_of s code here) r e
 
   a_tick : (r : World → Run Configuration) (p : ℕ) → Is code i.Tick pc p → ((x : World) → Alike R (r x) (Going x (record { chain = act inst p stack b.room ∷ below; memory = fs }))) → Alike R (ticking l o r) (on_top code l o fs a_top below)
   a_tick r p a f = ticks s code l agrees o m inst w vals rest fs t b pc stack below ks here u q ks' low k r p a f
 
   -- the value of its cell
   puts_cell : (z instance : ℕ) (key : Key) → Reaches s m inst z instance → HasCell s z key → (y : List Item) (p p' : ℕ) (before : List Kind) → Pushes code (site_at t b u) (length before) (i.Load (pos (level_of s z)) (pos (slot_of s z key))) p p' → Rests y p' (Any ∷ before) → Rests (Do (Eval (Cell instance key)) ∷ y) p before
-  puts_cell z instance key reaches has y p p' before a r = evals s code m fs (λ v. ChainAt s code m fs inst rest v below) inst t b u low y (Cell instance key) p p' before (record { text = z; load = a; reaches = reaches; has = has }, refl) r
+  puts_cell z instance key reaches has y p p' before a r = evals s code m fs (λ v. ChainAt s code m fs rest v below) inst t b u low y (Cell instance key) p p' before (record { text = z; load = a; reaches = reaches; has = has }, refl) r
 
   -- the controlled variable is given a value, and read
   stores_it : (x : Target) (v : VariableIs s code m inst x) (p p' : ℕ) (before : List Kind) → v.assigned ≡ None → StoresVariable s code (variable s code v) p p' → TargetAt s code m inst x p p' (Any ∷ before) before
@@ -204,13 +204,13 @@ module _ (s : Source) (code : CodeOf) (l : Limits) (agrees : Agrees s) (o : Worl
       (puts (Do (BranchOp a (RaiseOp x line step limit a)) ∷ w) (StepOp line) g.e g.f (anys 3 ks') (anys 1 ks') (record { line = g.test.line; works = record { is = g.test.is; left = ks'; «in» = refl; out = refl } })
       (puts w (BranchOp a (RaiseOp x line step limit a)) g.f q (anys 1 ks') ks' (record { z = g.g; w = g.h; jump = g.jump; leads = g.leads; turn = g.turn; next = (r, refl, refl); «in» = refl }) k))))) refl)
 
-  step_alike : (line line' : ℕ) (left : List Kind) → StackAt (HandAt s m inst) (anys 3 left) vals stack → ks' ≡ anys 1 left → q ≡ suc pc
+  step_alike : (line line' : ℕ) (left : List Kind) → StackAt (HandAt s m) (anys 3 left) vals stack → ks' ≡ anys 1 left → q ≡ suc pc
       → Alike R (testing_step plain line vals o (λ b vals. go o m inst w (meaning.Of b ∷ vals) rest)) (testing_step machine.plain line' stack o (λ b stack. machine.on o fs a_top (machine.Of b ∷ stack) below))
   unfolding testing_step
   step_alike line line' left h out place =
-      hand_plain Configuration Machine R Val Value (HandAt s m inst) plain machine.plain same_plain (anys 2 left) vals stack o _ _ h
-      (λ z vals1 stack1 h1. hand_plain Configuration Machine R Val Value (HandAt s m inst) plain machine.plain same_plain (anys 1 left) vals1 stack1 o _ _ h1
-      (λ y vals2 stack2 h2. hand_plain Configuration Machine R Val Value (HandAt s m inst) plain machine.plain same_plain left vals2 stack2 o
+      hand_plain Configuration Machine R Val Value (HandAt s m) plain machine.plain same_plain (anys 2 left) vals stack o _ _ h
+      (λ z vals1 stack1 h1. hand_plain Configuration Machine R Val Value (HandAt s m) plain machine.plain same_plain (anys 1 left) vals1 stack1 o _ _ h1
+      (λ y vals2 stack2 h2. hand_plain Configuration Machine R Val Value (HandAt s m) plain machine.plain same_plain left vals2 stack2 o
       (λ x rest'. answering line (step_test x y z) o (λ b. go o m inst w (meaning.Of b ∷ rest') rest)) (λ x rest'. answering line' (step_test x y z) o (λ b. machine.on o fs a_top (machine.Of b ∷ rest') below)) h2
       (λ x vals3 stack3 h3. any_line Configuration Machine R line line' o _ _ (λ v. onward s code l o m inst w vals rest fs t b pc stack below ks here u q ks' low k (more_at plain_at h3) out place) x y z)))
 
@@ -302,7 +302,7 @@ module _ (s : Source) (code : CodeOf) (l : Limits) (agrees : Agrees s) (o : Worl
       moves_on (Do (ElementsOp (variable_target by instance key) es a) ∷ w) y
       (r.at, u, q, ks', r.comes, same, low, record { v = record { text = z; key = key; assigned = by; instance = instance; is = refl; reaches = reaches; has = has }; number = 0; elements = r.elements; out = e }, k) refl
 
-  looped : (p : World) (g : Bool) (sign : Assignment) (line : ℕ) (x : Stored) (v : Left) (es : List Element) (a : Statement) (y : ℕ) → LeftFits s code m inst t b u agrees (λ z ins. reach s m inst t z agrees here.stands ins) x v → ForAt s code (site_at t b u) (length ks) (assigned_by g sign line) x (is_empty a) es (λ site. StmAt s code site (length ks) a) y q → ks' ≡ ks
+  looped : (p : World) (g : Bool) (sign : Assignment) (line : ℕ) (x : Stored) (v : Left) (es : List Element) (a : Statement) (y : ℕ) → LeftFits s code m inst t b u agrees (λ z ins. reach_found s m inst t z agrees here.stands here.lives ins) x v → ForAt s code (site_at t b u) (length ks) (assigned_by g sign line) x (is_empty a) es (λ site. StmAt s code site (length ks) a) y q → ks' ≡ ks
       → Alike R (looping p m inst w vals rest (controlled g sign line v) es a) (Going p (record { chain = act inst y stack b.room ∷ below; memory = fs }))
   looped p true assignment.Value line (InCell z key) v es a y fit h e =
       let f = fit h.0 h.1 in
@@ -321,4 +321,4 @@ module _ (s : Source) (code : CodeOf) (l : Limits) (agrees : Agrees s) (o : Worl
   pub for_statement : (token : ℕ) (x : Identifier) (sign : Assignment) (assign : ℕ) (es : List Element) (a : Statement) → BeginsAt s code m fs inst (site_at t b u) (Exec (syntax.For token x sign assign es a)) pc q ks ks' → Alike R (do_op s l o m inst w vals rest (Exec (syntax.For token x sign assign es a))) (on_top code l o fs a_top below)
   for_statement token x sign assign es a h =
       let y = h.0 in
-      a_tick _ y.0 y.1 (λ p. looped p (is_text s (syntax.Named x NoMore)) sign (line_at s assign) (stored_left s (syntax.Named x NoMore)) (left_variable s m inst (syntax.Named x NoMore)) es a y.0 (left_at s code m inst t b u agrees (λ z ins. reach s m inst t z agrees here.stands ins) (syntax.Named x NoMore)) y.2 h.1)
+      a_tick _ y.0 y.1 (λ p. looped p (is_text s (syntax.Named x NoMore)) sign (line_at s assign) (stored_left s (syntax.Named x NoMore)) (left_variable s m inst (syntax.Named x NoMore)) es a y.0 (left_at s code m inst t b u agrees (λ z ins. reach_found s m inst t z agrees here.stands here.lives ins) (syntax.Named x NoMore)) y.2 h.1)

@@ -22,26 +22,28 @@ use Rattle.sim_relate.proofs.Assigns as assigns
 use Rattle.sim_relate.proofs.Calls as calls
 use Rattle.sim_relate.proofs.Ends as ends
 use Rattle.sim_relate.proofs.Entries as entries
-use Rattle.sim_relate.proofs.Here.{Here, act, at_row, goes, state_at, with_values}
+use Rattle.sim_relate.proofs.Here.{Here, act, at_row, goes, state_at, there_of, with_values}
+use Rattle.sim_relate.proofs.Reach.{reached}
 use Rattle.sim_relate.proofs.Joins as joins
 use Rattle.sim_relate.proofs.Loops as loops
 use Rattle.sim_relate.proofs.Operators as operators
 use Rattle.sim_relate.proofs.Pending.{each_pends, pends}
 use Rattle.sim_relate.proofs.Quiet.{each_weight, weight}
 use Rattle.sim_relate.proofs.Quiet as quiet_steps
-use Rattle.sim_relate.proofs.Relation.{BeginsAt, ChainAt, ChainNow, Kind, LinkTo, NowAt, OpAt, StateAt, StateNow, StoreAt, WorkAt, anys, given, more_at, site_at, text_gives}
+use Rattle.sim_relate.proofs.Relation.{BeginsAt, ChainAt, ChainNow, Kind, LinkTo, NowAt, OpAt, StandingsAt, StateAt, StateNow, StoreAt, WorkAt, anys, given, more_at, site_at, text_gives}
+use Rattle.sim_meaning.specs.Sane.{Sane, SaneOn}
 use Rattle.sim_relate.proofs.Statements as statements
 use Rattle.sim_relate.proofs.Ranked.{Meets}
 
 -- a step of both, or one of the program alone that leaves less to be taken apart
 pub data MovesNow (s : Source) (code : CodeOf) (l : Limits) (o : World) (c : Configuration) (x : Machine) : Type 0 where
   both : Alike (StateAt s code) (step s l o c) (mstep code l o x) → MovesNow s code l o c x
-  several : Meets (mstep code l) (StateAt s code) (step s l o c) o x → MovesNow s code l o c x
+  several : Meets (mstep code l) (λ o c x. StateAt s code c x) (step s l o c) o x → MovesNow s code l o c x
   quiet : (c' : Configuration) → step s l o c ≡ Going o c' → StateAt s code c' x → weight s c' < weight s c → MovesNow s code l o c x
 
-module _ (s : Source) (code : CodeOf) (compiled : Compiled s code) (l : Limits) (o : World) (m : Instances) (inst : ℕ) (w : List Item) (vals : List Val) (rest : List Activation) (fs : Frames) (t : ℕ) (b : BlockOf) (pc : ℕ) (stack : List Value) (below : List machine.Activation) (ks : List Kind) (here : Here s code m fs inst t b ks vals stack) (u q : ℕ) (ks' : List Kind) (low : length (cells_in s t (text s t)) ≤ u) (k : WorkAt s code m fs (λ v. ChainAt s code m fs inst rest v below) inst t b u w q ks') where
+module _ (s : Source) (code : CodeOf) (compiled : Compiled s code) (l : Limits) (o : World) (m : Instances) (inst : ℕ) (w : List Item) (vals : List Val) (rest : List Activation) (fs : Frames) (t : ℕ) (b : BlockOf) (pc : ℕ) (stack : List Value) (below : List machine.Activation) (ks : List Kind) (here : Here s code m fs inst rest t b ks vals stack) (u q : ℕ) (ks' : List Kind) (low : length (cells_in s t (text s t)) ≤ u) (k : WorkAt s code m fs (λ v. ChainAt s code m fs rest v below) inst t b u w q ks') where
   abbrev Below : Bool → Type 0
-  Below v = ChainAt s code m fs inst rest v below
+  Below v = ChainAt s code m fs rest v below
 
   abbrev machine_here : Machine
   machine_here = record { chain = act inst pc stack b.room ∷ below; memory = fs }
@@ -51,7 +53,7 @@ module _ (s : Source) (code : CodeOf) (compiled : Compiled s code) (l : Limits) 
 
   -- where the work alone has changed
   stands_so : (x : List Item) → WorkAt s code m fs Below inst t b u x pc ks → StateAt s code (record { chain = record { instance = inst; work = x; values = vals } ∷ rest; memory = m }) machine_here
-  stands_so x a = state_at s code u pc here a refl
+  stands_so x a = state_at s code u pc (there_of s code here) a refl
 
   -- a call begins with the link to the instance in which the procedure is declared
   link : (j c : ℕ) (ts : Terms) (line : ℕ) → OpAt s code m fs inst (site_at t b u) (Eval (CallOf j c ts line)) pc q ks ks' → Alike (StateAt s code) (do_op s l o m inst w vals rest (Eval (CallOf j c ts line))) (on_top code l o fs (act inst pc stack b.room) below)
@@ -62,9 +64,9 @@ module _ (s : Source) (code : CodeOf) (compiled : Compiled s code) (l : Limits) 
       let is = (x.link).is in
       let out : ks' ≡ given (has_result p.result) ks = a.1 ∙ ap (λ g. given g ks) (ap text_gives p.is) in
       at_row s code l o fs (act inst pc stack b.room) below _ (i.Link (pos (level_of s x.text))) is.line x.x is.is
-      (operators.at_frame s code l o m inst w vals rest fs t b pc stack below ks here o (level_of s x.text) j _ _ reaches.found
+      (operators.at_frame s code l o m inst w vals rest fs t b pc stack below ks here o (level_of s x.text) j _ _ (reached s m inst x.text j here.lives reaches)
       (operators.pushes s code l o m inst w vals rest fs t b pc stack below ks here o (machine.Link j) _ _ (x.link).fits
-      (goes s code u x.x (with_values s code here (more_at (record { instance = j; is_val = refl; is_value = refl; stands = reaches.stands; before = reaches.before }) here.values))
+      (goes s code u x.x (with_values s code here (more_at (record { instance = j; is_val = refl; is_value = refl; stands = reaches.stands }) here.values))
       (each_pends s code m fs Below inst t b u low (Do (CallOp c (count ts) line) ∷ w) ts x.x x.y (LinkTo x.text ∷ ks) x.actuals
       (pends s code m fs Below inst t b u low w (CallOp c (count ts) line) x.y q (anys (count ts) (LinkTo x.text ∷ ks)) ks' (record { text = x.text; procedure = p; is = x.call; as_many = x.as_many; left = ks; fits = (x.link).fits; «in» = refl; out = out }) k))
       (is.is).on)))
@@ -145,7 +147,7 @@ module _ (s : Source) (code : CodeOf) (compiled : Compiled s code) (l : Limits) 
   abbrev Moves : Configuration → Machine → Type 0
   Moves c x = MovesNow s code l o c x
 
-  work_moves : (m : Instances) (inst : ℕ) (work : List Item) (vals : List Val) (rest : List Activation) (fs : Frames) (t : ℕ) (b : BlockOf) (pc : ℕ) (stack : List Value) (below : List machine.Activation) (ks : List Kind) (used : ℕ) → Here s code m fs inst t b ks vals stack → NowAt s code m fs (λ v. ChainAt s code m fs inst rest v below) inst t b used work pc ks
+  work_moves : (m : Instances) (inst : ℕ) (work : List Item) (vals : List Val) (rest : List Activation) (fs : Frames) (t : ℕ) (b : BlockOf) (pc : ℕ) (stack : List Value) (below : List machine.Activation) (ks : List Kind) (used : ℕ) → Here s code m fs inst rest t b ks vals stack → NowAt s code m fs (λ v. ChainAt s code m fs rest v below) inst t b used work pc ks
       → Moves (record { chain = record { instance = inst; work = work; values = vals } ∷ rest; memory = m }) (record { chain = act inst pc stack b.room ∷ below; memory = fs })
   work_moves m inst [] vals rest fs t b pc stack below ks used here a = absurd a
   work_moves m inst (Do op ∷ w) vals rest fs t b pc stack below ks used here a = op_moves s code compiled l o m inst w vals rest fs t b pc stack below ks here a.0 a.1 a.2 a.4 a.6 op a.5
@@ -161,14 +163,14 @@ module _ (s : Source) (code : CodeOf) (compiled : Compiled s code) (l : Limits) 
       let three : record y { thunk = false; home = j } ≡ act j y.pc y.stack room = ap (λ z. act j y.pc y.stack z) r in
       one ∙ two ∙ three
 
-  chain_moves : (m : Instances) (chain : List Activation) (fs : Frames) (acts : List machine.Activation) → StoreAt s code m fs → ChainNow s code m fs (length m.instances) chain acts → Moves (record { chain = chain; memory = m }) (record { chain = acts; memory = fs })
-  chain_moves m [] fs [] store c = both (entries.first_alike s code compiled l o m fs store)
-  chain_moves m [] fs (y ∷ below) store c = absurd (cc (c.is))
-  chain_moves m (a ∷ rest) fs [] store c = absurd c
-  chain_moves m (a ∷ rest) fs (y ∷ below) store c =
-      let here : Here s code m fs a.instance c.text c.block c.kinds a.values y.stack = record { store = store; live = c.before; stands = c.stands; found = c.found; values = c.values } in
+  chain_moves : (m : Instances) (chain : List Activation) (fs : Frames) (acts : List machine.Activation) → StoreAt s code m fs → StandingsAt s code m fs → SaneOn m chain → ChainNow s code m fs chain acts → Moves (record { chain = chain; memory = m }) (record { chain = acts; memory = fs })
+  chain_moves m [] fs [] store parked sane c = both (entries.first_alike s code compiled l o m fs store parked)
+  chain_moves m [] fs (y ∷ below) store parked sane c = absurd (cc (c.is))
+  chain_moves m (a ∷ rest) fs [] store parked sane c = absurd c
+  chain_moves m (a ∷ rest) fs (y ∷ below) store parked sane c =
+      let here : Here s code m fs a.instance rest c.text c.block c.kinds a.values y.stack = record { store = store; parked = parked; lives = sane.0; alone = sane.1; kept_alone = sane.2; stands = c.stands; found = c.found; values = c.values } in
       subst (λ z. Moves (record { chain = a ∷ rest; memory = m }) (record { chain = z ∷ below; memory = fs })) (sym (act_is y a.instance (c.block).room c.base c.home c.room))
       (work_moves m a.instance a.work a.values rest fs c.text c.block y.pc y.stack below c.kinds c.used here c.goes)
 
-  pub moves_now : (c : Configuration) (x : Machine) → StateNow s code c x → MovesNow s code l o c x
-  moves_now c x a = chain_moves c.memory c.chain x.memory x.chain a.store a.chain
+  pub moves_now : (c : Configuration) (x : Machine) → Sane c → StateNow s code c x → MovesNow s code l o c x
+  moves_now c x sane a = chain_moves c.memory c.chain x.memory x.chain a.store a.parked sane a.chain

@@ -35,6 +35,7 @@ use Rattle.sim_relate.proofs.Hands.{hand_finding, hand_one, hand_popping, hand_t
 use Rattle.sim_relate.proofs.Here.{Here, act, at_row, goes, kinds_as, with_values}
 use Rattle.sim_relate.proofs.Pending.{anys_more, evals, pends}
 use Rattle.sim_relate.proofs.Stores.{cell_read, levels_same}
+use Rattle.sim_relate.proofs.Reach.{reached}
 use Rattle.sim_values.specs.declared.value.TextVal.{TextVal}
 use Rattle.sim_values.specs.Texts.{notext}
 use Rattle.sim_values.specs.Store.{image_at as image_of}
@@ -95,7 +96,7 @@ is_instr [] j lt = absurd (let e : ⊥ = omega (arith, lt) in e)
 is_instr (x ∷ xs) zero lt = refl
 is_instr (x ∷ xs) (suc j) lt = is_instr xs j (omega (arith, lt))
 
-module _ (s : Source) (code : CodeOf) (l : Limits) (o : World) (m : Instances) (inst : ℕ) (w : List Item) (vals : List Val) (rest : List Activation) (fs : Frames) (t : ℕ) (b : BlockOf) (pc : ℕ) (stack : List Value) (below : List machine.Activation) (ks : List Kind) (here : Here s code m fs inst t b ks vals stack) where
+module _ (s : Source) (code : CodeOf) (l : Limits) (o : World) (m : Instances) (inst : ℕ) (w : List Item) (vals : List Val) (rest : List Activation) (fs : Frames) (t : ℕ) (b : BlockOf) (pc : ℕ) (stack : List Value) (below : List machine.Activation) (ks : List Kind) (here : Here s code m fs inst rest t b ks vals stack) where
   abbrev pub R : Configuration → Machine → Type 0
   R = StateAt s code
 
@@ -139,26 +140,26 @@ module _ (s : Source) (code : CodeOf) (l : Limits) (o : World) (m : Instances) (
   unfolding index
   alike_indexed n r go h = alike_found Configuration Machine R ℕ (number (pos n)) n o r go refl h
 
-  module _ (u q : ℕ) (ks' : List Kind) (low : length (cells_in s t (text s t)) ≤ u) (k : WorkAt s code m fs (λ v. ChainAt s code m fs inst rest v below) inst t b u w q ks') where
+  module _ (u q : ℕ) (ks' : List Kind) (low : length (cells_in s t (text s t)) ≤ u) (k : WorkAt s code m fs (λ v. ChainAt s code m fs rest v below) inst t b u w q ks') where
     abbrev pub Follows : Op → Type 0
     Follows op = OpAt s code m fs inst (site_at t b u) op pc q ks ks' → Alike R (do_op s l o m inst w vals rest op) (on_top code l o fs top below)
 
     -- the work that is pending, and an operator in front of it
     abbrev pub Rests : List Item → ℕ → List Kind → Type 0
-    Rests x p before = WorkAt s code m fs (λ v. ChainAt s code m fs inst rest v below) inst t b u x p before
+    Rests x p before = WorkAt s code m fs (λ v. ChainAt s code m fs rest v below) inst t b u x p before
 
     pub pending : (x : List Item) (op : Op) (p p' : ℕ) (before behind : List Kind) → OpAt s code m fs inst (site_at t b u) op p p' before behind → Rests x p' behind → Rests (Do op ∷ x) p before
-    pending x op p p' before behind a r = pends s code m fs (λ v. ChainAt s code m fs inst rest v below) inst t b u low x op p p' before behind a r
+    pending x op p p' before behind a r = pends s code m fs (λ v. ChainAt s code m fs rest v below) inst t b u low x op p p' before behind a r
 
     pub first_evals : (x : List Item) (y : Term) (p p' : ℕ) (before : List Kind) → OperandAt s code m inst (site_at t b u) (length before) y p p' → Rests x p' (Any ∷ before) → Rests (Do (Eval y) ∷ x) p before
-    first_evals x y p p' before a r = evals s code m fs (λ v. ChainAt s code m fs inst rest v below) inst t b u low x y p p' before a r
+    first_evals x y p p' before a r = evals s code m fs (λ v. ChainAt s code m fs rest v below) inst t b u low x y p p' before a r
 
     -- the rest of the work, where kinds and place are known by other words
     pub rests_as : {before : List Kind} → ks' ≡ before → Rests w q before
     rests_as e = subst (λ z. Rests w q z) e k
 
     -- both go on behind the operator
-    pub onward : {p : World} {ks2 : List Kind} {vals2 : List Val} {stack2 : List Value} {next : ℕ} → StackAt (HandAt s m inst) ks2 vals2 stack2 → ks' ≡ ks2 → q ≡ next → Alike R (go p m inst w vals2 rest) (Going p (record { chain = act inst next stack2 b.room ∷ below; memory = fs }))
+    pub onward : {p : World} {ks2 : List Kind} {vals2 : List Val} {stack2 : List Value} {next : ℕ} → StackAt (HandAt s m) ks2 vals2 stack2 → ks' ≡ ks2 → q ≡ next → Alike R (go p m inst w vals2 rest) (Going p (record { chain = act inst next stack2 b.room ∷ below; memory = fs }))
     onward h e place = goes s code u q (with_values s code here h) (rests_as e) place
 
     -- ---- values
@@ -196,9 +197,9 @@ module _ (s : Source) (code : CodeOf) (l : Limits) (o : World) (m : Instances) (
         let c = a.0 in
         at_row s code l o fs top below _ (i.Addr (pos (level_of s c.text)) (pos (slot_of s c.text key)) (pos 0)) c.address.is.line q c.address.is.is
         (alike_found Configuration Machine R (Unit {0}) (rows.no_class (pos 0)) tt o _ _ refl
-        (at_cell o (level_of s c.text) j (slot_of s c.text key) _ _ c.reaches.found
+        (at_cell o (level_of s c.text) j (slot_of s c.text key) _ _ (reached s m inst c.text j here.lives c.reaches)
         (pushes o _ _ _ c.address.fits
-        (onward (more_at (record { instance = j; text = c.text; key = key; is_val = refl; is_value = refl; stands = c.reaches.stands; before = c.reaches.before; has = c.has }) here.values) a.1 c.address.is.is.on))))
+        (onward (more_at (record { instance = j; text = c.text; key = key; is_val = refl; is_value = refl; stands = c.reaches.stands; has = c.has }) here.values) a.1 c.address.is.is.on))))
 
     image_there : (image : ℕ) → IsImage image → (x : TextVal) × (image_of o.store image ≡ Some x)
     image_there _ of_input = (o.store.sysin, refl)
@@ -217,7 +218,7 @@ module _ (s : Source) (code : CodeOf) (l : Limits) (o : World) (m : Instances) (
     variable j key a =
         let c = a.0 in
         at_row s code l o fs top below _ (i.Load (pos (level_of s c.text)) (pos (slot_of s c.text key))) c.load.is.line q c.load.is.is
-        (at_cell o (level_of s c.text) j (slot_of s c.text key) _ _ c.reaches.found
+        (at_cell o (level_of s c.text) j (slot_of s c.text key) _ _ (reached s m inst c.text j here.lives c.reaches)
         (alike_having Configuration Machine R Val Value ValAt (cell m j key) (machine.cell fs j (slot_of s c.text key)) o _ _ (cell_read s code m fs j c.text key here.store c.reaches.stands c.has)
         (λ v x ev ex h. pushes o x _ _ c.load.fits (onward (more_at h here.values) a.1 c.load.is.is.on))))
 
@@ -226,20 +227,20 @@ module _ (s : Source) (code : CodeOf) (l : Limits) (o : World) (m : Instances) (
     pub one : (op : Monadic) (line : ℕ) → Follows (OneOp op line)
     one op line a = at_row s code l o fs top below _ (one_instr op) line q a.is
         (subst (λ z. Alike R (do_op s l o m inst w vals rest (OneOp op line)) z) (sym (row_one code l o fs top below line op))
-        (hand_one Configuration Machine R Val Value (HandAt s m inst) plain machine.plain same_plain op line a.left vals stack o _ _ (kinds_as s code a.«in» here.values)
+        (hand_one Configuration Machine R Val Value (HandAt s m) plain machine.plain same_plain op line a.left vals stack o _ _ (kinds_as s code a.«in» here.values)
         (λ z vals' stack' h. onward (more_at plain_at h) a.out a.is.on)))
 
     pub two : (op : Dyadic) (line : ℕ) → Follows (TwoOp op line)
     two op line a = at_row s code l o fs top below _ (two_instr op) line q a.is
         (subst (λ z. Alike R (do_op s l o m inst w vals rest (TwoOp op line)) z) (sym (row_two code l o fs top below line op))
-        (hand_two Configuration Machine R Val Value (HandAt s m inst) plain machine.plain same_plain op line a.left vals stack o _ _ (kinds_as s code a.«in» here.values)
+        (hand_two Configuration Machine R Val Value (HandAt s m) plain machine.plain same_plain op line a.left vals stack o _ _ (kinds_as s code a.«in» here.values)
         (λ z vals' stack' h. onward (more_at plain_at h) a.out a.is.on)))
 
     pub choice : (x y : Term) → Follows (IfOp x y)
     choice x y a =
         let c = a.choice in
         at_row s code l o fs top below _ (i.JumpF (pos c.x)) c.jump.line c.z c.jump.is
-        (hand_truth Configuration Machine R Val Value (HandAt s m inst) plain machine.plain same_plain a.left vals stack o _ _ (kinds_as s code a.«in» here.values)
+        (hand_truth Configuration Machine R Val Value (HandAt s m) plain machine.plain same_plain a.left vals stack o _ _ (kinds_as s code a.«in» here.values)
         (λ v vals' stack' h. alike_choosing Configuration Machine R v _ _ _ _
         (goes s code u c.z (with_values s code here h) (first_evals (Do PastOp ∷ w) x c.z c.w a.left c.first (pending w PastOp c.w q (anys 1 a.left) ks' (c.x, c.over, c.past, a.out) k)) c.jump.is.on)
         (jumps_ahead o c.x _ _ c.leads (goes s code u c.x (with_values s code here h) (first_evals w y c.x q a.left c.second (rests_as a.out)) refl))))
@@ -253,12 +254,12 @@ module _ (s : Source) (code : CodeOf) (l : Limits) (o : World) (m : Instances) (
     element_op n line a = at_row s code l o fs top below _ (i.Elem (pos n) (pos 0)) line q a.is
         (alike_found Configuration Machine R (Unit {0}) (rows.no_class (pos 0)) tt o _ _ refl
         (alike_indexed n _ _
-        (hand_finding Configuration Machine R Val Value (HandAt s m inst) plain machine.plain same_plain array_in machine.array_in same_array n line a.left vals stack o _ _ (kinds_as s code (a.«in» ∙ sym (anys_more n a.left)) here.values)
+        (hand_finding Configuration Machine R Val Value (HandAt s m) plain machine.plain same_plain array_in machine.array_in same_array n line a.left vals stack o _ _ (kinds_as s code (a.«in» ∙ sym (anys_more n a.left)) here.values)
         (λ array k vals' stack' h. onward (more_at element_at h) a.out a.is.on))))
 
     pub copy : (line : ℕ) → Follows (CopyOp line)
     copy line a = at_row s code l o fs top below _ i.CopyArr line q a.is
-        (hand_popping Configuration Machine R Val Value (HandAt s m inst) plain machine.plain same_plain Any a.left vals stack o _ _ (kinds_as s code a.«in» here.values)
+        (hand_popping Configuration Machine R Val Value (HandAt s m) plain machine.plain same_plain Any a.left vals stack o _ _ (kinds_as s code a.«in» here.values)
         (λ v x vals' stack' ev ex h hs. alike_equal Configuration Machine R ℕ (array_in v) (machine.array_in x) o _ _ (same_array v x h)
         (λ array. alike_copying Configuration Machine R l line inst array o _ _
         (λ n p. onward (more_at array_at hs) a.out a.is.on))))
@@ -267,10 +268,10 @@ module _ (s : Source) (code : CodeOf) (l : Limits) (o : World) (m : Instances) (
 
     pub drop : Follows DropOp
     drop a = at_row s code l o fs top below _ i.Pop a.line q a.works.is
-        (hand_popping Configuration Machine R Val Value (HandAt s m inst) plain machine.plain same_plain Any a.works.left vals stack o _ _ (kinds_as s code a.works.«in» here.values)
+        (hand_popping Configuration Machine R Val Value (HandAt s m) plain machine.plain same_plain Any a.works.left vals stack o _ _ (kinds_as s code a.works.«in» here.values)
         (λ v x vals' stack' ev ex h hs. onward hs a.works.out a.works.is.on))
 
     pub again : Follows AgainOp
     again a = at_row s code l o fs top below _ i.Dup a.is.is.line q a.is.is.is
-        (hand_popping Configuration Machine R Val Value (HandAt s m inst) plain machine.plain same_plain Any a.left vals stack o _ _ (kinds_as s code a.«in» here.values)
+        (hand_popping Configuration Machine R Val Value (HandAt s m) plain machine.plain same_plain Any a.left vals stack o _ _ (kinds_as s code a.«in» here.values)
         (λ v x vals' stack' ev ex h hs. pushes o x _ _ a.is.fits (onward (more_at h (kinds_as s code a.«in» here.values)) a.out a.is.is.is.on)))

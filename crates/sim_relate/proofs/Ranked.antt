@@ -2,22 +2,32 @@
 -- nothing: the relation has a rank, which says how many of them are to come.
 use Rattle.std.proofs.Common.{◌≡◌, ℕ, zero, suc, ◌<◌, ◌≤◌, None, refl, sym, ap, ◌∙◌, arith}
 use Rattle.sim_code.specs.Outcome.{Ended, Ending, Going, Run, World, after}
-use Rattle.sim_code.proofs.Simulation.{Alike, ended, going}
+use Rattle.sim_code.proofs.Simulation.{Alike}
+use Rattle.sim_code.proofs.Simulation as simple
 use Rattle.sim_relate.specs.SameRuns.{seen, seen_world}
 
+-- Two runs that are alike, where the relation may speak of the world that both have.
+pub data AlikeIn {S M : Type 0} (R : World → S → M → Type 0) : Run S → Run M → Type 0 where
+  going : {o : World} {s : S} {m : M} → R o s m → AlikeIn R (Going o s) (Going o m)
+  ended : {o : World} {e : Ending} → AlikeIn R (Ended o e) (Ended o e)
+
+pub simply : {S M : Type 0} {R : S → M → Type 0} {r : Run S} {q : Run M} → Alike R r q → AlikeIn (λ o s m. R s m) r q
+simply (simple.going a) = going a
+simply simple.ended = ended
+
 -- The second machine is alike, or still has steps of its own that change nothing of what is seen.
-pub data Catches {S M : Type 0} (g : World → M → Run M) (R : S → M → Type 0) (r : Run S) : Run M → Type 0 where
-  caught : {q : Run M} → Alike R r q → Catches g R r q
+pub data Catches {S M : Type 0} (g : World → M → Run M) (R : World → S → M → Type 0) (r : Run S) : Run M → Type 0 where
+  caught : {q : Run M} → AlikeIn R r q → Catches g R r q
   lags : {o o' : World} {m m' : M} → g o m ≡ Going o' m' → seen_world o None ≡ seen_world o' None → Catches g R r (Going o' m') → Catches g R r (Going o m)
 
 -- It makes some steps that leave the world, and then the one that is matched.
-pub data Meets {S M : Type 0} (g : World → M → Run M) (R : S → M → Type 0) (r : Run S) (o : World) : M → Type 0 where
+pub data Meets {S M : Type 0} (g : World → M → Run M) (R : World → S → M → Type 0) (r : Run S) (o : World) : M → Type 0 where
   meets : {m : M} → Catches g R r (g o m) → Meets g R r o m
   first : {m m' : M} → g o m ≡ Going o m' → Meets g R r o m' → Meets g R r o m
 
-module _ {S M : Type 0} (g : World → M → Run M) (R Q : S → M → Type 0) (map : (s : S) (m : M) → R s m → Q s m) (r : Run S) where
-  alike_as : (r : Run S) (q : Run M) → Alike R r q → Alike Q r q
-  alike_as _ _ (going {s = s} {m = m} a) = going (map s m a)
+module _ {S M : Type 0} (g : World → M → Run M) (R Q : World → S → M → Type 0) (map : (o : World) (s : S) (m : M) → R o s m → Q o s m) (r : Run S) where
+  alike_as : (r : Run S) (q : Run M) → AlikeIn R r q → AlikeIn Q r q
+  alike_as _ _ (going {o = o} {s = s} {m = m} a) = going (map o s m a)
   alike_as _ _ ended = ended
 
   catches_as : (q : Run M) → Catches g R r q → Catches g Q r q
@@ -28,20 +38,20 @@ module _ {S M : Type 0} (g : World → M → Run M) (R Q : S → M → Type 0) (
   meets_as o m (meets a) = meets (catches_as (g o m) a)
   meets_as o m (first {m' = m'} e more) = first e (meets_as o m' more)
 
-module _ (S M : Type 0) (f : World → S → Run S) (g : World → M → Run M) (R : ℕ → S → M → Type 0) (weight : S → ℕ) where
+module _ (S M : Type 0) (f : World → S → Run S) (g : World → M → Run M) (R : ℕ → World → S → M → Type 0) (weight : S → ℕ) where
   -- related, whatever the rank
-  abbrev pub Related : S → M → Type 0
-  Related s m = (k : ℕ) × R k s m
+  abbrev pub Related : World → S → M → Type 0
+  Related o s m = (k : ℕ) × R k o s m
 
   -- one step of both, or of the first and several of the second; a step of the first alone that shows nothing and lowers its weight; one
   -- of the second alone that lowers the rank
   pub data Moves (n : ℕ) (o : World) (s : S) (m : M) : Type 0 where
     Both : Meets g Related (f o s) o m → Moves n o s m
-    Quiet : (s' : S) → f o s ≡ Going o s' → Related s' m → weight s' < weight s → Moves n o s m
-    Slow : (m' : M) (k : ℕ) → g o m ≡ Going o m' → R k s m' → k < n → Moves n o s m
+    Quiet : (s' : S) → f o s ≡ Going o s' → Related o s' m → weight s' < weight s → Moves n o s m
+    Slow : (m' : M) (k : ℕ) → g o m ≡ Going o m' → R k o s m' → k < n → Moves n o s m
 
   abbrev pub Simulates : Type 0
-  Simulates = (n : ℕ) (o : World) (s : S) (m : M) → R n s m → Moves n o s m
+  Simulates = (n : ℕ) (o : World) (s : S) (m : M) → R n o s m → Moves n o s m
 
   ended_stays : (n : ℕ) (o : World) (e : Ending) → seen (after f n (Ended o e)) ≡ seen (after g 0 (Ended o e))
   ended_stays zero o e = refl
@@ -51,7 +61,7 @@ module _ (S M : Type 0) (f : World → S → Run S) (g : World → M → Run M) 
   ended_stays' zero o e = refl
   ended_stays' (suc n) o e = ended_stays' n o e
 
-  alike_seen : (r : Run S) (q : Run M) → Alike Related r q → seen q ≡ seen r
+  alike_seen : (r : Run S) (q : Run M) → AlikeIn Related r q → seen q ≡ seen r
   alike_seen _ _ (going h) = refl
   alike_seen _ _ ended = refl
 
@@ -70,20 +80,20 @@ module _ (S M : Type 0) (f : World → S → Run S) (g : World → M → Run M) 
   forth_meets n o s m ih (meets a) = let x = ih (f o s) (g o m) a in (suc x.0, x.1)
   forth_meets n o s m ih (first {m' = m'} e more) = let x = forth_meets n o s m' ih more in (suc x.0, ap (λ r. seen (after g x.0 r)) e ∙ x.1)
 
-  forth_turn : (n rank : ℕ) (o : World) (s : S) (m : M) → ((r : Run S) (q : Run M) → Catches g Related r q → Shows n r q) → ((m' : M) (k : ℕ) → R k s m' → k < rank → Shows (suc n) (Going o s) (Going o m')) → Moves rank o s m → Shows (suc n) (Going o s) (Going o m)
+  forth_turn : (n rank : ℕ) (o : World) (s : S) (m : M) → ((r : Run S) (q : Run M) → Catches g Related r q → Shows n r q) → ((m' : M) (k : ℕ) → R k o s m' → k < rank → Shows (suc n) (Going o s) (Going o m')) → Moves rank o s m → Shows (suc n) (Going o s) (Going o m)
   forth_turn n rank o s m ih go (Both a) = forth_meets n o s m ih a
   forth_turn n rank o s m ih go (Quiet s' e h' lt) = let x = ih (Going o s') (Going o m) (caught (going h')) in (x.0, x.1 ∙ ap (λ r. seen (after f n r)) (sym e))
   forth_turn n rank o s m ih go (Slow m' k e h' lt) = let x = go m' k h' lt in (suc x.0, ap (λ r. seen (after g x.0 r)) e ∙ x.1)
 
-  forth_inner : (n : ℕ) (o : World) (s : S) → ((k : ℕ) (m : M) → R k s m → Moves k o s m) → ((r : Run S) (q : Run M) → Catches g Related r q → Shows n r q) → (w k : ℕ) (m : M) → R k s m → k ≤ w → Shows (suc n) (Going o s) (Going o m)
+  forth_inner : (n : ℕ) (o : World) (s : S) → ((k : ℕ) (m : M) → R k o s m → Moves k o s m) → ((r : Run S) (q : Run M) → Catches g Related r q → Shows n r q) → (w k : ℕ) (m : M) → R k o s m → k ≤ w → Shows (suc n) (Going o s) (Going o m)
   forth_inner n o s sim ih zero k m h le = forth_turn n k o s m ih (λ m' k' h' lt. absurd (omega (arith, le, lt))) (sim k m h)
   forth_inner n o s sim ih (suc w) k m h le = forth_turn n k o s m ih (λ m' k' h' lt. forth_inner n o s sim ih w k' m' h' (omega (arith, le, lt))) (sim k m h)
 
-  forth_alike : Simulates → (n : ℕ) → ((r : Run S) (q : Run M) → Catches g Related r q → Shows n r q) → (r : Run S) (q : Run M) → Alike Related r q → Shows (suc n) r q
+  forth_alike : Simulates → (n : ℕ) → ((r : Run S) (q : Run M) → Catches g Related r q → Shows n r q) → (r : Run S) (q : Run M) → AlikeIn Related r q → Shows (suc n) r q
   forth_alike sim n ih _ _ (going {o} {s} {m} h) = forth_inner n o s (λ k m' h'. sim k o s m' h') ih h.0 h.0 m h.1 (omega arith)
   forth_alike sim n ih _ _ (ended {o} {e}) = (0, sym (ended_stays (suc n) o e))
 
-  forth_catches : (n : ℕ) (r : Run S) → ((q : Run M) → Alike Related r q → Shows n r q) → (q : Run M) → Catches g Related r q → Shows n r q
+  forth_catches : (n : ℕ) (r : Run S) → ((q : Run M) → AlikeIn Related r q → Shows n r q) → (q : Run M) → Catches g Related r q → Shows n r q
   forth_catches n r f q (caught a) = f q a
   forth_catches n r f _ (lags {o' = o'} {m' = m'} e same more) = let x = forth_catches n r f (Going o' m') more in (suc x.0, ap (λ r. seen (after g x.0 r)) e ∙ x.1)
 
@@ -96,20 +106,20 @@ module _ (S M : Type 0) (f : World → S → Run S) (g : World → M → Run M) 
   only_meets o s zero m ih (first {m' = m'} e more) = (0, ap seen e)
   only_meets o s (suc k) m ih (first {m' = m'} e more) = let x = only_meets o s k m' (λ j le. ih j (omega (arith, le))) more in (x.0, ap (λ r. seen (after g (suc k) r)) e ∙ x.1)
 
-  only_turn : (k rank : ℕ) (o : World) (s : S) (m : M) → ((j : ℕ) → j ≤ k → (r : Run S) (q : Run M) → Catches g Related r q → Only j r q) → ((s' : S) → Related s' m → weight s' < weight s → Only (suc k) (Going o s') (Going o m)) → Moves rank o s m → Only (suc k) (Going o s) (Going o m)
+  only_turn : (k rank : ℕ) (o : World) (s : S) (m : M) → ((j : ℕ) → j ≤ k → (r : Run S) (q : Run M) → Catches g Related r q → Only j r q) → ((s' : S) → Related o s' m → weight s' < weight s → Only (suc k) (Going o s') (Going o m)) → Moves rank o s m → Only (suc k) (Going o s) (Going o m)
   only_turn k rank o s m ih go (Both a) = only_meets o s k m ih a
   only_turn k rank o s m ih go (Quiet s' e h' lt) = let x = go s' h' lt in (suc x.0, x.1 ∙ ap (λ r. seen (after f x.0 r)) (sym e))
   only_turn k rank o s m ih go (Slow m' n e h' lt) = let x = ih k (omega arith) (Going o s) (Going o m') (caught (going (n, h'))) in (x.0, ap (λ r. seen (after g k r)) e ∙ x.1)
 
-  only_inner : (k : ℕ) (o : World) (m : M) → ((n : ℕ) (s : S) → R n s m → Moves n o s m) → ((j : ℕ) → j ≤ k → (r : Run S) (q : Run M) → Catches g Related r q → Only j r q) → (w : ℕ) (s : S) → Related s m → weight s ≤ w → Only (suc k) (Going o s) (Going o m)
+  only_inner : (k : ℕ) (o : World) (m : M) → ((n : ℕ) (s : S) → R n o s m → Moves n o s m) → ((j : ℕ) → j ≤ k → (r : Run S) (q : Run M) → Catches g Related r q → Only j r q) → (w : ℕ) (s : S) → Related o s m → weight s ≤ w → Only (suc k) (Going o s) (Going o m)
   only_inner k o m sim ih zero s h le = only_turn k h.0 o s m ih (λ s' h' lt. absurd (omega (arith, le, lt))) (sim h.0 s h.1)
   only_inner k o m sim ih (suc w) s h le = only_turn k h.0 o s m ih (λ s' h' lt. only_inner k o m sim ih w s' h' (omega (arith, le, lt))) (sim h.0 s h.1)
 
-  only_alike : Simulates → (k : ℕ) → ((j : ℕ) → j ≤ k → (r : Run S) (q : Run M) → Catches g Related r q → Only j r q) → (r : Run S) (q : Run M) → Alike Related r q → Only (suc k) r q
+  only_alike : Simulates → (k : ℕ) → ((j : ℕ) → j ≤ k → (r : Run S) (q : Run M) → Catches g Related r q → Only j r q) → (r : Run S) (q : Run M) → AlikeIn Related r q → Only (suc k) r q
   only_alike sim k ih _ _ (going {o} {s} {m} h) = only_inner k o m (λ n s' h'. sim n o s' m h') ih (weight s) s h (omega arith)
   only_alike sim k ih _ _ (ended {o} {e}) = (0, ended_stays' (suc k) o e)
 
-  only_catches : (k : ℕ) (r : Run S) → ((j : ℕ) → j ≤ k → (r : Run S) (q : Run M) → Catches g Related r q → Only j r q) → ((q : Run M) → Alike Related r q → Only (suc k) r q) → (q : Run M) → Catches g Related r q → Only (suc k) r q
+  only_catches : (k : ℕ) (r : Run S) → ((j : ℕ) → j ≤ k → (r : Run S) (q : Run M) → Catches g Related r q → Only j r q) → ((q : Run M) → AlikeIn Related r q → Only (suc k) r q) → (q : Run M) → Catches g Related r q → Only (suc k) r q
   only_catches k r ih f q (caught a) = f q a
   only_catches k r ih f _ (lags {o' = o'} {m' = m'} e same more) = let x = ih k (omega arith) r (Going o' m') more in (x.0, ap (λ r. seen (after g k r)) e ∙ x.1)
 

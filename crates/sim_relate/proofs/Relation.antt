@@ -1,6 +1,7 @@
 -- Which states of the machine stand for which states of a program.
 use Rattle.std.proofs.Common.{◌≡◌, ◌<◌, ◌≤◌, ◌*◌, ℕ, suc, zero, Bool, true, false, List, [], ◌∷◌, length, map, Option, Some, None}
 use Rattle.std.specs.Prelude.{⊤, pos, slice_get}
+use Rattle.sim_chains.specs.Components.{AttachedObject, DetachedObject, NoObject, ResumedObject, Standing, TerminatedObject}
 use Rattle.sim_scope.specs.Access.{encloser}
 use Rattle.sim_scope.specs.Source.{Source, level_of}
 use Rattle.sim_tree.specs.declared.stmt.TypeName.{TypeName}
@@ -19,7 +20,8 @@ use Rattle.sim_code.specs.declared.code.CodeType.TheVariants as type
 use Rattle.sim_code.specs.declared.instr.Instr.{Instr}
 use Rattle.sim_code.specs.declared.instr.Instr.TheVariants as i
 use Rattle.sim_code.specs.Code.{BlockOf, CodeOf}
-use Rattle.sim_code.specs.Instances.{CellPlace, ElementPlace, ImagePlace, Instance, at_level, live}
+use Rattle.sim_code.specs.Instances.{CellPlace, ElementPlace, ImagePlace, Instance, Memory, found_at, live}
+use Rattle.sim_code.specs.Instances as instances
 use Rattle.sim_code.specs.Machine.{Frames, Machine, Value, Cells}
 use Rattle.sim_code.specs.Machine as machine
 use Rattle.sim_code.proofs.Lifts.{Both}
@@ -113,50 +115,66 @@ key_of h = h.key
 
 -- ---- instances
 
--- An instance stands for a text: it was not given back, has the text and its level, and its encloser, which was entered before it,
--- stands for the text around.
+-- What is found by a level from an instance outward, given back or not.
+abbrev pub seen_within : {C A : Type 0} → ℕ → Memory C A → (level j : ℕ) → Option ℕ
+seen_within zero m level j = None
+seen_within (suc n) m level j = found_at level (seen_within n m level) j (slice_get m.instances j)
+
+unfoldable pub seen_at : {C A : Type 0} → Memory C A → (level j : ℕ) → Option ℕ
+seen_at m level j = seen_within (suc j) m level j
+
+-- An instance stands for a text: it has the text and its level, and its encloser, which was entered before it, stands for the text
+-- around. Whether it was given back is not asked: so it stands for the text in all later stores.
 pub data Stands (s : Source) (m : Instances) : (instance text : ℕ) → Type 0 where
-  outermost : {j t : ℕ} {x : Instance (List Held)} → live m j ≡ Some x → x.text ≡ t → x.level ≡ level_of s t → x.encloser ≡ None → encloser s.tables t ≡ None → Stands s m j t
-  inside : {j t e u : ℕ} {x : Instance (List Held)} → live m j ≡ Some x → x.text ≡ t → x.level ≡ level_of s t → x.encloser ≡ Some e → encloser s.tables t ≡ Some u → e < j → Stands s m e u → Stands s m j t
+  outermost : {j t : ℕ} {x : Instance (List Held)} → slice_get m.instances j ≡ Some x → x.text ≡ t → x.level ≡ level_of s t → x.encloser ≡ None → encloser s.tables t ≡ None → Stands s m j t
+  inside : {j t e u : ℕ} {x : Instance (List Held)} → slice_get m.instances j ≡ Some x → x.text ≡ t → x.level ≡ level_of s t → x.encloser ≡ Some e → encloser s.tables t ≡ Some u → e < j → Stands s m e u → Stands s m j t
 
 -- what code finds from an instance outward: the instance in which a declaration of a text lies
 pub record Reaches (s : Source) (m : Instances) (from text instance : ℕ) : Type 0 where
-  pub found : at_level m (level_of s text) from ≡ Some instance
+  pub found : seen_at m (level_of s text) from ≡ Some instance
   pub stands : Stands s m instance text
-  pub before : instance ≤ from
 
--- a link in hand of an instance
-pub record LinkIs (s : Source) (m : Instances) (from text : ℕ) (v : Val) (x : Value) : Type 0 where
+-- a link in hand
+pub record LinkIs (s : Source) (m : Instances) (text : ℕ) (v : Val) (x : Value) : Type 0 where
   pub instance : ℕ
   pub is_val : v ≡ meaning.Link instance
   pub is_value : x ≡ machine.Link instance
   pub stands : Stands s m instance text
-  pub before : instance ≤ from
 
--- where a cell lies that an instance reaches
-pub record PlaceIs (s : Source) (m : Instances) (from : ℕ) (v : Val) (x : Value) : Type 0 where
+-- where a cell lies
+pub record PlaceIs (s : Source) (m : Instances) (v : Val) (x : Value) : Type 0 where
   pub instance : ℕ
   pub text : ℕ
   pub key : Key
   pub is_val : v ≡ meaning.Address (CellPlace instance key None)
   pub is_value : x ≡ machine.Address (CellPlace instance (slot_of s text key) 0)
   pub stands : Stands s m instance text
-  pub before : instance ≤ from
   pub has : HasCell s text key
 
-abbrev pub HandAt : Source → Instances → (from : ℕ) → Kind → Val → Value → Type 0
-HandAt s m from Any v x = ValAt v x
-HandAt s m from Located v x = PlaceIs s m from v x
-HandAt s m from (LinkTo text) v x = LinkIs s m from text v x
+abbrev pub HandAt : Source → Instances → Kind → Val → Value → Type 0
+HandAt s m Any v x = ValAt v x
+HandAt s m Located v x = PlaceIs s m v x
+HandAt s m (LinkTo text) v x = LinkIs s m text v x
 
--- what the later of two stores keeps of the instances before a bound: what they stand for, and what is found from them outward
-pub record Later (s : Source) (m m' : Instances) (bound : ℕ) : Type 0 where
-  pub stands : (j t : ℕ) → j < bound → Stands s m j t → Stands s m' j t
-  pub same : (level j t : ℕ) → j < bound → Stands s m j t → at_level m' level j ≡ at_level m level j
+-- what the later of two stores keeps of the instances: what they stand for, and what is found from them outward
+pub record Later (s : Source) (m m' : Instances) : Type 0 where
+  pub stands : (j t : ℕ) → Stands s m j t → Stands s m' j t
+  pub same : (level j t : ℕ) → Stands s m j t → seen_at m' level j ≡ seen_at m level j
 
--- what it keeps of their frames: the temps, which stand behind the cells of the text
-pub record Keeps (s : Source) (m : Instances) (fs fs' : Frames) (bound : ℕ) : Type 0 where
-  pub temps : (j t c : ℕ) → j < bound → Stands s m j t → length (cells_in s t (text s t)) ≤ c → machine.cell fs' j c ≡ machine.cell fs j c
+-- what is in a cell of a frame, given back or not
+abbrev pub placed_in : Option (Instance Cells) → ℕ → Option Value
+placed_in x c = machine.value_in (instances.cells_in x) c
+
+abbrev pub placed : Frames → (frame cell : ℕ) → Option Value
+placed fs j c = placed_in (slice_get fs.instances j) c
+
+-- what it keeps of the frames of some instances: the temps, which stand behind the cells of the text
+pub record Keeps (s : Source) (m : Instances) (fs fs' : Frames) (Of : ℕ → Type 0) : Type 0 where
+  pub temps : (j t c : ℕ) → Of j → Stands s m j t → length (cells_in s t (text s t)) ≤ c → placed fs' j c ≡ placed fs j c
+
+-- every instance
+abbrev pub Every : ℕ → Type 0
+Every j = ⊤
 
 -- the site in a text's code where so many cells and temps are in use
 abbrev pub site_at : (text : ℕ) → BlockOf → (used : ℕ) → Site
@@ -367,7 +385,7 @@ module _ (s : Source) (code : CodeOf) where
     pub like : ValAt v x
     pub «in_use» : temp < site.used
     pub is_temp : TempIs site temp
-    pub holds : machine.cell fs inst temp ≡ Some x
+    pub holds : placed fs inst temp ≡ Some x
     pub gives : GivesIs m inst site temp ts p q before behind
 
   -- ---- statements
@@ -402,7 +420,7 @@ module _ (s : Source) (code : CodeOf) where
     pub was : ℕ
     pub «in_use» : temp < used
     pub is_temp : TempIs (site_at t b was) temp
-    pub holds : machine.cell fs inst temp ≡ Some (machine.Of (Integer (pos number)))
+    pub holds : placed fs inst temp ≡ Some (machine.Of (Integer (pos number)))
     pub leads : slice_get returns number ≡ Some q
     pub back : ReturnsAt s code (site_at t b was) n temp 0 returns p first
 
@@ -565,35 +583,34 @@ module _ (s : Source) (code : CodeOf) where
   -- ---- chains
 
   -- An instance on a chain, and the activation that stands for it; `waits` tells whether it gets a value before it goes on.
-  pub record TopIs (m : Instances) (fs : Frames) (bound : ℕ) (a : Activation) (waits : Bool) (x : machine.Activation) (Work : (t : ℕ) → BlockOf → (used p : ℕ) → List Kind → Type 0) : Type 0 where
+  pub record TopIs (m : Instances) (fs : Frames) (a : Activation) (waits : Bool) (x : machine.Activation) (Work : (t : ℕ) → BlockOf → (used p : ℕ) → List Kind → Type 0) : Type 0 where
     pub base : x.thunk ≡ false
     pub home : x.home ≡ a.instance
-    pub before : a.instance < bound
     pub text : ℕ
     pub block : BlockOf
     pub found : slice_get code.blocks (block_number s text) ≡ Some block
     pub stands : Stands s m a.instance text
     pub room : x.room ≡ block.room
     pub kinds : List Kind
-    pub values : StackAt (HandAt s m a.instance) kinds a.values x.stack
+    pub values : StackAt (HandAt s m) kinds a.values x.stack
     pub fits : waits ≡ true → length kinds < block.room
     pub used : ℕ
     pub goes : Work text block used x.pc (given waits kinds)
 
-  -- A chain that stands on a ground. The numbers of its instances fall.
-  abbrev pub ChainOn : (Ground : Bool → List machine.Activation → Type 0) → Instances → Frames → (bound : ℕ) → List Activation → Bool → List machine.Activation → Type 0
-  ChainOn Ground m fs bound [] waits below = Ground waits below
-  ChainOn Ground m fs bound (a ∷ rest) waits [] = ⊥
-  ChainOn Ground m fs bound (a ∷ rest) waits (x ∷ below) =
-      TopIs m fs bound a waits x (λ t b used p ks. WorkAt m fs (λ value. ChainOn Ground m fs a.instance rest value below) a.instance t b used a.work p ks)
+  -- A chain that stands on a ground.
+  abbrev pub ChainOn : (Ground : Bool → List machine.Activation → Type 0) → Instances → Frames → List Activation → Bool → List machine.Activation → Type 0
+  ChainOn Ground m fs [] waits below = Ground waits below
+  ChainOn Ground m fs (a ∷ rest) waits [] = ⊥
+  ChainOn Ground m fs (a ∷ rest) waits (x ∷ below) =
+      TopIs m fs a waits x (λ t b used p ks. WorkAt m fs (λ value. ChainOn Ground m fs rest value below) a.instance t b used a.work p ks)
 
   -- nothing is below
   pub record Bottom (waits : Bool) (below : List machine.Activation) : Type 0 where
     pub still : waits ≡ false
     pub is : below ≡ []
 
-  abbrev pub ChainAt : Instances → Frames → (bound : ℕ) → List Activation → Bool → List machine.Activation → Type 0
-  ChainAt m fs bound chain waits below = ChainOn Bottom m fs bound chain waits below
+  abbrev pub ChainAt : Instances → Frames → List Activation → Bool → List machine.Activation → Type 0
+  ChainAt m fs chain waits below = ChainOn Bottom m fs chain waits below
 
   -- ---- stores
 
@@ -613,17 +630,32 @@ module _ (s : Source) (code : CodeOf) where
     pub as_many : length m.instances ≡ length fs.instances
     pub at : (j : ℕ) → Both InstanceAt (slice_get m.instances j) (slice_get fs.instances j)
 
+  -- How an instance and its frame stand as components: alike, and the chains that they keep stand for each other.
+  abbrev pub StandingAt : Instances → Frames → Standing Activation → Standing machine.Activation → Type 0
+  StandingAt m fs (NoObject None) (NoObject None) = ⊤
+  StandingAt m fs (NoObject (Some chain)) (NoObject (Some below)) = ChainAt m fs chain false below
+  StandingAt m fs AttachedObject AttachedObject = ⊤
+  StandingAt m fs (DetachedObject chain) (DetachedObject below) = ChainAt m fs chain false below
+  StandingAt m fs ResumedObject ResumedObject = ⊤
+  StandingAt m fs TerminatedObject TerminatedObject = ⊤
+  StandingAt m fs _ _ = ⊥
+
+  abbrev pub StandingsAt : Instances → Frames → Type 0
+  StandingsAt m fs = (j : ℕ) → Both (StandingAt m fs) (slice_get m.standings j) (slice_get fs.standings j)
+
   pub record StateAt (c : Configuration) (x : Machine) : Type 0 where
-    pub chain : ChainAt c.memory x.memory (length c.memory.instances) c.chain false x.chain
+    pub chain : ChainAt c.memory x.memory c.chain false x.chain
     pub store : StoreAt c.memory x.memory
+    pub parked : StandingsAt c.memory x.memory
 
   -- the same where control has come to the first part
-  abbrev pub ChainNow : Instances → Frames → (bound : ℕ) → List Activation → List machine.Activation → Type 0
-  ChainNow m fs bound [] below = Bottom false below
-  ChainNow m fs bound (a ∷ rest) [] = ⊥
-  ChainNow m fs bound (a ∷ rest) (x ∷ below) =
-      TopIs m fs bound a false x (λ t b used p ks. NowAt m fs (λ value. ChainAt m fs a.instance rest value below) a.instance t b used a.work p ks)
+  abbrev pub ChainNow : Instances → Frames → List Activation → List machine.Activation → Type 0
+  ChainNow m fs [] below = Bottom false below
+  ChainNow m fs (a ∷ rest) [] = ⊥
+  ChainNow m fs (a ∷ rest) (x ∷ below) =
+      TopIs m fs a false x (λ t b used p ks. NowAt m fs (λ value. ChainAt m fs rest value below) a.instance t b used a.work p ks)
 
   pub record StateNow (c : Configuration) (x : Machine) : Type 0 where
-    pub chain : ChainNow c.memory x.memory (length c.memory.instances) c.chain x.chain
+    pub chain : ChainNow c.memory x.memory c.chain x.chain
     pub store : StoreAt c.memory x.memory
+    pub parked : StandingsAt c.memory x.memory

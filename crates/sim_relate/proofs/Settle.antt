@@ -23,12 +23,13 @@ use Rattle.sim_meaning.specs.Pending as meaning
 use Rattle.sim_meaning.specs.Texts.{text}
 use Rattle.codegen_expr.specs.Sites.{Ahead, At, Is, cells_in}
 use Rattle.codegen.specs.CodeFor.{ReturnsAt}
-use Rattle.sim_relate.proofs.Relation.{ChainAt, ComesTo, Kind, NowAt, OpAt, ReturningIs, StateAt, StateNow, StoreAt, TurningIs, WorkAt, over, returning, site_at, straight, there, turning}
+use Rattle.sim_relate.proofs.Relation.{ChainAt, ComesTo, Kind, NowAt, OpAt, ReturningIs, StandingsAt, placed, StateAt, StateNow, StoreAt, TurningIs, WorkAt, over, returning, site_at, straight, there, turning}
+use Rattle.sim_meaning.specs.Sane.{Other, Sane, SaneOn}
 use Rattle.sim_relate.proofs.Hands.{stack_length}
-use Rattle.sim_relate.proofs.Here.{Here, act}
+use Rattle.sim_relate.proofs.Here.{Here, There, act}
 use Rattle.sim_relate.proofs.Moved.{later_itself, moved, own_level, work_more, work_moved}
 use Rattle.sim_relate.proofs.Operators.{chosen, is_instr}
-use Rattle.sim_relate.proofs.Stores.{levels_same, temp_written}
+use Rattle.sim_relate.proofs.Stores.{levels_same, placed_here, temp_written}
 
 -- so many steps of the machine that show nothing and leave the world as it is
 pub data Slows (code : CodeOf) (l : Limits) : ℕ → Machine → Machine → Type 0 where
@@ -149,7 +150,7 @@ numbers_differ a b lt =
     let greater : int_lt (pos a) (pos b) ≡ true = grind (arith, lt) in
     ap (λ z. holds comparison.Equal (cond z order.Less (cond (int_lt (pos a) (pos b)) order.Greater order.Equal))) less ∙ ap (λ z. holds comparison.Equal (cond z order.Greater order.Equal)) greater
 
-module _ (s : Source) (code : CodeOf) (l : Limits) (fs : Frames) (inst t : ℕ) (b : BlockOf) (stack : List Value) (below : List machine.Activation) (n : ℕ) (deep : length stack ≡ n) (own : at_level fs (level_of s t) inst ≡ Some inst) where
+module _ (s : Source) (code : CodeOf) (l : Limits) (fs : Frames) (inst t : ℕ) (b : BlockOf) (stack : List Value) (below : List machine.Activation) (n : ℕ) (deep : length stack ≡ n) (own : at_level fs (level_of s t) inst ≡ Some inst) (reads : (c : ℕ) → machine.cell fs inst c ≡ placed fs inst c) where
   abbrev In : ℕ → Machine
   In p = machine_at fs inst p stack b.room below
 
@@ -190,7 +191,7 @@ module _ (s : Source) (code : CodeOf) (l : Limits) (fs : Frames) (inst t : ℕ) 
   come_path used q _ (over {p} {p'} {x} jump ahead more) = slow_more code l (λ o. over_step code l o fs inst p stack b.room below p' x jump ahead) (come_path used q p' more)
   come_path used q _ (returning {p} {p'} r more) =
       let e : r.number ≡ 0 + r.number = omega arith in
-      slow_then code l (returns_path r.was r.temp r.number r.holds r.returns 0 r.number p r.first p' e r.leads r.back) (come_path used q p' more)
+      slow_then code l (returns_path r.was r.temp r.number (reads r.temp ∙ r.holds) r.returns 0 r.number p r.first p' e r.leads r.back) (come_path used q p' more)
 
 -- what is pending behind a turn is come back to
 pub comes_back : (s : Source) (code : CodeOf) (m : Instances) (fs : Frames) (Below : Bool → Type 0) (inst t : ℕ) (b : BlockOf) (used : ℕ) (w : List Item) (p p' : ℕ) (ks : List Kind) → ReturningIs s code fs inst t b used (length ks) p p' → WorkAt s code m fs Below inst t b used w p' ks → WorkAt s code m fs Below inst t b used w p ks
@@ -205,15 +206,15 @@ module _ (s : Source) (code : CodeOf) (l : Limits) where
   abbrev pub Settles : Configuration → Machine → Type 0
   Settles c x = (y : Machine) × SlowTo code l x y × StateNow s code c y
 
-  module _ (m : Instances) (inst : ℕ) (vals : List meaning.Val) (rest : List Activation) (fs : Frames) (t : ℕ) (b : BlockOf) (stack : List Value) (below : List machine.Activation) (ks : List Kind) (here : Here s code m fs inst t b ks vals stack) where
+  module _ (m : Instances) (inst : ℕ) (vals : List meaning.Val) (rest : List Activation) (fs : Frames) (t : ℕ) (b : BlockOf) (stack : List Value) (below : List machine.Activation) (ks : List Kind) (here : Here s code m fs inst rest t b ks vals stack) where
     abbrev Below : Bool → Type 0
-    Below v = ChainAt s code m fs inst rest v below
+    Below v = ChainAt s code m fs rest v below
 
     abbrev Stood : List Item → Configuration
     Stood w = record { chain = record { instance = inst; work = w; values = vals } ∷ rest; memory = m }
 
     own : at_level fs (level_of s t) inst ≡ Some inst
-    own = levels_same s code here.store (level_of s t) inst ∙ own_level s m inst t here.stands
+    own = levels_same s code here.store (level_of s t) inst ∙ own_level s m inst t here.stands here.lives
 
     deep : length stack ≡ length ks
     deep = sym (stack_length ks vals stack here.values)
@@ -224,7 +225,6 @@ module _ (s : Source) (code : CodeOf) (l : Limits) where
       chain = record {
         base = refl;
         home = refl;
-        before = here.live;
         text = t;
         block = b;
         found = here.found;
@@ -237,23 +237,24 @@ module _ (s : Source) (code : CodeOf) (l : Limits) where
         goes = a;
       };
       store = here.store;
+      parked = here.parked;
     }
 
     -- a turn goes to the statement
     turns : (used u : ℕ) (w : List Item) (x : Statement) (p q : ℕ) (behind : List Kind) → u ≤ used → length (cells_in s t (text s t)) ≤ u → TurningIs s code (site_at t b u) (length ks) x p q → behind ≡ ks → WorkAt s code m fs Below inst t b u w q behind → Settles (Stood (Do (Exec x) ∷ w)) (machine_at fs inst p stack b.room below)
     turns used u w x p q behind le low a e k =
         let number = machine.Of (Integer (pos a.number)) in
-        let r = temp_written s code m fs inst t b a.temp number here.store here.stands here.found a.is_temp.behind a.is_temp.within in
+        let r = temp_written s code m fs inst t b a.temp number here.store here.stands here.lives here.found a.is_temp.behind a.is_temp.within in
         let one : length stack < b.room = omega (arith, deep, a.turn.pushed.fits) in
         let more : u ≤ suc a.temp = omega (arith, a.unused) in
         let again : suc a.temp ≤ suc a.temp = omega arith in
         let in_use : a.temp < suc a.temp = omega arith in
         let low' : length (cells_in s t (text s t)) ≤ suc a.temp = omega (arith, a.is_temp.behind) in
-        let there' = moved s code m m fs r.frames r.store refl (later_itself s m (length m.instances)) here here.values in
+        let there' = moved s code m m fs r.frames r.store (later_itself s m) (Other inst) r.keeps refl r.standings here.kept_alone here here.values in
         let k1 = subst (λ z. WorkAt s code m fs Below inst t b u w q z) e k in
-        let k2 = work_moved s code m m fs r.frames r.store refl (later_itself s m (length m.instances)) here r.keeps rest below u (λ n le lt. r.others n (λ same. let no : ⊥ = omega (arith, same, lt, a.unused) in no)) w q ks k1 in
-        let k3 = work_more s code m r.frames (λ v. ChainAt s code m r.frames inst rest v below) inst t b u (suc a.temp) more w q ks k2 in
-        let k4 = comes_back s code m r.frames (λ v. ChainAt s code m r.frames inst rest v below) inst t b (suc a.temp) w a.done q ks (record {
+        let k2 = work_moved s code m m fs r.frames r.store (later_itself s m) (Other inst) r.keeps refl r.standings here.kept_alone here here.alone below u (λ n le lt. r.others n (λ same. let no : ⊥ = omega (arith, same, lt, a.unused) in no)) w q ks k1 in
+        let k3 = work_more s code m r.frames (λ v. ChainAt s code m r.frames rest v below) inst t b u (suc a.temp) more w q ks k2 in
+        let k4 = comes_back s code m r.frames (λ v. ChainAt s code m r.frames rest v below) inst t b (suc a.temp) w a.done q ks (record {
           temp = a.temp;
           number = a.number;
           first = a.first;
@@ -272,12 +273,11 @@ module _ (s : Source) (code : CodeOf) (l : Limits) where
           now_moved r.frames there' (suc a.temp) (Do (Exec x) ∷ w) a.start (suc a.temp, a.done, ks, again, low', (a.body, refl), k4),
         )
       where
-        now_moved : (fs' : Frames) → Here s code m fs' inst t b ks vals stack → (used : ℕ) (w : List Item) (p : ℕ) → NowAt s code m fs' (λ v. ChainAt s code m fs' inst rest v below) inst t b used w p ks → StateNow s code (Stood w) (machine_at fs' inst p stack b.room below)
+        now_moved : (fs' : Frames) → There s code m fs' inst t b ks vals stack → (used : ℕ) (w : List Item) (p : ℕ) → NowAt s code m fs' (λ v. ChainAt s code m fs' rest v below) inst t b used w p ks → StateNow s code (Stood w) (machine_at fs' inst p stack b.room below)
         now_moved fs' here' used w p a = record {
           chain = record {
             base = refl;
             home = refl;
-            before = here'.live;
             text = t;
             block = b;
             found = here'.found;
@@ -290,6 +290,7 @@ module _ (s : Source) (code : CodeOf) (l : Limits) where
             goes = a;
           };
           store = here'.store;
+          parked = here'.parked;
         }
 
     -- an operator in its own place, or a turn
@@ -299,7 +300,7 @@ module _ (s : Source) (code : CodeOf) (l : Limits) where
     begins used w op p u q behind le low a k = (_, (0, no_step), now_at used (Do op ∷ w) p (u, q, behind, le, low, a, k))
 
     come : (used : ℕ) (q p : ℕ) → ComesTo s code fs inst t b used (length ks) q p → SlowTo code l (machine_at fs inst p stack b.room below) (machine_at fs inst q stack b.room below)
-    come used q p a = come_path s code l fs inst t b stack below (length ks) deep own used q p a
+    come used q p a = come_path s code l fs inst t b stack below (length ks) deep own (λ c. placed_here s code m fs here.store inst c here.lives) used q p a
 
     first_come : (c : Configuration) (x y : Machine) → SlowTo code l x y → Settles c y → Settles c x
     first_come c x y a r = (r.0, slow_then code l a r.1, r.2)
@@ -318,13 +319,13 @@ module _ (s : Source) (code : CodeOf) (l : Limits) where
       ∙ ap (λ z. let v : machine.Activation = record { thunk = false; home = z; pc = y.pc; stack = y.stack; room = y.room } in v) h
       ∙ ap (λ z. let v : machine.Activation = record { thunk = false; home = inst; pc = y.pc; stack = y.stack; room = z } in v) r
 
-  settles : (m : Instances) (chain : List Activation) (fs : Frames) (below : List machine.Activation) → StoreAt s code m fs → ChainAt s code m fs (length m.instances) chain false below → Settles (record { chain = chain; memory = m }) (record { chain = below; memory = fs })
-  settles m [] fs below a c = (_, (0, no_step), record { chain = c; store = a })
-  settles m (x ∷ rest) fs [] a c = absurd c
-  settles m (x ∷ rest) fs (y ∷ below) a c =
+  settles : (m : Instances) (chain : List Activation) (fs : Frames) (below : List machine.Activation) → StoreAt s code m fs → StandingsAt s code m fs → SaneOn m chain → ChainAt s code m fs chain false below → Settles (record { chain = chain; memory = m }) (record { chain = below; memory = fs })
+  settles m [] fs below a parked sane c = (_, (0, no_step), record { chain = c; store = a; parked = parked })
+  settles m (x ∷ rest) fs [] a parked sane c = absurd c
+  settles m (x ∷ rest) fs (y ∷ below) a parked sane c =
       subst (λ z. Settles (record { chain = x ∷ rest; memory = m }) (record { chain = z ∷ below; memory = fs })) (sym (as_act y x.instance c.block.room c.base c.home c.room))
-      (top_settles m x.instance x.values rest fs c.text c.block y.stack below c.kinds (record { store = a; live = c.before; stands = c.stands; found = c.found; values = c.values }) c.used x.work y.pc c.goes)
+      (top_settles m x.instance x.values rest fs c.text c.block y.stack below c.kinds (record { store = a; parked = parked; lives = sane.0; alone = sane.1; kept_alone = sane.2; stands = c.stands; found = c.found; values = c.values }) c.used x.work y.pc c.goes)
 
   -- where the machine has steps of its own, it makes them
-  pub settle : (c : Configuration) (x : Machine) → StateAt s code c x → Settles c x
-  settle c x a = settles c.memory c.chain x.memory x.chain a.store a.chain
+  pub settle : (c : Configuration) (x : Machine) → Sane c → StateAt s code c x → Settles c x
+  settle c x sane a = settles c.memory c.chain x.memory x.chain a.store a.parked sane a.chain

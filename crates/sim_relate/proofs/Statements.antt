@@ -2,10 +2,11 @@
 use Rattle.std.proofs.Common.{◌≡◌, ◌≤◌, ℕ, zero, suc, Bool, true, false, List, ◌∷◌, length, Option, Some, None, refl, sym, ap, ◌∙◌, subst}
 use Rattle.std.specs.Prelude.{pos}
 use Rattle.sim_base.specs.declared.limits.Limits.{Limits}
-use Rattle.sim_scope.specs.Source.{Source, block_around, line_at}
+use Rattle.sim_scope.specs.Source.{Source, block_around, line_at, level_of}
 use Rattle.sim_tree.specs.Syntax.{Also, Begin, Block, Element, Expression, NoDeclaration, NoMore, NoStatement, RightSide, Statement, Statements, With}
 use Rattle.sim_tree.specs.Syntax as syntax
 use Rattle.sim_code.specs.declared.instr.Instr.TheVariants as i
+use Rattle.sim_code.specs.Instances.{at_level}
 use Rattle.sim_code.specs.Code.{BlockOf, CodeOf}
 use Rattle.sim_code.specs.Outcome.{Going, Run, World}
 use Rattle.sim_code.specs.Events.{choosing, pop_truth, ticking}
@@ -28,15 +29,15 @@ use Rattle.codegen.specs.CodeStm.{BlockAt, CalledAt, DropsAt, EnterAt, StmAt, St
 use Rattle.sim_relate.proofs.Relation.{Any, BeginsAt, ChainAt, HandAt, Kind, OpAt, Reaches, StateAt, WorkAt, anys, given, site_at, straight, TermAt, gives}
 use Rattle.sim_relate.proofs.Closing.{call_named_at, close_at, call_dot_at}
 use Rattle.sim_relate.proofs.Hands.{hand_truth}
-use Rattle.sim_relate.proofs.Here.{Here, act, at_row, goes, kinds_as, with_values}
+use Rattle.sim_relate.proofs.Here.{Here, act, at_row, goes, kinds_as, there_of, with_values}
 use Rattle.sim_relate.proofs.Lefts.{goes_at, lefts_at}
 use Rattle.sim_relate.proofs.Operators.{jumps_ahead, jumps_back, same_plain}
 use Rattle.sim_relate.proofs.Pending.{evals, pends}
-use Rattle.sim_relate.proofs.Reach.{reach}
+use Rattle.sim_relate.proofs.Reach.{reach_found}
 use Rattle.sim_scope.specs.Assignments.{last_value, left_sides}
 use Rattle.sim_relate.proofs.Shapes.{Leaves, dot_call_leaves, named_call_leaves}
 
-module _ (s : Source) (code : CodeOf) (l : Limits) (agrees : Agrees s) (o : World) (m : Instances) (inst : ℕ) (w : List Item) (vals : List Val) (rest : List Activation) (fs : Frames) (t : ℕ) (b : BlockOf) (pc : ℕ) (stack : List Value) (below : List machine.Activation) (ks : List Kind) (here : Here s code m fs inst t b ks vals stack) (u q : ℕ) (ks' : List Kind) (low : length (cells_in s t (text s t)) ≤ u) (k : WorkAt s code m fs (λ v. ChainAt s code m fs inst rest v below) inst t b u w q ks') where
+module _ (s : Source) (code : CodeOf) (l : Limits) (agrees : Agrees s) (o : World) (m : Instances) (inst : ℕ) (w : List Item) (vals : List Val) (rest : List Activation) (fs : Frames) (t : ℕ) (b : BlockOf) (pc : ℕ) (stack : List Value) (below : List machine.Activation) (ks : List Kind) (here : Here s code m fs inst rest t b ks vals stack) (u q : ℕ) (ks' : List Kind) (low : length (cells_in s t (text s t)) ≤ u) (k : WorkAt s code m fs (λ v. ChainAt s code m fs rest v below) inst t b u w q ks') where
   abbrev pub R : Configuration → Machine → Type 0
   R = StateAt s code
 
@@ -50,24 +51,24 @@ module _ (s : Source) (code : CodeOf) (l : Limits) (agrees : Agrees s) (o : Worl
   FollowsStatement x = BeginsAt s code m fs inst (site_at t b u) (Exec x) pc q ks ks' → Alike R (do_op s l o m inst w vals rest (Exec x)) (on_top code l o fs top below)
 
   abbrev pub Rests : List Item → ℕ → List Kind → Type 0
-  Rests x p before = WorkAt s code m fs (λ v. ChainAt s code m fs inst rest v below) inst t b u x p before
+  Rests x p before = WorkAt s code m fs (λ v. ChainAt s code m fs rest v below) inst t b u x p before
 
   pub pending : (x : List Item) (op : Op) (p p' : ℕ) (before behind : List Kind) → OpAt s code m fs inst (site_at t b u) op p p' before behind → Rests x p' behind → Rests (Do op ∷ x) p before
-  pending x op p p' before behind a r = pends s code m fs (λ v. ChainAt s code m fs inst rest v below) inst t b u low x op p p' before behind a r
+  pending x op p p' before behind a r = pends s code m fs (λ v. ChainAt s code m fs rest v below) inst t b u low x op p p' before behind a r
 
-  pub reaching : (v : ℕ) → Inside s.tables t v → (j : ℕ) × Reaches s m inst v j
-  reaching v ins = reach s m inst t v agrees here.stands ins
+  pub reaching : (v : ℕ) → Inside s.tables t v → (j : ℕ) × Reaches s m inst v j × (at_level m (level_of s v) inst ≡ Some j)
+  reaching v ins = reach_found s m inst t v agrees here.stands here.lives ins
 
   -- an expression that is closed now
   pub closing : (x : List Item) (e : Expression) (p p' : ℕ) (before : List Kind) → ExprAt s code (site_at t b u) (length before) e p p' → Rests x p' (Any ∷ before) → Rests (Do (Eval (close s m inst e)) ∷ x) p before
-  closing x e p p' before a r = evals s code m fs (λ v. ChainAt s code m fs inst rest v below) inst t b u low x (close s m inst e) p p' before (close_at s code m inst (site_at t b u) agrees reaching e (length before) p p' a) r
+  closing x e p p' before a r = evals s code m fs (λ v. ChainAt s code m fs rest v below) inst t b u low x (close s m inst e) p p' before (close_at s code m inst (site_at t b u) agrees reaching e (length before) p p' a) r
 
   pub rests_as : {before : List Kind} → ks' ≡ before → Rests w q before
   rests_as e = subst (λ z. Rests w q z) e k
 
   -- where the machine stands at p, with the same values in hand
   pub stays : {p : World} (x : List Item) (place : ℕ) {next : ℕ} → Rests x place ks → place ≡ next → Alike R (go p m inst x vals rest) (Going p (record { chain = act inst next stack b.room ∷ below; memory = fs }))
-  stays x place r e = goes s code u place here r e
+  stays x place r e = goes s code u place (there_of s code here) r e
 
   -- a tick, and then
   pub ticks : (r : World → Run Configuration) (p : ℕ) → Is code i.Tick pc p → ((x : World) → Alike R (r x) (Going x (record { chain = act inst p stack b.room ∷ below; memory = fs }))) → Alike R (ticking l o r) (on_top code l o fs top below)
@@ -79,7 +80,7 @@ module _ (s : Source) (code : CodeOf) (l : Limits) (agrees : Agrees s) (o : Worl
       → Alike R (pop_truth plain vals o r) (on_top code l o fs top below)
   tests left z x on_true on_false e jump ahead ryes rno r same =
       at_row s code l o fs top below _ (i.JumpF (pos x)) jump.line z jump.is
-      (hand_truth Configuration Machine R Val Value (HandAt s m inst) plain machine.plain same_plain left vals stack o r _ (kinds_as s code e here.values)
+      (hand_truth Configuration Machine R Val Value (HandAt s m) plain machine.plain same_plain left vals stack o r _ (kinds_as s code e here.values)
       (λ c vals' stack' h. subst (λ y. Alike R y (choosing c (machine.on o fs top stack' below) (machine.jumping code pc (pos x) o (λ q. machine.at o fs top q stack' below)))) (sym (same c vals'))
       (alike_choosing Configuration Machine R c _ _ _ _
       (goes s code u z (with_values s code here h) ryes jump.is.on)
@@ -124,10 +125,10 @@ module _ (s : Source) (code : CodeOf) (l : Limits) (agrees : Agrees s) (o : Worl
   assigned_at p left rs y a e =
       let es = left_sides left rs in
       let x = last_value left rs in
-      let r = lefts_at s code m inst t b u agrees reaching fs (λ v. ChainAt s code m fs inst rest v below) low es (GoesAt s code (site_at t b u) x (each_stored s es)) ks y q a in
+      let r = lefts_at s code m inst t b u agrees reaching fs (λ v. ChainAt s code m fs rest v below) low es (GoesAt s code (site_at t b u) x (each_stored s es)) ks y q a in
       subst (λ z. Alike R (assigned s p m inst w vals rest z x) (Going p (record { chain = act inst y stack b.room ∷ below; memory = fs }))) (sym r.is)
       (stays _ y (r.works (Do (Eval (close s m inst x)) ∷ Do (assigning r.found.targets) ∷ w)
-      (goes_at s code m inst t b u agrees reaching fs (λ v. ChainAt s code m fs inst rest v below) low x (each_stored s es) r.found.targets w r.y q ks r.fit r.ends (rests_as e))) refl)
+      (goes_at s code m inst t b u agrees reaching fs (λ v. ChainAt s code m fs rest v below) low x (each_stored s es) r.found.targets w r.y q ks r.fit r.ends (rests_as e))) refl)
 
   pub assign_statement : (left : Expression) (rs : List RightSide) → FollowsStatement (syntax.Assign left rs)
   assign_statement left rs a = let x = a.0 in ticks _ x.0 x.1 (λ p. assigned_at p left rs x.0 x.2 a.1)

@@ -2,12 +2,13 @@
 use Rattle.std.proofs.Common.{◌≡◌, ◌≢◌, ℕ, zero, suc, ◌+◌, ◌<◌, ◌≤◌, List, [], ◌∷◌, length, Option, Some, None, Bool, true, false, ⊎_elim, refl, sym, ap, ◌∙◌, subst, arith, length-append}
 use Rattle.std.proofs.lemmas.Bool.{cases_eq}
 use Rattle.std.proofs.lemmas.List.{length-set}
+use Rattle.std.proofs.lemmas.Option.{slice_get_within}
 use Rattle.std.specs.Prelude.{◌==◌, ◌&&◌, not, if◌then◌else◌, map, nat_lt, slice_get, slice_set}
 use Rattle.sim_chains.specs.Components.{Standing}
 use Rattle.sim_scope.specs.Access.{encloser}
 use Rattle.sim_scope.specs.Source.{Source, level_of}
 use Rattle.sim_code.specs.Code.{BlockOf, CodeOf}
-use Rattle.sim_code.specs.Instances.{Instance, at_level, cells_in as cells_of_live, cells_put, ends_in, entered, found_at, given, given_in, is_given_at_end, is_live, is_live_in, kept_at, kept_further, kept_on, level_within, live, outward, unless_given, with_instance}
+use Rattle.sim_code.specs.Instances.{Instance, Memory, at_level, cells_in as cells_of_live, cells_put, ends_in, entered, found_at, given, given_in, is_given_at_end, is_live, is_live_in, kept_at, kept_further, kept_on, level_within, live, outward, unless_given, with_instance}
 use Rattle.sim_code.specs.Machine.{Cells, Frames, Value, joined}
 use Rattle.sim_code.specs.Machine as machine
 use Rattle.sim_code.proofs.Lifts.{Both}
@@ -16,10 +17,11 @@ use Rattle.sim_meaning.specs.Pending as meaning
 use Rattle.sim_meaning.specs.Texts.{text}
 use Rattle.codegen_expr.specs.CodeExpr.{block_number}
 use Rattle.codegen_expr.specs.Sites.{HasCell, cells_in, place_of, slot_of}
-use Rattle.sim_relate.proofs.Heads.{Heads, Same, both_found, both_heads, entered_same, given_both, given_same, heads_refl, is_live_at, kept_same, later_heads, live_same, lives_in, set_self}
-use Rattle.sim_relate.proofs.Lists.{append_at, append_both, both_as, set_both, set_other, set_same}
-use Rattle.sim_relate.proofs.Reach.{if_true, is_there}
-use Rattle.sim_relate.proofs.Relation.{CellsAt, InstanceAt, Keeps, Later, Stands, StoreAt, ValAt, inside, key_of, outermost, value_of}
+use Rattle.sim_relate.proofs.Heads.{Heads, Same, both_found, both_heads, entered_same, given_both, given_same, heads_refl, is_live_at, kept_same, later_heads, lives_in, set_self}
+use Rattle.sim_relate.proofs.Lists.{append_at, append_before, append_both, both_as, set_both, set_other, set_same}
+use Rattle.sim_relate.proofs.Reach.{if_true, is_there, live_there, lives_now}
+use Rattle.sim_relate.proofs.Relation.{CellsAt, Every, InstanceAt, Keeps, Later, Stands, StoreAt, ValAt, inside, key_of, outermost, placed, placed_in, value_of}
+use Rattle.sim_meaning.specs.Sane.{Lives, Other, lives_alone, lives_inside}
 use Rattle.sim_relate.proofs.Slots.{cells_fit, cells_read, cells_write, keys_length, keys_place, less_true, temp_write}
 
 -- ---- cells of frames after a write of one frame
@@ -74,7 +76,34 @@ module _ (fs : Frames) (j : ℕ) (y : Instance Cells) (lives : live fs j ≡ Som
   pub frame_holds : machine.cell (frames_with fs j y lives cells_with) j c ≡ Some v
   frame_holds = let x = there_is_one y.cells fits in cell_here fs j y lives cells_with c ∙ ap joined (set_same y.cells c x.0 (Some v) x.1)
 
+-- what lies in a frame then, given back or not
+module _ (fs : Frames) (j : ℕ) (y : Instance Cells) (there : slice_get fs.instances j ≡ Some y) (c : ℕ) (v : Value) where
+  abbrev pub frames_put : Frames
+  frames_put = with_instance fs j (record y { cells = slice_set y.cells c (Some v) })
+
+  put_here : (d : ℕ) → placed frames_put j d ≡ joined (slice_get (slice_set y.cells c (Some v)) d)
+  put_here d = ap (λ z. placed_in z d) (set_same fs.instances j y (record y { cells = slice_set y.cells c (Some v) }) there)
+
+  pub placed_other : (k d : ℕ) → (k ≡ j → d ≢ c) → placed frames_put k d ≡ placed fs k d
+  placed_other k d apart =
+      ⊎_elim
+      (λ same.
+      ap (λ z. placed frames_put z d) same ∙ put_here d ∙ ap joined (set_other y.cells c d (Some v) (apart same)) ∙ sym (ap (λ z. placed_in z d) there) ∙ ap (λ z. placed fs z d) (sym same))
+      (λ other. ap (λ z. placed_in z d) (set_other fs.instances j k (record y { cells = slice_set y.cells c (Some v) }) other))
+      (cases_eq k j)
+
+  cell_there : (cells : Cells) (c : ℕ) → c < length cells → (old : Option Value) × (slice_get cells c ≡ Some old)
+  cell_there [] c lt = absurd (omega arith)
+  cell_there (x ∷ cells) zero lt = (x, refl)
+  cell_there (x ∷ cells) (suc c) lt = cell_there cells c (omega arith)
+
+  pub placed_holds : c < length y.cells → placed frames_put j c ≡ Some v
+  placed_holds fits = let x = cell_there y.cells c fits in put_here c ∙ ap joined (set_same y.cells c x.0 (Some v) x.1)
+
 -- ---- both stores
+
+pub later_all : (s : Source) (m m' : Instances) → ((k : ℕ) → Both Heads (slice_get m.instances k) (slice_get m'.instances k)) → Later s m m'
+later_all s m m' all = later_heads s m m' (λ k x e. both_found Heads (slice_get m.instances k) (slice_get m'.instances k) x e (all k))
 
 module _ (s : Source) (code : CodeOf) where
   pub instance_kept : {x : Instance (List Held)} {y : Instance Cells} → InstanceAt s code x y → InstanceAt s code (record x { kept = true }) (record y { kept = true })
@@ -100,11 +129,16 @@ module _ (s : Source) (code : CodeOf) where
       pub of_text : now.text ≡ t
       pub keys : map key_of now.cells ≡ map key_of (cells_in s t (text s t))
 
-    pub framed : {j t : ℕ} → Stands s m j t → Framed j t
-    framed {j} {t} st =
+    same_one : {A : Type 0} (o : Option A) (p q : A) → o ≡ Some p → o ≡ Some q → p ≡ q
+    same_one o p q e f = cc
+
+    pub framed : {j t : ℕ} → Stands s m j t → (now : Instance (List Held)) → live m j ≡ Some now → Framed j t
+    framed {j} {t} st now lives =
         let x = is_there s m st in
-        let y = both_found (InstanceAt s code) (live m j) (live fs j) x.now x.lives (live_pair j) in
-        record { now = x.now; lives = x.lives; frame = y.it; frame_lives = y.is; pair = y.related; of_text = x.text; keys = subst (λ k. map key_of x.now.cells ≡ map key_of (cells_in s k (text s k))) x.text (y.related).keys }
+        let same : x.now ≡ now = same_one (slice_get m.instances j) x.now now x.lives (live_there (slice_get m.instances j) now lives) in
+        let y = both_found (InstanceAt s code) (live m j) (live fs j) now lives (live_pair j) in
+        let of_text : now.text ≡ t = sym (ap (λ z. z.text) same) ∙ x.text in
+        record { now = now; lives = lives; frame = y.it; frame_lives = y.is; pair = y.related; of_text = of_text; keys = subst (λ k. map key_of now.cells ≡ map key_of (cells_in s k (text s k))) of_text (y.related).keys }
 
     pub slot_here : (j t : ℕ) (key : Key) (f : Framed j t) → slot_of s t key ≡ place_of key f.now.cells
     unfolding slot_of
@@ -117,13 +151,22 @@ module _ (s : Source) (code : CodeOf) where
     fits_here j t key f has = let e = slot_here j t key f in let n = count_here j t f in omega (arith, has, e, n)
 
     -- reading a cell
-    pub cell_here_read : (j t : ℕ) (key : Key) → Stands s m j t → HasCell s t key → Both ValAt (meaning.cell m j key) (machine.cell fs j (slot_of s t key))
-    cell_here_read j t key st has =
-        let f = framed st in
+    cell_live_read : (j t : ℕ) (key : Key) → Framed j t → HasCell s t key → Both ValAt (meaning.cell m j key) (machine.cell fs j (slot_of s t key))
+    cell_live_read j t key f has =
         both_as ValAt (held key f.now.cells) (meaning.cell m j key) (joined (slice_get f.frame.cells (place_of key f.now.cells))) (machine.cell fs j (slot_of s t key))
         (ap (λ z. meaning.value_in (cells_of_live z) key) f.lives)
         (ap (λ z. machine.value_in (cells_of_live z) (slot_of s t key)) f.frame_lives ∙ ap (λ c. joined (slice_get f.frame.cells c)) (slot_here j t key f))
         (cells_read ValAt key f.now.cells f.frame.cells (f.pair).cells (fits_here j t key f has))
+
+    -- of an instance that was given back neither side has cells
+    pub cell_here_read : (j t : ℕ) (key : Key) → Stands s m j t → HasCell s t key → Both ValAt (meaning.cell m j key) (machine.cell fs j (slot_of s t key))
+    cell_here_read j t key st has = read_pair (live m j) (live fs j) refl refl (live_pair j)
+      where
+        read_pair : (x : Option (Instance (List Held))) (y : Option (Instance Cells)) → live m j ≡ x → live fs j ≡ y → Both (InstanceAt s code) x y → Both ValAt (meaning.cell m j key) (machine.cell fs j (slot_of s t key))
+        read_pair None None ex ey p = both_as ValAt None (meaning.cell m j key) None (machine.cell fs j (slot_of s t key)) (ap (λ z. meaning.value_in (cells_of_live z) key) ex) (ap (λ z. machine.value_in (cells_of_live z) (slot_of s t key)) ey) tt
+        read_pair None (Some y) ex ey p = absurd p
+        read_pair (Some x) None ex ey p = absurd p
+        read_pair (Some x) (Some y) ex ey p = cell_live_read j t key (framed st x ex) has
 
     -- writing a cell
     pub record Wrote (j t : ℕ) (key : Key) (v : Val) (y : Value) : Type 0 where
@@ -133,22 +176,23 @@ module _ (s : Source) (code : CodeOf) where
       pub is_frames : machine.cell_set fs j (slot_of s t key) y ≡ Some frames
       pub store : StoreAt s code now frames
       pub count : length now.instances ≡ length m.instances
-      pub later : (bound : ℕ) → Later s m now bound
-      pub keeps : (bound : ℕ) → Keeps s m fs frames bound
+      pub later : Later s m now
+      pub keeps : Keeps s m fs frames Every
+      pub standings : now.standings ≡ m.standings
+      pub standings' : frames.standings ≡ fs.standings
 
     one_text : {j t u : ℕ} → Stands s m j t → Stands s m j u → u ≡ t
     one_text {j} p q =
         let x = is_there s m p in
         let y = is_there s m q in
-        let same : x.now ≡ y.now = some_same (live m j) x.now y.now x.lives y.lives in
+        let same : x.now ≡ y.now = some_same (slice_get m.instances j) x.now y.now x.lives y.lives in
         sym y.text ∙ sym (ap (λ z. z.text) same) ∙ x.text
       where
         some_same : {A : Type 0} (o : Option A) (p q : A) → o ≡ Some p → o ≡ Some q → p ≡ q
         some_same o p q e f = cc
 
-    pub store_write : (j t : ℕ) (key : Key) (v : Val) (y : Value) → Stands s m j t → HasCell s t key → ValAt v y → Wrote j t key v y
-    store_write j t key v y st has w =
-        let f = framed st in
+    pub store_write : (j t : ℕ) (key : Key) (v : Val) (y : Value) → Stands s m j t → Framed j t → HasCell s t key → ValAt v y → Wrote j t key v y
+    store_write j t key v y st f has w =
         let slot = slot_of s t key in
         let place = slot_here j t key f in
         let n = count_here j t f in
@@ -172,7 +216,7 @@ module _ (s : Source) (code : CodeOf) where
           size = λ b e. length-set cs slot (Some y) ∙ p.size b e;
         } in
         let there = is_live_at (slice_get m.instances j) f.now f.lives in
-        let heads : Heads f.now new = record { text = refl; level = refl; encloser = refl; given_back = refl } in
+        let heads : Heads f.now new = record { text = refl; level = refl; encloser = refl } in
         record {
           now = with_instance m j new;
           frames = with_instance fs j new';
@@ -180,10 +224,12 @@ module _ (s : Source) (code : CodeOf) where
           is_frames = frame_set fs j f.frame f.frame_lives slot y lt;
           store = store_put a j new new' pair;
           count = length-set m.instances j new;
-          later = λ bound. later_heads s m (with_instance m j new) bound (λ k _. set_self Heads heads_refl m.instances j f.now new there.there heads k);
-          keeps = λ bound. record {
+          standings = refl;
+          standings' = refl;
+          later = later_all s m (with_instance m j new) (λ k. set_self Heads heads_refl m.instances j f.now new there.there heads k);
+          keeps = record {
             temps = λ k u c _ stands le.
-                frame_other fs j f.frame f.frame_lives slot y lt k c
+                placed_other fs j f.frame (is_live_at (slice_get fs.instances j) f.frame f.frame_lives).there slot y k c
                 (λ same.
                 let here : Stands s m j u = subst (λ z. Stands s m z u) same stands in
                 let texts : u ≡ t = one_text st here in
@@ -197,8 +243,9 @@ module _ (s : Source) (code : CodeOf) where
       pub frames : Frames
       pub is : machine.cell_set fs j temp y ≡ Some frames
       pub store : StoreAt s code m frames
-      pub holds : machine.cell frames j temp ≡ Some y
-      pub others : (k c : ℕ) → (k ≡ j → c ≢ temp) → machine.cell frames k c ≡ machine.cell fs k c
+      pub holds : placed frames j temp ≡ Some y
+      pub others : (k c : ℕ) → (k ≡ j → c ≢ temp) → placed frames k c ≡ placed fs k c
+      pub standings : frames.standings ≡ fs.standings
 
     set_right : (P : Instance (List Held) → Instance Cells → Type 0) (xs : List (Instance (List Held))) (ys : List (Instance Cells)) (j : ℕ) (x : Instance (List Held)) (y : Instance Cells) → ((k : ℕ) → Both P (slice_get xs k) (slice_get ys k)) → slice_get xs j ≡ Some x → P x y → (k : ℕ) → Both P (slice_get xs k) (slice_get (slice_set ys j y) k)
     set_right P [] [] j x y all e p k = tt
@@ -209,9 +256,8 @@ module _ (s : Source) (code : CodeOf) where
     set_right P (b ∷ xs) (c ∷ ys) (suc j) x y all e p zero = all 0
     set_right P (b ∷ xs) (c ∷ ys) (suc j) x y all e p (suc k) = set_right P xs ys j x y (λ k. all (suc k)) e p k
 
-    pub store_temp : (j t temp : ℕ) (y : Value) (b : BlockOf) → Stands s m j t → slice_get code.blocks (block_number s t) ≡ Some b → length (cells_in s t (text s t)) ≤ temp → temp < length b.types → WroteTemp j temp y
-    store_temp j t temp y b st found behind within =
-        let f = framed st in
+    pub store_temp : (j t temp : ℕ) (y : Value) (b : BlockOf) → Framed j t → slice_get code.blocks (block_number s t) ≡ Some b → length (cells_in s t (text s t)) ≤ temp → temp < length b.types → WroteTemp j temp y
+    store_temp j t temp y b f found behind within =
         let n = count_here j t f in
         let p = f.pair in
         let cs = f.frame.cells in
@@ -235,8 +281,9 @@ module _ (s : Source) (code : CodeOf) where
           frames = with_instance fs j new;
           is = frame_set fs j f.frame f.frame_lives temp y lt;
           store = record { as_many = a.as_many ∙ sym (length-set fs.instances j new); at = set_right (InstanceAt s code) m.instances fs.instances j f.now new a.at there.there pair };
-          holds = frame_holds fs j f.frame f.frame_lives temp y lt;
-          others = frame_other fs j f.frame f.frame_lives temp y lt;
+          holds = placed_holds fs j f.frame (is_live_at (slice_get fs.instances j) f.frame f.frame_lives).there temp y lt;
+          others = placed_other fs j f.frame (is_live_at (slice_get fs.instances j) f.frame f.frame_lives).there temp y;
+          standings = refl;
         }
 
     -- ---- flags
@@ -315,50 +362,62 @@ module _ (s : Source) (code : CodeOf) where
 -- ---- what later stores keep
 
 module _ (s : Source) (m : Instances) where
-  pub later_entered : (x : Instance (List Held)) (p : Standing Activation) → Later s m (entered m x p) (length m.instances)
-  later_entered x p = later_heads s m (entered m x p) (length m.instances) (λ k lt. both_heads (slice_get m.instances k) (slice_get (entered m x p).instances k) (entered_same m x p k lt))
+  pub later_entered : (x : Instance (List Held)) (p : Standing Activation) → Later s m (entered m x p)
+  later_entered x p = later_heads s m (entered m x p) (λ k y e. both_found Heads (slice_get m.instances k) (slice_get (entered m x p).instances k) y e (both_heads (slice_get m.instances k) (slice_get (entered m x p).instances k) (entered_same m x p k (slice_get_within m.instances k y e))))
 
-  pub later_given : (i : ℕ) → Later s m (given m i) i
-  later_given i = later_heads s m (given m i) i (λ k lt. both_heads (slice_get m.instances k) (slice_get (given m i).instances k) (given_same m i k (apart k lt)))
-    where
-      apart : (k : ℕ) → k < i → k ≢ i
-      apart k lt e = let no : ⊥ = omega (arith, lt, e) in no
+  pub later_given : (i : ℕ) → Later s m (given m i)
+  later_given i = later_all s m (given m i) (λ k. both_heads (slice_get m.instances k) (slice_get (given m i).instances k) (given_same m i k))
 
-  pub later_kept : (chain : List Activation) (bound : ℕ) → Later s m (kept_on meaning.owner chain m) bound
-  later_kept chain bound = later_heads s m (kept_on meaning.owner chain m) bound (λ k lt. both_heads (slice_get m.instances k) (slice_get (kept_on meaning.owner chain m).instances k) (kept_same meaning.owner k chain m))
+  pub later_kept : (chain : List Activation) → Later s m (kept_on meaning.owner chain m)
+  later_kept chain = later_all s m (kept_on meaning.owner chain m) (λ k. both_heads (slice_get m.instances k) (slice_get (kept_on meaning.owner chain m).instances k) (kept_same meaning.owner k chain m))
 
   -- frames with the same cells
-  same_cell : (x y : Option (Instance Cells)) (c : ℕ) → Both Same x y → machine.value_in (cells_of_live y) c ≡ machine.value_in (cells_of_live x) c
+  same_cell : (x y : Option (Instance Cells)) (c : ℕ) → Both Same x y → placed_in y c ≡ placed_in x c
   same_cell None None c b = refl
   same_cell None (Some y) c b = absurd b
   same_cell (Some x) None c b = absurd b
   same_cell (Some x) (Some y) c b = ap (λ z. joined (slice_get z c)) b.cells
 
-  pub keeps_same : (fs fs' : Frames) (bound : ℕ) → ((k : ℕ) → k < bound → Both Same (slice_get fs.instances k) (slice_get fs'.instances k)) → Keeps s m fs fs' bound
-  keeps_same fs fs' bound all = record { temps = λ j t c lt st le. same_cell (live fs j) (live fs' j) c (live_same (slice_get fs.instances j) (slice_get fs'.instances j) (all j lt)) }
+  pub keeps_same : (fs fs' : Frames) (Of : ℕ → Type 0) → ((k : ℕ) → Of k → Both Same (slice_get fs.instances k) (slice_get fs'.instances k)) → Keeps s m fs fs' Of
+  keeps_same fs fs' Of all = record { temps = λ j t c is st le. same_cell (slice_get fs.instances j) (slice_get fs'.instances j) c (all j is) }
 
-  pub keeps_entered : (fs : Frames) (y : Instance Cells) (q : Standing machine.Activation) → Keeps s m fs (entered fs y q) (length fs.instances)
-  keeps_entered fs y q = keeps_same fs (entered fs y q) (length fs.instances) (entered_same fs y q)
+  -- an instance of the meaning has its number within the list
+  pub keeps_entered : (fs : Frames) → length m.instances ≡ length fs.instances → (y : Instance Cells) (q : Standing machine.Activation) → Keeps s m fs (entered fs y q) Every
+  keeps_entered fs n y q = record { temps = λ j t c is st le. let x = is_there s m st in let lt = slice_get_within m.instances j x.now x.lives in same_cell (slice_get fs.instances j) (slice_get (entered fs y q).instances j) c (entered_same fs y q j (omega (arith, lt, n))) }
 
-  pub keeps_given : (fs : Frames) (i : ℕ) → Keeps s m fs (given fs i) i
-  keeps_given fs i = keeps_same fs (given fs i) i (λ k lt. given_same fs i k (apart k lt))
-    where
-      apart : (k : ℕ) → k < i → k ≢ i
-      apart k lt e = let no : ⊥ = omega (arith, lt, e) in no
+  pub keeps_given : (fs : Frames) (i : ℕ) → Keeps s m fs (given fs i) Every
+  keeps_given fs i = keeps_same fs (given fs i) Every (λ k is. given_same fs i k)
 
-  pub keeps_kept : (fs : Frames) (below : List machine.Activation) (bound : ℕ) → Keeps s m fs (kept_on machine.owner below fs) bound
-  keeps_kept fs below bound = keeps_same fs (kept_on machine.owner below fs) bound (λ k lt. kept_same machine.owner k below fs)
+  pub keeps_kept : (fs : Frames) (below : List machine.Activation) → Keeps s m fs (kept_on machine.owner below fs) Every
+  keeps_kept fs below = keeps_same fs (kept_on machine.owner below fs) Every (λ k is. kept_same machine.owner k below fs)
 
   -- ---- a new instance
 
-  new_lives : (x : Instance (List Held)) (p : Standing Activation) → x.given_back ≡ false → live (entered m x p) (length m.instances) ≡ Some x
-  new_lives x p e = lives_in (slice_get (entered m x p).instances (length m.instances)) x (append_at m.instances x) e
+  pub new_outermost : (t : ℕ) (x : Instance (List Held)) (p : Standing Activation) → x.text ≡ t → x.level ≡ level_of s t → x.encloser ≡ None → encloser s.tables t ≡ None → Stands s (entered m x p) (length m.instances) t
+  new_outermost t x p text level alone around = outermost (append_at m.instances x) text level alone around
 
-  pub new_outermost : (t : ℕ) (x : Instance (List Held)) (p : Standing Activation) → x.text ≡ t → x.level ≡ level_of s t → x.encloser ≡ None → x.given_back ≡ false → encloser s.tables t ≡ None → Stands s (entered m x p) (length m.instances) t
-  new_outermost t x p text level alone given around = outermost (new_lives x p given) text level alone around
+  pub new_inside : (t e u : ℕ) (x : Instance (List Held)) (p : Standing Activation) → x.text ≡ t → x.level ≡ level_of s t → x.encloser ≡ Some e → encloser s.tables t ≡ Some u → Stands s m e u → Stands s (entered m x p) (length m.instances) t
+  new_inside t e u x p text level out around st =
+      let y = is_there s m st in
+      inside (append_at m.instances x) text level out around (slice_get_within m.instances e y.now y.lives) ((later_entered x p).stands e u st)
 
-  pub new_inside : (t e u : ℕ) (x : Instance (List Held)) (p : Standing Activation) → x.text ≡ t → x.level ≡ level_of s t → x.encloser ≡ Some e → x.given_back ≡ false → encloser s.tables t ≡ Some u → e < length m.instances → Stands s m e u → Stands s (entered m x p) (length m.instances) t
-  new_inside t e u x p text level out given around before st = inside (new_lives x p given) text level out around before ((later_entered x p).stands e u before st)
+-- ---- what lives then
+
+module _ {C A : Type 0} (m : Memory C A) (x : Instance C) (p : Standing A) where
+  pub new_lives : x.given_back ≡ false → live (entered m x p) (length m.instances) ≡ Some x
+  new_lives e = lives_in (slice_get (entered m x p).instances (length m.instances)) x (append_at m.instances x) e
+
+  still_lives : (j : ℕ) (y : Instance C) → live m j ≡ Some y → live (entered m x p) j ≡ Some y
+  still_lives j y e =
+      let a = is_live_at (slice_get m.instances j) y e in
+      lives_in (slice_get (entered m x p).instances j) y (append_before m.instances x j (slice_get_within m.instances j y a.there) ∙ a.there) a.stays
+
+  pub lives_entered : (j : ℕ) → Lives m j → Lives (entered m x p) j
+  lives_entered j (lives_alone {x = y} e alone) = lives_alone (still_lives j y e) alone
+  lives_entered j (lives_inside {e = o} {x = y} e out more) = lives_inside (still_lives j y e) out (lives_entered o more)
+
+  pub new_lives_inside : x.given_back ≡ false → (e : ℕ) → x.encloser ≡ Some e → Lives m e → Lives (entered m x p) (length m.instances)
+  new_lives_inside g e out lives = lives_inside (new_lives g) out (lives_entered e lives)
 
 -- ---- both stores read and written
 
@@ -388,31 +447,56 @@ module _ (s : Source) (code : CodeOf) where
   pub record Written (m : Instances) (fs : Frames) (m' : Instances) (fs' : Frames) : Type 0 where
     pub store : StoreAt s code m' fs'
     pub as_many : length m'.instances ≡ length m.instances
-    pub later : Later s m m' (length m.instances)
-    pub keeps : Keeps s m fs fs' (length m.instances)
+    pub later : Later s m m'
+    pub keeps : Keeps s m fs fs' Every
+    pub standings : m'.standings ≡ m.standings
+    pub standings' : fs'.standings ≡ fs.standings
 
   pub cell_write : (m : Instances) (fs : Frames) (j u : ℕ) (key : Key) (v : Val) (x : Value) → StoreAt s code m fs → Stands s m j u → HasCell s u key → ValAt v x → Both (Written m fs) (meaning.cell_set m j key v) (machine.cell_set fs j (slot_of s u key) x)
-  cell_write m fs j u key v x a st has w =
-      let r = store_write s code m fs a j u key v x st has w in
-      both_as (Written m fs) (Some r.now) (meaning.cell_set m j key v) (Some r.frames) (machine.cell_set fs j (slot_of s u key) x) r.is r.is_frames
-      (record { store = r.store; as_many = r.count; later = r.later (length m.instances); keeps = r.keeps (length m.instances) })
+  cell_write m fs j u key v x a st has w = write_pair (live m j) (live fs j) refl refl (live_pair s code m fs a j)
+    where
+      write_pair : (y : Option (Instance (List Held))) (z : Option (Instance Cells)) → live m j ≡ y → live fs j ≡ z → Both (InstanceAt s code) y z → Both (Written m fs) (meaning.cell_set m j key v) (machine.cell_set fs j (slot_of s u key) x)
+      write_pair None None ey ez p =
+          both_as (Written m fs) None (meaning.cell_set m j key v) None (machine.cell_set fs j (slot_of s u key) x)
+          (ap (λ z. cells_put m j z (meaning.put_in (cells_of_live z) key v)) ey) (ap (λ z. cells_put fs j z (machine.put_in (cells_of_live z) (slot_of s u key) x)) ez) tt
+      write_pair None (Some z) ey ez p = absurd p
+      write_pair (Some y) None ey ez p = absurd p
+      write_pair (Some y) (Some z) ey ez p =
+          let r = store_write s code m fs a j u key v x st (framed s code m fs a st y ey) has w in
+          both_as (Written m fs) (Some r.now) (meaning.cell_set m j key v) (Some r.frames) (machine.cell_set fs j (slot_of s u key) x) r.is r.is_frames
+          (record { store = r.store; as_many = r.count; later = r.later; keeps = r.keeps; standings = r.standings; standings' = r.standings' })
 
+  -- what lies in the frame of an instance that lives is there
+  pub placed_here : (m : Instances) (fs : Frames) → StoreAt s code m fs → (inst c : ℕ) → Lives m inst → machine.cell fs inst c ≡ placed fs inst c
+  placed_here m fs a inst c lives =
+      let now = lives_now m inst lives in
+      let y = both_found (InstanceAt s code) (live m inst) (live fs inst) now.0 now.1 (live_pair s code m fs a inst) in
+      ap (λ z. placed_in z c) (y.is ∙ sym (live_there (slice_get fs.instances inst) y.it y.is))
+
+  -- a temp of an instance that lives: the frames of all others keep theirs
   pub record TempWritten (m : Instances) (fs : Frames) (inst temp : ℕ) (x : Value) : Type 0 where
     pub frames : Frames
     pub is : machine.cell_set fs inst temp x ≡ Some frames
     pub store : StoreAt s code m frames
-    pub holds : machine.cell frames inst temp ≡ Some x
-    pub others : (c : ℕ) → c ≢ temp → machine.cell frames inst c ≡ machine.cell fs inst c
-    pub keeps : Keeps s m fs frames inst
+    pub holds : placed frames inst temp ≡ Some x
+    pub others : (c : ℕ) → c ≢ temp → placed frames inst c ≡ placed fs inst c
+    pub keeps : Keeps s m fs frames (Other inst)
+    pub reads : machine.cell frames inst temp ≡ Some x
+    pub others_read : (c : ℕ) → c ≢ temp → machine.cell frames inst c ≡ machine.cell fs inst c
+    pub standings : frames.standings ≡ fs.standings
 
-  pub temp_written : (m : Instances) (fs : Frames) (inst t : ℕ) (b : BlockOf) (temp : ℕ) (x : Value) → StoreAt s code m fs → Stands s m inst t → slice_get code.blocks (block_number s t) ≡ Some b → length (cells_in s t (text s t)) ≤ temp → temp < length b.types → TempWritten m fs inst temp x
-  temp_written m fs inst t b temp x a st found behind within =
-      let r = store_temp s code m fs a inst t temp x b st found behind within in
+  pub temp_written : (m : Instances) (fs : Frames) (inst t : ℕ) (b : BlockOf) (temp : ℕ) (x : Value) → StoreAt s code m fs → Stands s m inst t → Lives m inst → slice_get code.blocks (block_number s t) ≡ Some b → length (cells_in s t (text s t)) ≤ temp → temp < length b.types → TempWritten m fs inst temp x
+  temp_written m fs inst t b temp x a st lives found behind within =
+      let now = lives_now m inst lives in
+      let r = store_temp s code m fs a inst t temp x b (framed s code m fs a st now.0 now.1) found behind within in
       record {
         frames = r.frames;
         is = r.is;
         store = r.store;
         holds = r.holds;
         others = λ c ne. r.others inst c (λ same. ne);
-        keeps = record { temps = λ k u c lt stands le. r.others k c (λ same. absurd (let no : ⊥ = omega (arith, same, lt) in no)) };
+        keeps = record { temps = λ k u c other stands le. r.others k c (λ same. absurd (other same)) };
+        reads = placed_here m r.frames r.store inst temp lives ∙ r.holds;
+        others_read = λ c ne. placed_here m r.frames r.store inst c lives ∙ r.others inst c (λ same. ne) ∙ sym (placed_here m fs a inst c lives);
+        standings = r.standings;
       }

@@ -2,14 +2,19 @@
 ghost use Rattle.sim_scope.specs.Source.{Source};
 ghost use Rattle.sim_code.specs.Code.{CodeOf};
 ghost use Rattle.codegen.specs.Compiled.{Compiled};
+ghost use Rattle.sim_meaning.specs.Sane.{StaysSane};
 ghost use Rattle.sim_relate.specs.SameRuns.{SameRuns};
 ghost use Rattle.sim_relate.specs.Examples.{WorkedCodes};
 
 /// The code of a program shows what the program shows: each moment of the one run is one of the other, with the same output, ticks and
 /// words, the same input left, and the same ending where it has ended; whatever the limits and the input are.
+///
+/// The premise speaks of the program's meaning alone: at each moment the instance that operates lives with its enclosers and stands at no
+/// other place of the chains. Code needs it where an instruction finds an instance by its level, outward from the one that operates, and
+/// where a temp is written that no other work may count on. Each program that breaks no rule is so, as soundness shows.
 #[tactic(auto, using(crate::proofs::Whole::same_runs))]
 pub fn compiled_code_runs_as_meant()
-    ensures { (s : Source) (code : CodeOf) → Compiled s code → SameRuns s code }
+    ensures { (s : Source) (code : CodeOf) → StaysSane s → Compiled s code → SameRuns s code }
 {}
 
 /// There is code that stands for a program: four worked codes do, of a `for` list, of a procedure that calls itself, of a sub-block with

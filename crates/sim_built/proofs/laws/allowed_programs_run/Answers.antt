@@ -6,3 +6,6 @@ returns-clause-built c = λ tokens tree s is. w.built tokens tree s is
 
 pub returns-clause-ruled : goal.returns-clause-ruled
 returns-clause-ruled c = λ tokens tree s is. w.ruled tokens tree s is
+
+pub returns-clause-stays_sane : goal.returns-clause-stays_sane
+returns-clause-stays_sane c = λ tokens tree s is. w.sane tokens tree s is

@@ -21,6 +21,6 @@ returns c =
     (TreeRejects command tokens tree)
     (λ b binds.
     binds_as command tokens tree (source_of b) c.lacks_form.result c.lacks_form.ensures c.if-lacks_form.false
-    (λ allowed. record { built = runs.built tokens tree (source_of b) allowed; ruled = runs.ruled tokens tree (source_of b) allowed }) binds)
+    (λ allowed. record { built = runs.built tokens tree (source_of b) allowed; ruled = runs.ruled tokens tree (source_of b) allowed; stays_sane = runs.stays_sane tokens tree (source_of b) allowed }) binds)
     (λ rule line rejects. rejected_tree command tokens tree rule line free rejects)
     c.bind_checked.ensures
