@@ -10,13 +10,13 @@ use Rattle.sim_meaning.specs.Pending.{Do, Eval, Instances, Item, Target, ToAddre
 use Rattle.sim_meaning.specs.Statements.{Lefts, assigning, lefts}
 use Rattle.sim_meaning.specs.Statements as statements
 use Rattle.sim_sound.specs.Typed.{LeftsAre, Simply, Typed}
-use Rattle.sim_sound.proofs.Sound.{AddressOf, AllArrays, Kinds, OpFine, TargetFine, TargetsFine, Value, Whole, WorkFine, simple, value_stored}
+use Rattle.sim_sound.proofs.Sound.{AddressOf, AllArrays, Begun, Kinds, OpFine, TargetFine, TargetsFine, Value, WorkFine, simple, value_stored}
 use Rattle.sim_sound.proofs.Lefts.{LeftFine, left_fine}
 
 reverse_first : {A : Type 0} (x : A) (xs : List A) → reverse (x ∷ xs) ≡ reverse xs ++ x ∷ []
 reverse_first x xs = reverse-append (x ∷ []) xs
 
-module _ (s : Source) (ok : Typed s) (o : AllArrays) (m : Instances) (i t : ℕ) (whole : Whole s o m i t) (Below : Option Kinds → Type 0) (Outermost : Type 0) (k : Kind) where
+module _ (s : Source) (ok : Typed s) (o : AllArrays) (m : Instances) (i t : ℕ) (whole : Begun s o m i t []) (Below : Option Kinds → Type 0) (Outermost : Type 0) (k : Kind) where
   -- the addresses that are in hand
   abbrev pub address : Target → List Kinds → List Kinds
   address (ToCell j key) ks = ks

@@ -7,7 +7,7 @@ use Rattle.sim_code.specs.Instances.{Instance, live}
 use Rattle.sim_meaning.specs.Pending.{ArrayValue, Connection, Declared, Held, Instances, Key, Of, Result, Val, cell, cell_set, held, held_set}
 use Rattle.sim_meaning.specs.Texts.{BlockText, ClassText, ConnectionText, PrefixedText, ProcedureText, Text, text}
 use Rattle.sim_sound.specs.Typed.{Among, ArrayOf, Holds, Simply, key_holds, result_holds}
-use Rattle.sim_sound.proofs.Sound.{AllArrays, Begun, CellIs, CellTarget, KeyAmong, Made, Own, ValFine, in_whole, keys_in, own_made}
+use Rattle.sim_sound.proofs.Sound.{AllArrays, Begun, CellIs, CellTarget, InstanceFine, KeyAmong, Made, Present, StoreFine, ValFine, in_whole, keys_in, own_made}
 use Rattle.sim_sound.proofs.Changes.{held_fine, held_plain, set_there}
 use Rattle.sim_code.specs.Instances as instances
 
@@ -37,15 +37,18 @@ none_among d a = elim a [ ]
 
 -- ---- a cell is read
 
-pub own_cell : (s : Source) (o : AllArrays) (m : Instances) (j t : ℕ) (todo : List DeclNo) (x : Instance (List Held)) (key : Key) (h : Holds) → Own s o m j t x → Made s t todo x.cells → ((d : DeclNo) → key ≡ Declared d.0 → Among d todo → ⊥) → key_holds s t key ≡ Some h → KeyAmong key (keys_in s t (text s t)) → (v : Val) × (cell m j key ≡ Some v) × ValFine o j h v
-own_cell s o m j t todo x key h own made not is there = by_held (held key x.cells) refl h is
+pub fine_at : (s : Source) (o : AllArrays) (m : Instances) (j t : ℕ) (todo : List DeclNo) → StoreFine s o m → (p : Present s m j t todo) → InstanceFine s o m j t p.now
+fine_at s o m j t todo store p = subst (λ z. InstanceFine s o m j z p.now) p.of_text (store j p.now p.lives)
+
+pub own_cell : (s : Source) (o : AllArrays) (m : Instances) (j t : ℕ) (todo : List DeclNo) (x : Instance (List Held)) (key : Key) (h : Holds) → live m j ≡ Some x → InstanceFine s o m j t x → Made s t todo x.cells → ((d : DeclNo) → key ≡ Declared d.0 → Among d todo → ⊥) → key_holds s t key ≡ Some h → KeyAmong key (keys_in s t (text s t)) → (v : Val) × (cell m j key ≡ Some v) × ValFine o j h v
+own_cell s o m j t todo x key h lives fine made not is there = by_held (held key x.cells) refl h is
   where
     at : cell m j key ≡ held key x.cells
-    at = ap (λ z. Rattle.sim_meaning.specs.Pending.value_in (instances.cells_in z) key) own.lives
+    at = ap (λ z. Rattle.sim_meaning.specs.Pending.value_in (instances.cells_in z) key) lives
 
     by_held : (v : Option Val) → held key x.cells ≡ v → (h : Holds) → key_holds s t key ≡ Some h → (v : Val) × (cell m j key ≡ Some v) × ValFine o j h v
-    by_held (Some v) e h is = (v, at ∙ e, held_fine s o j t key h x.cells v is own.cells e)
-    by_held None e (Simply k) is = absurd (held_plain s o j t key k (keys_in s t (text s t)) x.cells is own.cells own.keys there e)
+    by_held (Some v) e h is = (v, at ∙ e, held_fine s o j t key h x.cells v is fine.cells e)
+    by_held None e (Simply k) is = absurd (held_plain s o j t key k (keys_in s t (text s t)) x.cells is fine.cells fine.keys there e)
     by_held None e (ArrayOf k) is = let a = array_among s t todo x.cells key k made is there e in absurd (not a.0 a.1 a.2)
 
 abbrev number : ℕ → DeclNo
@@ -59,22 +62,23 @@ same_among d e key todo f g a = subst (λ z. Among z todo) (same_decl e.0 d.0 (c
 
 pub cell_found : (s : Source) (o : AllArrays) (m : Instances) (i t : ℕ) (todo : List DeclNo) (e : ℕ) (key : Key) (h : Holds) → Begun s o m i t todo → CellIs s o m i t todo e key h → (v : Val) × (cell m e key ≡ Some v) × ValFine o i h v
 cell_found s o m i t todo e key h b (in_whole {u = u} le w is there) =
-    let x = own_cell s o m e u [] w.now key h w.own w.made (λ d f a. none_among d a) is there in
+    let x = own_cell s o m e u [] w.now key h w.lives (fine_at s o m e u [] b.store w) w.made (λ d f a. none_among d a) is there in
     (x.0, x.1, val_up o e i le h x.0 x.2)
 cell_found s o m i t todo e key h b (own_made {d = d} same name is there not) =
-    let x = own_cell s o m i t todo b.now key h b.own b.made (λ c f a. not (same_among d c key todo name f a)) is there in
+    let p = b.here in
+    let x = own_cell s o m i t todo p.now key h p.lives (fine_at s o m i t todo b.store p) p.made (λ c f a. not (same_among d c key todo name f a)) is there in
     (x.0, ap (λ z. cell m z key) same ∙ x.1, x.2)
 
-pub target_cell : (s : Source) (o : AllArrays) (m : Instances) (i j : ℕ) (key : Key) (k : Kind) → CellTarget s o m i j key k → (v : Val) × (cell m j key ≡ Some v) × ValFine o j (Simply k) v
-target_cell s o m i j key k c = own_cell s o m j c.around [] (c.whole).now key (Simply k) (c.whole).own (c.whole).made (λ d f a. none_among d a) c.holds c.there
+pub target_cell : (s : Source) (o : AllArrays) (m : Instances) (i j : ℕ) (key : Key) (k : Kind) → StoreFine s o m → CellTarget s o m i j key k → (v : Val) × (cell m j key ≡ Some v) × ValFine o j (Simply k) v
+target_cell s o m i j key k store c = own_cell s o m j c.around [] (c.whole).now key (Simply k) (c.whole).lives (fine_at s o m j c.around [] store c.whole) (c.whole).made (λ d f a. none_among d a) c.holds c.there
 
 -- ---- a cell is set
 
-pub cell_put : (s : Source) (o : AllArrays) (m : Instances) (j t : ℕ) (x : Instance (List Held)) (key : Key) (v : Val) → Own s o m j t x → KeyAmong key (keys_in s t (text s t)) → (hs : List Held) × (held_set key v x.cells ≡ Some hs) × (cell_set m j key v ≡ Some (instances.with_instance m j (record x { cells = hs })))
-cell_put s o m j t x key v own there =
-    let r = set_there key v (keys_in s t (text s t)) x.cells own.keys there in (
+pub cell_put : (s : Source) (o : AllArrays) (m : Instances) (j t : ℕ) (x : Instance (List Held)) (key : Key) (v : Val) → live m j ≡ Some x → InstanceFine s o m j t x → KeyAmong key (keys_in s t (text s t)) → (hs : List Held) × (held_set key v x.cells ≡ Some hs) × (cell_set m j key v ≡ Some (instances.with_instance m j (record x { cells = hs })))
+cell_put s o m j t x key v lives fine there =
+    let r = set_there key v (keys_in s t (text s t)) x.cells fine.keys there in (
       r.0,
       r.1,
-      ap (λ z. instances.cells_put m j z (Rattle.sim_meaning.specs.Pending.put_in (instances.cells_in z) key v)) own.lives
+      ap (λ z. instances.cells_put m j z (Rattle.sim_meaning.specs.Pending.put_in (instances.cells_in z) key v)) lives
           ∙ ap (λ z. instances.cells_put m j (Some x) z) r.1,
     )

@@ -7,41 +7,20 @@ use Rattle.sim_values.specs.declared.kind.Kind.{Kind}
 use Rattle.sim_values.specs.Plain.{Plain, kind_of}
 use Rattle.sim_code.specs.Outcome.{ArrayOf as OneArray, World}
 use Rattle.sim_code.specs.Arrays.{owned_by, unless_given, with_array}
-use Rattle.sim_code.specs.Instances.{Instance}
 use Rattle.sim_meaning.specs.Pending.{Activation, ArrayValue, Declared, Held, Instances, Key, Of, Val, before, held, held_set, same_key}
 use Rattle.sim_meaning.specs.Pending as meaning
 use Rattle.sim_sound.specs.Typed.{ArrayOf, Holds, Simply, key_holds}
-use Rattle.sim_sound.proofs.Sound.{AllArrays, ArrayFine, CellFine, CellsFine, CopyFine, ElementFine, Hidden, KeyAmong, Open, Own, Sight, ValFine, first_key, key_of, later_key, see}
+use Rattle.sim_sound.proofs.Sound.{AllArrays, ArrayFine, CellFine, CellsFine, CopyFine, ElementFine, Hidden, KeyAmong, Open, Sight, ValFine, first_key, key_of, later_key, see}
 use Rattle.sim_sound.proofs.Later.{Copies, Later}
 use Rattle.sim_sound.proofs.Lists.{append_at, append_before, equal_numbers, if_false, if_true, no_some, numbers_equal, other_numbers, same_some, set_len, set_other, set_same}
 
 -- ---- arrays alone
 
-pub val_map : (o o' : AllArrays) (j : ℕ) → ((k : Kind) (a : ℕ) → ArrayFine o j k a → ArrayFine o' j k a) → (h : Holds) (v : Val) → ValFine o j h v → ValFine o' j h v
-val_map o o' j f (Simply k) (Of p) a = a
-val_map o o' j f (ArrayOf k) (ArrayValue n) a = f k n a
-val_map o o' j f (Simply k) _ a = absurd a
-val_map o o' j f (ArrayOf k) _ a = absurd a
-
-cell_map : (o o' : AllArrays) (j : ℕ) → ((h : Holds) (v : Val) → ValFine o j h v → ValFine o' j h v) → (h : Option Holds) (v : Option Val) → CellFine o j h v → CellFine o' j h v
-cell_map o o' j f None v a = a
-cell_map o o' j f (Some (Simply k)) None a = a
-cell_map o o' j f (Some (ArrayOf k)) None a = a
-cell_map o o' j f (Some h) (Some v) a = f h v a
-
-pub cells_map : (s : Source) (o o' : AllArrays) (j t : ℕ) → ((h : Holds) (v : Val) → ValFine o j h v → ValFine o' j h v) → (hs : List Held) → CellsFine s o j t hs → CellsFine s o' j t hs
-cells_map s o o' j t f [] a = a
-cells_map s o o' j t f (h ∷ hs) a = (cell_map o o' j f (key_holds s t h.key) h.value a.0, cells_map s o o' j t f hs a.1)
-
-own_map : (s : Source) (o o' : AllArrays) (m : Instances) (j t : ℕ) (x : Instance (List Held)) → ((k : Kind) (a : ℕ) → ArrayFine o j k a → ArrayFine o' j k a) → Own s o m j t x → Own s o' m j t x
-own_map s o o' m j t x f a = record { lives = a.lives; of_text = a.of_text; words = a.words; has_text = a.has_text; level = a.level; keys = a.keys; cells = cells_map s o o' j t (val_map o o' j f) x.cells a.cells }
-
 arrays_later : (s : Source) (o o' : AllArrays) (m : Instances) (bound : ℕ) → ((j : ℕ) (k : Kind) (a : ℕ) → j < bound → ArrayFine o j k a → ArrayFine o' j k a) → ((j : ℕ) (k : Kind) (a n : ℕ) → j < bound → ElementFine o j k a n → ElementFine o' j k a n) → Later s o m o' m bound
 arrays_later s o o' m bound f g = record {
   arrays = f;
   elements = g;
-  own = λ j t x lt a. record { now = x; own = own_map s o o' m j t x (λ k n. f j k n lt) a; encloser = refl; made = λ todo p. p };
-  parked = λ p. p;
+  present = λ j t todo lt x. x;
 }
 
 -- one array more

@@ -112,7 +112,7 @@ stream_denotes None = tt
 stream_denotes (Some (denotation.Declared d)) = tt
 stream_denotes (Some (denotation.Standard name)) = stream_found name
 
-module _ (s : Source) (ok : Typed s) (o : AllArrays) (m : Instances) (i t : ℕ) (todo : List DeclNo) (from : Option ℕ) (reach : Reaches s o m i from) where
+module _ (s : Source) (ok : Typed s) (o : AllArrays) (m : Instances) (i t : ℕ) (todo : List DeclNo) (from : Option ℕ) (reach : Reaches s m i from) where
   stream_is : (a : Expression) → StreamIs (stream_of s a)
   unfolding stream_of
   stream_is (syntax.Named name es) = stream_denotes (denoted s name.token.0)
@@ -130,7 +130,7 @@ module _ (s : Source) (ok : Typed s) (o : AllArrays) (m : Instances) (i t : ℕ)
   cell_seen d h f g e sees go =
       let x = reach (block_of s d) sees in
       let w = x.3 in
-      found_in (home_of s m i d) x.0 f g x.1 (go x.0 (h, refl, in_whole x.2 w e (key_there s ok o m x.0 (block_of s d) w.now d h w.own e (among_block s ok d h e))))
+      found_in (home_of s m i d) x.0 f g x.1 (go x.0 (h, refl, in_whole x.2 w e (key_there s ok (block_of s d) w.words d h w.has_text e (among_block s ok d h e))))
 
   variable_fine : (d : DeclNo) (es : Expressions) (k : Kind) (h : Holds) → entry_holds (entry_of s.tables d) ≡ Some (Simply k) → VariableNames s from d es (Simply k) h → Fine (variable_term s m i d es) (Some (Value h))
   variable_fine d NoMore k h e a = cell_seen d (Simply k) (λ j. Cell j (Declared d.0)) (Some (Value h)) e a.1 (λ j c. subst (λ z. Fine (Cell j (Declared d.0)) (Some (Value z))) a.0 c)
@@ -235,7 +235,7 @@ module _ (s : Source) (ok : Typed s) (o : AllArrays) (m : Instances) (i t : ℕ)
           before = x.2;
           whole = w;
           holds = e ∙ ap Some a.0;
-          there = key_there s ok o m x.0 (block_of s d) w.now d (Simply k) w.own e (among_block s ok d (Simply k) e);
+          there = key_there s ok (block_of s d) w.words d (Simply k) w.has_text e (among_block s ok d (Simply k) e);
         },
       )
   variable_place_fine d (Then x es) k e a = absurd a

@@ -1,5 +1,5 @@
 -- Trees are taken apart, and operators do what they do, in an instance.
-use Rattle.std.proofs.Common.{◌≡◌, ℕ, zero, suc, ◌<◌, List, [], ◌∷◌, length, Option, Some, None, refl, sym, ap, ◌∙◌, subst}
+use Rattle.std.proofs.Common.{◌≡◌, ℕ, zero, suc, List, [], ◌∷◌, length, Option, Some, None, refl, sym, ap, ◌∙◌, subst}
 use Rattle.sim_base.specs.declared.numbering.DeclNo.{DeclNo}
 use Rattle.sim_scope.specs.declared.types.Formal.{Formal}
 use Rattle.sim_scope.specs.Source.{Source}
@@ -13,13 +13,13 @@ use Rattle.sim_meaning.specs.Steps.{count, each, eval, go}
 use Rattle.sim_sound.specs.Typed.{ArrayOf, Simply}
 use Rattle.sim_sound.proofs.Cells.{cell_found}
 use Rattle.sim_sound.proofs.Lifts.{Goes, had}
-use Rattle.sim_sound.proofs.Sound.{AddressOf, Begun, ChainFine, Copied, Fine, HandsFine, ImageAddress, IntegersFine, Kinds, LinkTo, OperandsFine, TermFine, Sight, TermsFine, Value, WorkFine, formal_kinds, given, integers, onto, pushed, runs, see, simple}
+use Rattle.sim_sound.proofs.Sound.{AddressOf, Begun, ChainFine, Copied, Fine, HandsFine, ImageAddress, IntegersFine, Kinds, LinkTo, OperandsFine, Operates, TermFine, Sight, TermsFine, Value, WorkFine, formal_kinds, given, integers, onto, pushed, runs, see, simple}
 
 -- the configurations that are fine
 abbrev pub IsFine : Source → World → Configuration → Type 0
 IsFine s o c = (g : List Sight) × (length g ≡ length o.arrays) × Fine s (see g o) c
 
-module _ (s : Source) (o : World) (g : List Sight) (long : length g ≡ length o.arrays) (m : Instances) (i t : ℕ) (rest : List Activation) (lt : i < length m.instances) where
+module _ (s : Source) (o : World) (g : List Sight) (long : length g ≡ length o.arrays) (m : Instances) (i t : ℕ) (rest : List Activation) (top : Operates m i rest) where
   abbrev pub Rest : Option Kinds → Type 0
   Rest v = ChainFine s (see g o) m i rest v
 
@@ -31,7 +31,7 @@ module _ (s : Source) (o : World) (g : List Sight) (long : length g ≡ length o
 
   -- the instance goes on
   pub goes_on : (w : List Item) (vals : List Val) (todo : List DeclNo) (ks : List Kinds) → Begun s (see g o) m i t todo → Hands ks vals → Work w todo ks → IsFine s o (record { chain = record { instance = i; work = w; values = vals } ∷ rest; memory = m })
-  goes_on w vals todo ks b h work = (g, long, runs (record { before = lt; of_text = t; todo = todo; begun = b; kinds = ks; hands = h; goes = work }))
+  goes_on w vals todo ks b h work = (g, long, runs b.store top.all top.parked (record { before = top.before; of_text = t; todo = todo; here = b.here; kinds = ks; hands = h; goes = work }))
 
   -- operands one after the other
   integers_more : (n : ℕ) (ks : List Kinds) → integers n (Value (Simply kind.Integer) ∷ ks) ≡ Value (Simply kind.Integer) ∷ integers n ks

@@ -1,16 +1,22 @@
 -- Each configuration with a rule is sane: the instance that operates lives with its enclosers, and stands at one place of the chains.
-use Rattle.std.proofs.Common.{◌≡◌, ◌≤◌, ℕ, List, [], ◌∷◌, length, Option, Some, None, arith}
+use Rattle.std.proofs.Common.{◌≡◌, ◌<◌, ℕ, zero, suc, List, [], ◌∷◌, length, Some, None, inl, inr, refl, arith}
 use Rattle.sim_base.specs.declared.numbering.DeclNo.{DeclNo}
 use Rattle.sim_chains.specs.Components.{AttachedObject, DetachedObject, NoObject, ResumedObject, Standing, TerminatedObject}
 use Rattle.sim_scope.specs.Source.{Source}
-use Rattle.sim_code.specs.Instances.{Instance, live}
-use Rattle.sim_meaning.specs.Pending.{Activation, Configuration, Do, EndBlock, EndProcedure, EndProgram, Held, Instances, Item}
+use Rattle.sim_meaning.specs.Pending.{Activation, Configuration, Instances}
 use Rattle.sim_meaning.specs.Sane.{AllKept, AllOf, KeptOf, Lives, Other, Sane, SaneOn, lives_alone, lives_inside}
-use Rattle.sim_sound.proofs.Sound.{AllArrays, ChainFine, Enclosed, Fine, KeepsNone, Kinds, NothingKept, WorkFine, alone, opens, runs, within}
+use Rattle.sim_sound.proofs.Cells.{fine_at}
+use Rattle.sim_sound.proofs.Chains.{work_less}
+use Rattle.sim_sound.proofs.Sound.{AllArrays, ChainFine, Enclosed, Fine, KeepsNone, NothingKept, OnChain, Present, StoreFine, Whole, alone, opens, runs, within}
 
-enclosed_lives : (s : Source) (o : AllArrays) (m : Instances) (j t : ℕ) (x : Instance (List Held)) → live m j ≡ Some x → Enclosed s o m j t x → Lives m j
-enclosed_lives s o m j t x e (alone is around) = lives_alone e is
-enclosed_lives s o m j t x e (within {e = out} {u = u} {y = y} is around less own made inner) = lives_inside e is (enclosed_lives s o m out u y own.lives inner)
+-- each encloser is older
+lives_with : (s : Source) (o : AllArrays) (m : Instances) → StoreFine s o m → (n j t : ℕ) (todo : List DeclNo) → j < n → Present s m j t todo → Lives m j
+lives_with s o m store zero j t todo lt p = absurd (omega (arith, lt))
+lives_with s o m store (suc n) j t todo lt p = by_out (λ e u less whole. lives_with s o m store n e u [] (omega (arith, lt, less)) whole) (fine_at s o m j t todo store p).out
+  where
+    by_out : ((e u : ℕ) → e < j → Whole s m e u → Lives m e) → Enclosed s m j t (p.now).encloser → Lives m j
+    by_out inner (alone is around) = lives_alone p.lives is
+    by_out inner (within {e = e} {u = u} is around less whole) = lives_inside p.lives is (inner e u less whole)
 
 -- ---- it stands nowhere else
 
@@ -25,25 +31,9 @@ none_kept i TerminatedObject a = tt
 all_kept : (i : ℕ) (m : Instances) → NothingKept m → AllKept (Other i) m
 all_kept i m f j x e = none_kept i x (f j x e)
 
--- what is below is known from what ends the pending work
-below : (s : Source) (o : AllArrays) (m : Instances) (Below : Option Kinds → Type 0) (Outermost Is : Type 0) → ((v : Option Kinds) → Below v → Is) → (Outermost → Is) → (j t : ℕ) (w : List Item) (todo : List DeclNo) (before : List Kinds) → WorkFine s o m Below Outermost j t w todo before → Is
-below s o m Below Outermost Is f g j t [] todo before a = absurd a
-below s o m Below Outermost Is f g j t (Do op ∷ w) todo before a = below s o m Below Outermost Is f g j t w a.0 a.1 a.3
-below s o m Below Outermost Is f g j t (EndBlock ∷ w) todo before a = f None a
-below s o m Below Outermost Is f g j t (EndProcedure leaves ∷ w) todo before a = f _ a.5
-below s o m Below Outermost Is f g j t (EndProgram ∷ w) todo before a = g a
-
-nothing_below : (i : ℕ) (rest : List Activation) → rest ≡ [] → AllOf (Other i) rest
-nothing_below i [] e = tt
-nothing_below i (a ∷ rest) e = absurd (cc)
-
--- the numbers on a chain fall
-all_less : (s : Source) (o : AllArrays) (m : Instances) (i bound : ℕ) → bound ≤ i → (chain : List Activation) (v : Option Kinds) → ChainFine s o m bound chain v → AllOf (Other i) chain
-all_less s o m i bound le [] v c = absurd c
-all_less s o m i bound le (a ∷ rest) v c = (
-  (λ same. let less = c.before in omega (arith, le, less, same)),
-  below s o m (λ v. ChainFine s o m a.instance rest v) (rest ≡ []) (AllOf (Other i) rest) (λ v b. all_less s o m i a.instance (let less = c.before in omega (arith, le, less)) rest v b) (nothing_below i rest) a.instance c.of_text a.work c.todo _ c.goes,
-)
+all_less : (i : ℕ) (chain : List Activation) → ((j : ℕ) → OnChain j chain → j < i) → AllOf (Other i) chain
+all_less i [] f = tt
+all_less i (a ∷ rest) f = ((λ same. let less = f a.instance (inl refl) in omega (arith, less, same)), all_less i rest (λ j on. f j (inr on)))
 
 pub fine_sane : (s : Source) (o : AllArrays) (c : Configuration) → Fine s o c → Sane c
 fine_sane s o c (opens e f kept) = by_none c.chain e
@@ -51,13 +41,12 @@ fine_sane s o c (opens e f kept) = by_none c.chain e
     by_none : (chain : List Activation) → chain ≡ [] → SaneOn c.memory chain
     by_none [] e = tt
     by_none (a ∷ rest) e = absurd (cc)
-fine_sane s o c (runs a) = by_chain c.chain a
+fine_sane s o c (runs store all kept a) = by_chain c.chain a
   where
     by_chain : (chain : List Activation) → ChainFine s o c.memory (length (c.memory).instances) chain None → SaneOn c.memory chain
     by_chain [] a = absurd a
-    by_chain (x ∷ rest) a =
-        let b = a.begun in (
-          enclosed_lives s o c.memory x.instance a.of_text b.now (b.own).lives b.out,
-          below s o c.memory (λ v. ChainFine s o c.memory x.instance rest v) (rest ≡ []) (AllOf (Other x.instance) rest) (λ v c'. all_less s o c.memory x.instance x.instance (omega arith) rest v c') (nothing_below x.instance rest) x.instance a.of_text x.work a.todo _ a.goes,
-          all_kept x.instance c.memory b.parked,
-        )
+    by_chain (x ∷ rest) a = (
+      lives_with s o c.memory store (length (c.memory).instances) x.instance a.of_text a.todo a.before a.here,
+      all_less x.instance rest (work_less s o c.memory x.instance a.of_text rest x.work a.todo _ a.goes),
+      all_kept x.instance c.memory kept,
+    )

@@ -1,25 +1,20 @@
 -- What is fine stays so in later stores.
-use Rattle.std.proofs.Common.{◌≡◌, ◌<◌, ◌≤◌, ℕ, suc, List, [], ◌∷◌, length, Option, Some, None, refl, ◌∙◌, arith}
+use Rattle.std.proofs.Common.{◌≡◌, ◌<◌, ◌≤◌, ℕ, suc, List, [], ◌∷◌, length, Option, Some, None, refl, arith}
+use Rattle.std.specs.Prelude.{slice_get}
 use Rattle.sim_base.specs.declared.numbering.DeclNo.{DeclNo}
 use Rattle.sim_scope.specs.Source.{Source}
 use Rattle.sim_values.specs.declared.kind.Kind.{Kind}
-use Rattle.sim_code.specs.Instances.{CellPlace, ElementPlace, ImagePlace, Instance}
+use Rattle.sim_code.specs.Instances.{CellPlace, ElementPlace, ImagePlace, Instance, live, unless_given}
 use Rattle.sim_meaning.specs.Pending.{Activation, Address, ArrayValue, BackOp, BranchOp, CallOf, Cell, CopyOf, Do, Either, ElementOf, ElementsOp, EndBlock, EndProcedure, EndProgram, Eval, Further, Given, GiveOp, Held, IfOp, ImageOf, Instances, Item, Joined, Key, Link, NoTerm, Of, One, Op, PlaceOf, ProcedureValue, RaiseOp, ShareOp, StandardOf, StepTestOp, StoreOp, Target, Term, Terms, ToAddress, ToCell, ToText, ToTextOf, Tree, Two, Unbuilt, Val, ValueAt, WhileElementOp}
-use Rattle.sim_sound.specs.Typed.{ArrayOf, Holds, Simply}
-use Rattle.sim_sound.proofs.Sound.{AddressOf, AllArrays, ArrayFine, Begun, CellIs, CellTarget, ChainFine, Copied, CopyFine, DeepFine, ElementFine, Enclosed, HandFine, HandsFine, ImageAddress, IntegersFine, Kinds, LinkTo, Made, NothingKept, OpFine, OperandsFine, Own, StoreFine, TargetFine, TargetsFine, TermFine, TermsFine, ValFine, Value, VariableFine, WorkFine, alone, array_stored, in_whole, own_made, value_stored, within}
+use Rattle.sim_sound.specs.Typed.{ArrayOf, Holds, Simply, key_holds}
+use Rattle.sim_sound.proofs.Lists.{there_is}
+use Rattle.sim_sound.proofs.Sound.{AddressOf, AllArrays, ArrayFine, CellFine, CellIs, CellTarget, CellsFine, ChainFine, Copied, CopyFine, DeepFine, ElementFine, Enclosed, HandFine, HandsFine, ImageAddress, InstanceFine, IntegersFine, Kinds, LinkTo, OpFine, OperandsFine, Present, StoreFine, StoreOpFine, TargetFine, TargetsFine, TermFine, TermsFine, ValFine, Value, VariableFine, WorkFine, alone, array_stored, in_whole, own_made, value_stored, within}
 
--- an instance in a later store, with no fewer arrays
-pub record OwnLater (s : Source) (o : AllArrays) (m : Instances) (j t : ℕ) (x : Instance (List Held)) : Type 0 where
-  pub now : Instance (List Held)
-  pub own : Own s o m j t now
-  pub encloser : now.encloser ≡ x.encloser
-  pub made : (todo : List DeclNo) → Made s t todo x.cells → Made s t todo now.cells
-
+-- What the instances below a bound know is still there.
 pub record Later (s : Source) (o : AllArrays) (m : Instances) (o' : AllArrays) (m' : Instances) (bound : ℕ) : Type 0 where
   pub arrays : (j : ℕ) (k : Kind) (a : ℕ) → j < bound → ArrayFine o j k a → ArrayFine o' j k a
   pub elements : (j : ℕ) (k : Kind) (a n : ℕ) → j < bound → ElementFine o j k a n → ElementFine o' j k a n
-  pub own : (j t : ℕ) (x : Instance (List Held)) → j < bound → Own s o m j t x → OwnLater s o' m' j t x
-  pub parked : NothingKept m → NothingKept m'
+  pub present : (j t : ℕ) (todo : List DeclNo) → j < bound → Present s m j t todo → Present s m' j t todo
 
 -- the copies in hand of an instance that have fewer values below them than d
 abbrev pub Copies : AllArrays → AllArrays → (j d : ℕ) → Type 0
@@ -32,24 +27,33 @@ module _ (s : Source) (o : AllArrays) (m : Instances) (o' : AllArrays) (m' : Ins
   val_later j lt (Simply k) _ a = absurd a
   val_later j lt (ArrayOf k) _ a = absurd a
 
-  pub enclosed_later : (j t : ℕ) (x x' : Instance (List Held)) → x'.encloser ≡ x.encloser → j < bound → Enclosed s o m j t x → Enclosed s o' m' j t x'
-  enclosed_later j t x x' is lt (alone out around) = alone (is ∙ out) around
-  enclosed_later j t x x' is lt (within {e = n} {u = u} {y = y} out around before own made inner) =
-      let less : n < bound = omega (arith, before, lt) in
-      let y' = e.own n u y less own in
-      within (is ∙ out) around before y'.own (y'.made [] made) (enclosed_later n u y y'.now y'.encloser less inner)
+  -- ---- an instance that is not changed
 
-  pub begun_later : (j t : ℕ) (todo : List DeclNo) → j < bound → Begun s o m j t todo → Begun s o' m' j t todo
-  begun_later j t todo lt b =
-      let y = e.own j t b.now lt b.own in
-      record { now = y.now; own = y.own; made = y.made todo b.made; out = enclosed_later j t b.now y.now y.encloser lt b.out; parked = e.parked b.parked }
+  cell_later : (j : ℕ) → j < bound → (h : Option Holds) (v : Option Val) → CellFine o j h v → CellFine o' j h v
+  cell_later j lt None v a = a
+  cell_later j lt (Some (Simply k)) None a = a
+  cell_later j lt (Some (ArrayOf k)) None a = a
+  cell_later j lt (Some h) (Some v) a = val_later j lt h v a
+
+  pub cells_later : (j t : ℕ) → j < bound → (hs : List Held) → CellsFine s o j t hs → CellsFine s o' j t hs
+  cells_later j t lt [] a = a
+  cells_later j t lt (h ∷ hs) a = (cell_later j lt (key_holds s t h.key) h.value a.0, cells_later j t lt hs a.1)
+
+  pub enclosed_later : (j t : ℕ) (out : Option ℕ) → j < bound → Enclosed s m j t out → Enclosed s m' j t out
+  enclosed_later j t out lt (alone is around) = alone is around
+  enclosed_later j t out lt (within {e = n} {u = u} is around before whole) = within is around before (e.present n u [] (omega (arith, before, lt)) whole)
+
+  pub instance_later : (j t : ℕ) (x : Instance (List Held)) → j < bound → InstanceFine s o m j t x → InstanceFine s o' m' j t x
+  instance_later j t x lt f = record { level = f.level; keys = f.keys; cells = cells_later j t lt x.cells f.cells; ends = f.ends; out = enclosed_later j t x.encloser lt f.out }
+
+  -- ---- what is in hand, and what is pending
 
   pub hand_later : (j : ℕ) → j < bound → (k : Kinds) (v : Val) → HandFine s o m j k v → HandFine s o' m' j k v
   hand_later j lt (Value h) v a = val_later j lt h v a
   hand_later j lt (AddressOf k) (Address (ElementPlace n i None)) a = e.elements j k n i lt a
-  hand_later j lt (LinkTo u) (Link n) a = let less : n < bound = omega (arith, a.0, lt) in (a.0, begun_later n u [] less a.1)
+  hand_later j lt (LinkTo u) (Link n) a = let less : n < bound = omega (arith, a.0, lt) in (a.0, e.present n u [] less a.1)
   hand_later j lt (AddressOf k) (Address (ElementPlace n i (Some c))) a = absurd a
-  hand_later j lt (AddressOf k) (Address (CellPlace n key None)) a = let less : n < bound = omega (arith, a.before, lt) in record { around = a.around; before = a.before; whole = begun_later n a.around [] less a.whole; holds = a.holds; there = a.there }
+  hand_later j lt (AddressOf k) (Address (CellPlace n key None)) a = let less : n < bound = omega (arith, a.before, lt) in record { around = a.around; before = a.before; whole = e.present n a.around [] less a.whole; holds = a.holds; there = a.there }
   hand_later j lt (AddressOf k) (Address (CellPlace n key (Some c))) a = absurd a
   hand_later j lt ImageAddress (Address (ImagePlace n)) a = a
   hand_later j lt ImageAddress (Address (CellPlace n key c)) a = absurd a
@@ -79,17 +83,17 @@ module _ (s : Source) (o : AllArrays) (m : Instances) (o' : AllArrays) (m' : Ins
   hands_later j lt (k ∷ ks) (v ∷ vs) c a = (deep_later j lt (length vs) c k v a.0, hands_later j lt ks vs (λ d x n less f. c d x n (omega (arith, less)) f) a.1)
 
   module _ (j t : ℕ) (lt : j < bound) where
-    cell_later : (todo : List DeclNo) (n : ℕ) (key : Key) (h : Holds) → CellIs s o m j t todo n key h → CellIs s o' m' j t todo n key h
-    cell_later todo n key h (in_whole {u = u} le b holds there) = let less : n < bound = omega (arith, le, lt) in in_whole le (begun_later n u [] less b) holds there
-    cell_later todo n key h (own_made is same holds there not) = own_made is same holds there not
+    read_later : (todo : List DeclNo) (n : ℕ) (key : Key) (h : Holds) → CellIs s o m j t todo n key h → CellIs s o' m' j t todo n key h
+    read_later todo n key h (in_whole {u = u} le b holds there) = let less : n < bound = omega (arith, le, lt) in in_whole le (e.present n u [] less b) holds there
+    read_later todo n key h (own_made is same holds there not) = own_made is same holds there not
 
     pub cell_target_later : (n : ℕ) (key : Key) (k : Kind) → CellTarget s o m j n key k → CellTarget s o' m' j n key k
-    cell_target_later n key k a = let less : n < bound = omega (arith, a.before, lt) in record { around = a.around; before = a.before; whole = begun_later n a.around [] less a.whole; holds = a.holds; there = a.there }
+    cell_target_later n key k a = let less : n < bound = omega (arith, a.before, lt) in record { around = a.around; before = a.before; whole = e.present n a.around [] less a.whole; holds = a.holds; there = a.there }
 
     mutual
       pub term_later : (todo : List DeclNo) (x : Term) (g : Option Kinds) → TermFine s o m j t todo x g → TermFine s o' m' j t todo x g
       term_later todo (Given p) g a = a
-      term_later todo (Cell n key) g a = (a.0, a.1, cell_later todo n key a.0 a.2)
+      term_later todo (Cell n key) g a = (a.0, a.1, read_later todo n key a.0 a.2)
       term_later todo (One op line x) g a = (a.0, a.1, a.2, term_later todo x _ a.3)
       term_later todo (Two op line x y) g a = (a.0, a.1, a.2, a.3, term_later todo x _ a.4, term_later todo y _ a.5)
       term_later todo (Either c x y) g a = (a.0, a.1, term_later todo c _ a.2, term_later todo x g a.3, term_later todo y g a.4)
@@ -102,7 +106,7 @@ module _ (s : Source) (o : AllArrays) (m : Instances) (o' : AllArrays) (m' : Ins
       term_later todo (CallOf n k ts line) g a = let less : n < bound = omega (arith, a.before, lt) in record {
         around = a.around;
         before = a.before;
-        whole = begun_later n a.around [] less a.whole;
+        whole = e.present n a.around [] less a.whole;
         stands_in = a.stands_in;
         result = a.result;
         heading = a.heading;
@@ -142,14 +146,14 @@ module _ (s : Source) (o : AllArrays) (m : Instances) (o' : AllArrays) (m' : Ins
     variable_later (ToText line) k a = a
     variable_later (ToTextOf n key line) k a = (cell_target_later n key k a.0, a.1)
 
-    store_later : (todo todo' : List DeclNo) (x : Target) (before behind : List Kinds) → StoreFine s o m j t todo todo' x before behind → StoreFine s o' m' j t todo todo' x before behind
-    store_later todo todo' x before behind (value_stored k next is a same) = value_stored k next is (target_later x k next behind a) same
-    store_later todo todo' x before behind (array_stored a) = array_stored a
+    stored_later : (todo todo' : List DeclNo) (x : Target) (before behind : List Kinds) → StoreOpFine s o m j t todo todo' x before behind → StoreOpFine s o' m' j t todo todo' x before behind
+    stored_later todo todo' x before behind (value_stored k next is a same) = value_stored k next is (target_later x k next behind a) same
+    stored_later todo todo' x before behind (array_stored a) = array_stored a
 
     pub op_later : (op : Op) (todo todo' : List DeclNo) (before behind : List Kinds) → OpFine s o m j t op todo todo' before behind → OpFine s o' m' j t op todo todo' before behind
     op_later (Eval x) todo todo' before behind a = (a.0, term_later todo x a.0 a.1, a.2, a.3)
     op_later (IfOp x y) todo todo' before behind a = (a.0, a.1, term_later todo x _ a.2, term_later todo y _ a.3, a.4, a.5, a.6)
-    op_later (StoreOp x) todo todo' before behind a = store_later todo todo' x before behind a
+    op_later (StoreOp x) todo todo' before behind a = stored_later todo todo' x before behind a
     op_later (ShareOp ts) todo todo' before behind a = (a.0, a.1, a.2, targets_later ts a.0 a.1 behind a.3, a.4)
     op_later (GiveOp v ts) todo todo' before behind a = (a.0, val_later j lt (Simply a.0) v a.1, targets_later ts a.0 before behind a.2, a.3)
     op_later (BranchOp x next) todo todo' before behind a = (a.0, a.1, a.2, a.3, op_later next [] [] behind behind a.4)
@@ -171,8 +175,7 @@ pub later_under : (s : Source) (o : AllArrays) (m : Instances) (o' : AllArrays) 
 later_under s o m o' m' bound less le e = record {
   arrays = λ j k a lt. e.arrays j k a (omega (arith, lt, le));
   elements = λ j k a n lt. e.elements j k a n (omega (arith, lt, le));
-  own = λ j t x lt. e.own j t x (omega (arith, lt, le));
-  parked = e.parked;
+  present = λ j t todo lt. e.present j t todo (omega (arith, lt, le));
 }
 
 pub chain_later : (s : Source) (o : AllArrays) (m : Instances) (o' : AllArrays) (m' : Instances) (bound : ℕ) → Later s o m o' m' bound → ((j d : ℕ) → j < bound → Copies o o' j d) → (chain : List Activation) (v : Option Kinds) → ChainFine s o m bound chain v → ChainFine s o' m' bound chain v
@@ -183,7 +186,7 @@ chain_later s o m o' m' bound e all (a ∷ rest) v c =
       before = c.before;
       of_text = c.of_text;
       todo = c.todo;
-      begun = begun_later s o m o' m' bound e a.instance c.of_text c.todo c.before c.begun;
+      here = e.present a.instance c.of_text c.todo c.before c.here;
       kinds = c.kinds;
       hands = hands_later s o m o' m' bound e a.instance c.before c.kinds a.values (all a.instance (length a.values) c.before) c.hands;
       goes = work_later s o m o' m' bound e a.instance c.of_text c.before (rest ≡ []) (λ w. ChainFine s o m a.instance rest w) (λ w. ChainFine s o' m' a.instance rest w) (λ w b. chain_later s o m o' m' a.instance (later_under s o m o' m' bound a.instance le e) (λ j d less. all j d (omega (arith, less, le))) rest w b) a.work c.todo _ c.goes;
@@ -194,12 +197,20 @@ pub later_then : (s : Source) (o : AllArrays) (m : Instances) (o' : AllArrays) (
 later_then s o m o' m' o'' m'' bound e f = record {
   arrays = λ j k a lt x. f.arrays j k a lt (e.arrays j k a lt x);
   elements = λ j k a n lt x. f.elements j k a n lt (e.elements j k a n lt x);
-  own = λ j t x lt a.
-      let y = e.own j t x lt a in
-      let z = f.own j t y.now lt y.own in
-      record { now = z.now; own = z.own; encloser = z.encloser ∙ y.encloser; made = λ todo w. z.made todo (y.made todo w) };
-  parked = λ p. f.parked (e.parked p);
+  present = λ j t todo lt x. f.present j t todo lt (e.present j t todo lt x);
 }
 
 pub later_none : (s : Source) (o : AllArrays) (m : Instances) (bound : ℕ) → Later s o m o m bound
-later_none s o m bound = record { arrays = λ j k a lt x. x; elements = λ j k a n lt x. x; own = λ j t x lt a. record { now = x; own = a; encloser = refl; made = λ todo w. w }; parked = λ p. p }
+later_none s o m bound = record { arrays = λ j k a lt x. x; elements = λ j k a n lt x. x; present = λ j t todo lt x. x }
+
+-- ---- a store with the same instances
+
+unless_there : (x : Option (Instance (List Held))) (it : Instance (List Held)) → unless_given x ≡ Some it → (y : Instance (List Held)) × (x ≡ Some y)
+unless_there None it e = absurd (cc)
+unless_there (Some y) it e = (y, refl)
+
+pub live_less : (m : Instances) (j : ℕ) (x : Instance (List Held)) → live m j ≡ Some x → j < length m.instances
+live_less m j x e = let y = unless_there (slice_get m.instances j) x e in there_is m.instances j y.0 y.1
+
+pub store_later : (s : Source) (o : AllArrays) (m : Instances) (o' : AllArrays) → Later s o m o' m (length m.instances) → StoreFine s o m → StoreFine s o' m
+store_later s o m o' e store j x is = instance_later s o m o' m (length m.instances) e j x.text x (live_less m j x is) (store j x is)

@@ -25,18 +25,18 @@ use Rattle.sim_meaning.specs.Closing.{Left, LeftAddress, LeftCell, LeftText, Lef
 use Rattle.sim_meaning.specs.Pending.{Cell, Declared, ElementOf, Instances, Result, Term}
 use Rattle.sim_meaning.specs.Texts.{ProcedureText, kind_of_type, text}
 use Rattle.sim_sound.specs.Typed.{AreIntegers, ArrayOf, Around, LeftDeclared, LeftDenoted, LeftHeld, LeftIs, LeftOf, Simply, TextLeft, Typed, entry_holds, formal_holds, named_kind}
-use Rattle.sim_sound.proofs.Sound.{AddressOf, AllArrays, CellTarget, KeyAmong, TermFine, Whole, in_whole, keys_in, simple}
+use Rattle.sim_sound.proofs.Sound.{AddressOf, AllArrays, Begun, CellTarget, KeyAmong, TermFine, in_whole, keys_in, simple}
 use Rattle.sim_sound.proofs.Closing.{expr_fine, gives_same, integers_fine}
 use Rattle.sim_sound.proofs.Reach.{Reaches, among_block, key_of_result, key_there, reaches_whole}
 
-module _ (s : Source) (ok : Typed s) (o : AllArrays) (m : Instances) (i t : ℕ) (whole : Whole s o m i t) where
+module _ (s : Source) (ok : Typed s) (o : AllArrays) (m : Instances) (i t : ℕ) (whole : Begun s o m i t []) where
   abbrev pub LeftFine : Left → Kind → Type 0
   LeftFine (LeftCell j key) k = CellTarget s o m i j key k
   LeftFine (LeftAddress x) k = TermFine s o m i t [] x (Some (AddressOf k))
   LeftFine (LeftText line x) k = (k ≡ kind.Text) × TermFine s o m i t [] x (simple kind.Text)
   LeftFine LeftUnbuilt k = ⊥
 
-  reach : Reaches s o m i (Some t)
+  reach : Reaches s m i (Some t)
   reach = reaches_whole s ok o m i t whole
 
   found_left : (x : Option ℕ) (j : ℕ) (f : ℕ → Left) (k : Kind) → x ≡ Some j → LeftFine (f j) k → LeftFine (left_in x f) k
@@ -52,7 +52,7 @@ module _ (s : Source) (ok : Typed s) (o : AllArrays) (m : Instances) (i t : ℕ)
         before = x.2;
         whole = w;
         holds = e ∙ ap (λ z. Some (Simply z)) same;
-        there = key_there s ok o m x.0 (block_of s d) w.now d (Simply k0) w.own e (among_block s ok d (Simply k0) e);
+        there = key_there s ok (block_of s d) w.words d (Simply k0) w.has_text e (among_block s ok d (Simply k0) e);
       })
 
   array_is : (d : DeclNo) (line : ℕ) (e : Expression) (es : Expressions) (k0 k : Kind) → entry_holds (entry_of s.tables d) ≡ Some (ArrayOf k0) → k0 ≡ k → Around s.tables t (block_of s d) → AreIntegers s (Some t) (Then e es) → LeftFine (array_left s m i line d (Then e es)) k
@@ -61,7 +61,7 @@ module _ (s : Source) (ok : Typed s) (o : AllArrays) (m : Instances) (i t : ℕ)
       let x = reach (block_of s d) sees in
       let w = x.3 in
       found_left (home_of s m i d) x.0 (λ j. LeftAddress (ElementOf line (Cell j (Declared d.0)) (close_all s m i (Then e es)))) k x.1
-      (k0, ap (λ z. Some (AddressOf z)) same, (ArrayOf k0, refl, Rattle.sim_sound.proofs.Sound.in_whole x.2 w is (key_there s ok o m x.0 (block_of s d) w.now d (ArrayOf k0) w.own is (among_block s ok d (ArrayOf k0) is))), integers_fine s ok o m i t [] (Some t) reach (Then e es) a)
+      (k0, ap (λ z. Some (AddressOf z)) same, (ArrayOf k0, refl, Rattle.sim_sound.proofs.Sound.in_whole x.2 w is (key_there s ok (block_of s d) w.words d (ArrayOf k0) w.has_text is (among_block s ok d (ArrayOf k0) is))), integers_fine s ok o m i t [] (Some t) reach (Then e es) a)
 
   -- what a left side holds
   result_is : (d : DeclNo) (type : SimType) (u : ℕ) (k : Kind) → entry_of s.tables d ≡ Some (entry.Procedure (Some type) u) → kind_of_type type ≡ k → Around s.tables t u → LeftFine (result_left s m i u NoMore) k

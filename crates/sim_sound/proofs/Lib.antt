@@ -20,6 +20,7 @@ pub mod FirstCells
 pub mod Handing
 pub mod ArrayWork
 pub mod Entering
+pub mod Chains
 pub mod Keeping
 pub mod Main
 pub mod Examples

@@ -1,5 +1,5 @@
 -- Each step of a typed program has a rule.
-use Rattle.std.proofs.Common.{◌≡◌, ◌≢◌, ℕ, zero, suc, ◌<◌, List, [], ◌∷◌, length, None, refl, sym, subst}
+use Rattle.std.proofs.Common.{◌≡◌, ◌≢◌, ℕ, zero, suc, List, [], ◌∷◌, length, None, refl, sym, subst}
 use Rattle.sim_base.specs.declared.limits.Limits.{Limits}
 use Rattle.sim_base.specs.declared.numbering.DeclNo.{DeclNo}
 use Rattle.sim_scope.specs.Source.{Source}
@@ -16,13 +16,13 @@ use Rattle.sim_sound.proofs.Evals.{IsFine, Work, goes_on}
 use Rattle.sim_sound.proofs.Keeping.{fine_sane}
 use Rattle.sim_sound.proofs.Lifts.{Goes, stops}
 use Rattle.sim_sound.proofs.Operators.{again_op, array_op, copy_op, drop_op, element_op, eval_op, fetch_op, give_op, if_op, join_op, one_op, past_op, share_op, standard_op, step_op, store_op, two_op}
-use Rattle.sim_sound.proofs.Sound.{Begun, ChainFine, Fine, HandsFine, Kinds, OpFine, Sight, Value, opens, runs, see}
+use Rattle.sim_sound.proofs.Sound.{AllOn, Begun, ChainFine, Fine, HandsFine, Kinds, NothingKept, OpFine, Operates, Sight, StoreFine, Value, opens, runs, see}
 use Rattle.sim_sound.proofs.Statements.{branch_goes, choose_goes, elements_goes, exec_goes, execs_goes, raise_goes, step_goes, test_goes, while_goes}
 
 module _ (s : Source) (ok : Typed s) (l : Limits) (o : World) (sights : List Sight) (long : length sights ≡ length o.arrays) where
-  module _ (m : Instances) (i t : ℕ) (rest : List Activation) (lt : i < length m.instances) (w : List Item) (vals : List Val) where
+  module _ (m : Instances) (i t : ℕ) (rest : List Activation) (top : Operates m i rest) (w : List Item) (vals : List Val) where
     abbrev Wk : List Item → List DeclNo → List Kinds → Type 0
-    Wk w todo ks = Work s o sights long m i t rest lt w todo ks
+    Wk w todo ks = Work s o sights long m i t rest top w todo ks
 
     abbrev Bg : List DeclNo → Type 0
     Bg todo = Begun s (see sights o) m i t todo
@@ -43,71 +43,71 @@ module _ (s : Source) (ok : Typed s) (l : Limits) (o : World) (sights : List Sig
     waiting k todo todo' before behind X e f g b h work go = go (subst Bg e b) (subst Hd g h) (subst (λ z. Wk w z behind) f work)
 
     op_goes : (op : Op) (todo todo' : List DeclNo) (before behind : List Kinds) → OpFine s (see sights o) m i t op todo todo' before behind → Bg todo → Hd before → Wk w todo' behind → Stepped op
-    op_goes (Eval x) todo todo' before behind a b h work = eval_op s ok l o sights long m i t rest lt w vals todo todo' before behind b h work x a
-    op_goes (OneOp op line) todo todo' before behind a b h work = one_op s ok l o sights long m i t rest lt w vals todo todo' before behind b h work op line a
-    op_goes (TwoOp op line) todo todo' before behind a b h work = two_op s ok l o sights long m i t rest lt w vals todo todo' before behind b h work op line a
-    op_goes (IfOp x y) todo todo' before behind a b h work = if_op s ok l o sights long m i t rest lt w vals todo todo' before behind b h work x y a
-    op_goes (ElementOp n line) todo todo' before behind a b h work = element_op s ok l o sights long m i t rest lt w vals todo todo' before behind b h work n line a
-    op_goes FetchOp todo todo' before behind a b h work = fetch_op s ok l o sights long m i t rest lt w vals todo todo' before behind b h work a
-    op_goes (JoinOp line) todo todo' before behind a b h work = join_op s ok l o sights long m i t rest lt w vals todo todo' before behind b h work line a
-    op_goes (CopyOp line) todo todo' before behind a b h work = copy_op s ok l o sights long m i t rest lt w vals todo todo' before behind b h work line a
-    op_goes (CallOp k n line) todo todo' before behind a b h work = called_goes s ok l o sights long m i t rest lt w vals k n line todo before behind a.0 b h (subst (λ z. Wk w z behind) a.1 work)
-    op_goes (StandardOp name line) todo todo' before behind a b h work = standard_op s ok l o sights long m i t rest lt w vals todo todo' before behind b h work name line a
-    op_goes DropOp todo todo' before behind a b h work = drop_op s ok l o sights long m i t rest lt w vals todo todo' before behind b h work a
-    op_goes AgainOp todo todo' before behind a b h work = again_op s ok l o sights long m i t rest lt w vals todo todo' before behind b h work a
-    op_goes (StoreOp x) todo todo' before behind a b h work = store_op s ok l o sights long m i t rest lt w vals todo todo' before behind b h work x a
-    op_goes (ShareOp ts) todo todo' before behind a b h work = share_op s ok l o sights long m i t rest lt w vals todo todo' before behind b h work ts a
-    op_goes (GiveOp v ts) todo todo' before behind a b h work = give_op s ok l o sights long m i t rest lt w vals todo todo' before behind b h work v ts a
-    op_goes (ArrayOp k n line) todo todo' before behind a b h work = array_op s ok l o sights long m i t rest lt w vals todo todo' before behind b h work k n line a
+    op_goes (Eval x) todo todo' before behind a b h work = eval_op s ok l o sights long m i t rest top w vals todo todo' before behind b h work x a
+    op_goes (OneOp op line) todo todo' before behind a b h work = one_op s ok l o sights long m i t rest top w vals todo todo' before behind b h work op line a
+    op_goes (TwoOp op line) todo todo' before behind a b h work = two_op s ok l o sights long m i t rest top w vals todo todo' before behind b h work op line a
+    op_goes (IfOp x y) todo todo' before behind a b h work = if_op s ok l o sights long m i t rest top w vals todo todo' before behind b h work x y a
+    op_goes (ElementOp n line) todo todo' before behind a b h work = element_op s ok l o sights long m i t rest top w vals todo todo' before behind b h work n line a
+    op_goes FetchOp todo todo' before behind a b h work = fetch_op s ok l o sights long m i t rest top w vals todo todo' before behind b h work a
+    op_goes (JoinOp line) todo todo' before behind a b h work = join_op s ok l o sights long m i t rest top w vals todo todo' before behind b h work line a
+    op_goes (CopyOp line) todo todo' before behind a b h work = copy_op s ok l o sights long m i t rest top w vals todo todo' before behind b h work line a
+    op_goes (CallOp k n line) todo todo' before behind a b h work = called_goes s ok l o sights long m i t rest top w vals k n line todo before behind a.0 b h (subst (λ z. Wk w z behind) a.1 work)
+    op_goes (StandardOp name line) todo todo' before behind a b h work = standard_op s ok l o sights long m i t rest top w vals todo todo' before behind b h work name line a
+    op_goes DropOp todo todo' before behind a b h work = drop_op s ok l o sights long m i t rest top w vals todo todo' before behind b h work a
+    op_goes AgainOp todo todo' before behind a b h work = again_op s ok l o sights long m i t rest top w vals todo todo' before behind b h work a
+    op_goes (StoreOp x) todo todo' before behind a b h work = store_op s ok l o sights long m i t rest top w vals todo todo' before behind b h work x a
+    op_goes (ShareOp ts) todo todo' before behind a b h work = share_op s ok l o sights long m i t rest top w vals todo todo' before behind b h work ts a
+    op_goes (GiveOp v ts) todo todo' before behind a b h work = give_op s ok l o sights long m i t rest top w vals todo todo' before behind b h work v ts a
+    op_goes (ArrayOp k n line) todo todo' before behind a b h work = array_op s ok l o sights long m i t rest top w vals todo todo' before behind b h work k n line a
     op_goes (Exec x) todo todo' before behind a b h work =
-        ready todo todo' before behind (Stepped (Exec x)) a.0 a.1 a.2 b h work (λ b h work. exec_goes s ok l o sights long m i t rest lt w vals before b h work x a.3)
+        ready todo todo' before behind (Stepped (Exec x)) a.0 a.1 a.2 b h work (λ b h work. exec_goes s ok l o sights long m i t rest top w vals before b h work x a.3)
     op_goes (Execs ss) todo todo' before behind a b h work =
-        ready todo todo' before behind (Stepped (Execs ss)) a.0 a.1 a.2 b h work (λ b h work. execs_goes s ok l o sights long m i t rest lt w vals before b h work ss a.3)
+        ready todo todo' before behind (Stepped (Execs ss)) a.0 a.1 a.2 b h work (λ b h work. execs_goes s ok l o sights long m i t rest top w vals before b h work ss a.3)
     op_goes (EnterOp k line) todo todo' before behind a b h work =
         let x = a.3 in
         ready todo todo' before behind (Stepped (EnterOp k line)) a.0 a.1 a.2 b h work (λ b h work.
-        subst (λ z. Goes (IsFine s) (sub_block_entered s l o m i w vals rest k line z)) (sym x.4) (block_entered s ok l o sights long m i t rest lt w vals k line x.1 x.2 x.3 before x.4 x.0 b h work))
+        subst (λ z. Goes (IsFine s) (sub_block_entered s l o m i w vals rest k line z)) (sym x.4) (block_entered s ok l o sights long m i t rest top w vals k line x.1 x.2 x.3 before x.4 x.0 b h work))
     op_goes (ChooseOp x y) todo todo' before behind a b h work =
-        waiting kind.Boolean todo todo' before behind (Stepped (ChooseOp x y)) a.0 a.1 a.2 b h work (λ b h work. choose_goes s ok l o sights long m i t rest lt w vals behind b h work x y a.3 a.4)
+        waiting kind.Boolean todo todo' before behind (Stepped (ChooseOp x y)) a.0 a.1 a.2 b h work (λ b h work. choose_goes s ok l o sights long m i t rest top w vals behind b h work x y a.3 a.4)
     op_goes (TestOp c x) todo todo' before behind a b h work =
         let y = a.3 in
-        ready todo todo' before behind (Stepped (TestOp c x)) a.0 a.1 a.2 b h work (λ b h work. test_goes s ok l o sights long m i t rest lt w vals before b h work c x y.0 y.1)
+        ready todo todo' before behind (Stepped (TestOp c x)) a.0 a.1 a.2 b h work (λ b h work. test_goes s ok l o sights long m i t rest top w vals before b h work c x y.0 y.1)
     op_goes (BranchOp x again) todo todo' before behind a b h work =
-        waiting kind.Boolean todo todo' before behind (Stepped (BranchOp x again)) a.0 a.1 a.2 b h work (λ b h work. branch_goes s ok l o sights long m i t rest lt w vals behind b h work x again a.3 a.4)
-    op_goes (BackOp op) todo todo' before behind a b h work = goes_on s o sights long m i t rest lt (Do op ∷ w) vals todo before b h (todo', behind, a, work)
-    op_goes PastOp todo todo' before behind a b h work = past_op s ok l o sights long m i t rest lt w vals todo todo' before behind b h work a
+        waiting kind.Boolean todo todo' before behind (Stepped (BranchOp x again)) a.0 a.1 a.2 b h work (λ b h work. branch_goes s ok l o sights long m i t rest top w vals behind b h work x again a.3 a.4)
+    op_goes (BackOp op) todo todo' before behind a b h work = goes_on s o sights long m i t rest top (Do op ∷ w) vals todo before b h (todo', behind, a, work)
+    op_goes PastOp todo todo' before behind a b h work = past_op s ok l o sights long m i t rest top w vals todo todo' before behind b h work a
     op_goes (ElementsOp x es c) todo todo' before behind a b h work =
         let y = a.3 in
-        ready todo todo' before behind (Stepped (ElementsOp x es c)) a.0 a.1 a.2 b h work (λ b h work. elements_goes s ok l o sights long m i t rest lt w vals before b h work x es c y.0 y.1 y.2 y.3)
+        ready todo todo' before behind (Stepped (ElementsOp x es c)) a.0 a.1 a.2 b h work (λ b h work. elements_goes s ok l o sights long m i t rest top w vals before b h work x es c y.0 y.1 y.2 y.3)
     op_goes (WhileElementOp x e c d) todo todo' before behind a b h work =
         let y = a.3 in
-        ready todo todo' before behind (Stepped (WhileElementOp x e c d)) a.0 a.1 a.2 b h work (λ b h work. while_goes s ok l o sights long m i t rest lt w vals before b h work x e c d y.0 y.1 y.2 y.3 y.4)
+        ready todo todo' before behind (Stepped (WhileElementOp x e c d)) a.0 a.1 a.2 b h work (λ b h work. while_goes s ok l o sights long m i t rest top w vals before b h work x e c d y.0 y.1 y.2 y.3 y.4)
     op_goes (StepTestOp x line f g c) todo todo' before behind a b h work =
         waiting kind.Integer todo todo' before behind (Stepped (StepTestOp x line f g c)) a.0 a.1 a.2 b h work (λ b h work.
-        step_goes s ok l o sights long m i t rest lt (Do DropOp ∷ w) vals (Value (Simply kind.Integer) ∷ behind) b h ([], behind, (Value (Simply kind.Integer), refl, refl), work) x line f g c behind refl a.3 a.4 a.5 a.6 w work)
-    op_goes (StepOp line) todo todo' before behind a b h work = step_op s ok l o sights long m i t rest lt w vals todo todo' before behind b h work line a
+        step_goes s ok l o sights long m i t rest top (Do DropOp ∷ w) vals (Value (Simply kind.Integer) ∷ behind) b h ([], behind, (Value (Simply kind.Integer), refl, refl), work) x line f g c behind refl a.3 a.4 a.5 a.6 w work)
+    op_goes (StepOp line) todo todo' before behind a b h work = step_op s ok l o sights long m i t rest top w vals todo todo' before behind b h work line a
     op_goes (RaiseOp x line f g c) todo todo' before behind a b h work =
         let y = a.3 in
-        ready todo todo' before behind (Stepped (RaiseOp x line f g c)) a.0 a.1 a.2 b h work (λ b h work. raise_goes s ok l o sights long m i t rest lt w vals before b h work x line f g c y.0 y.1 y.2 y.3)
+        ready todo todo' before behind (Stepped (RaiseOp x line f g c)) a.0 a.1 a.2 b h work (λ b h work. raise_goes s ok l o sights long m i t rest top w vals before b h work x line f g c y.0 y.1 y.2 y.3)
 
     item_goes : (x : Item) (todo : List DeclNo) (ks : List Kinds) → Bg todo → Hd ks → Wk (x ∷ w) todo ks → Goes (IsFine s) (do_item s l o m i w vals rest x)
     item_goes (Do op) todo ks b h a = op_goes op todo a.0 ks a.1 a.2 b h a.3
-    item_goes EndBlock todo ks b h a = leaves s ok l o sights long m i t lt rest None None tt a
-    item_goes (EndProcedure leaves') todo ks b h a = procedure_ends s ok l o sights long m i t lt leaves' w vals rest todo a.0 a.1 a.2 a.3 a.4 b a.5
+    item_goes EndBlock todo ks b h a = leaves s ok l o sights long m i t todo b rest top None None tt a
+    item_goes (EndProcedure leaves') todo ks b h a = procedure_ends s ok l o sights long m i t todo b leaves' w vals rest top a.0 a.1 a.2 a.3 a.4 a.5
     item_goes EndProgram todo ks b h a = stops (IsFine s) Normal o (λ e. cc)
 
-  work_goes : (m : Instances) (i t : ℕ) (rest : List Activation) (lt : i < length m.instances) (vals : List Val) (work : List Item) (todo : List DeclNo) (ks : List Kinds) → Begun s (see sights o) m i t todo → HandsFine s (see sights o) m i ks vals → Work s o sights long m i t rest lt work todo ks → Goes (IsFine s) (do_work s l o m i vals rest work)
-  work_goes m i t rest lt vals [] todo ks b h a = absurd a
-  work_goes m i t rest lt vals (x ∷ w) todo ks b h a = item_goes m i t rest lt w vals x todo ks b h a
+  work_goes : (m : Instances) (i t : ℕ) (rest : List Activation) (top : Operates m i rest) (vals : List Val) (work : List Item) (todo : List DeclNo) (ks : List Kinds) → Begun s (see sights o) m i t todo → HandsFine s (see sights o) m i ks vals → Work s o sights long m i t rest top work todo ks → Goes (IsFine s) (do_work s l o m i vals rest work)
+  work_goes m i t rest top vals [] todo ks b h a = absurd a
+  work_goes m i t rest top vals (x ∷ w) todo ks b h a = item_goes m i t rest top w vals x todo ks b h a
 
-  chain_goes : (m : Instances) (chain : List Activation) → ChainFine s (see sights o) m (length m.instances) chain None → Goes (IsFine s) (do_chain s l o m chain)
-  chain_goes m [] c = absurd c
-  chain_goes m (a ∷ rest) c = work_goes m a.instance c.of_text rest c.before a.values a.work c.todo c.kinds c.begun c.hands c.goes
+  chain_goes : (m : Instances) (chain : List Activation) → StoreFine s (see sights o) m → AllOn m chain → NothingKept m → ChainFine s (see sights o) m (length m.instances) chain None → Goes (IsFine s) (do_chain s l o m chain)
+  chain_goes m [] store all kept c = absurd c
+  chain_goes m (a ∷ rest) store all kept c = work_goes m a.instance c.of_text rest (record { before = c.before; all = all; parked = kept }) a.values a.work c.todo c.kinds (record { store = store; here = c.here }) c.hands c.goes
 
   -- a step from where there is a rule leads to where there is one, or to an end
   pub fine_step : (c : Configuration) → Fine s (see sights o) c → Goes (IsFine s) (step s l o c)
   fine_step c (opens none empty kept) = subst (λ z. Goes (IsFine s) (do_chain s l o c.memory z)) (sym none) (first_goes s ok l o sights long c.memory empty kept)
-  fine_step c (runs f) = chain_goes c.memory c.chain f
+  fine_step c (runs store all kept f) = chain_goes c.memory c.chain store all kept f
 
 next_goes : (s : Source) → Typed s → (l : Limits) (r : Run Configuration) → Goes (IsFine s) r → Goes (IsFine s) (next (step s l) r)
 next_goes s ok l (Going o c) f = fine_step s ok l o f.0 f.1 c f.2

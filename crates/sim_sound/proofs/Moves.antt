@@ -1,22 +1,27 @@
--- Cells that are set, instances that are entered and given back.
-use Rattle.std.proofs.Common.{◌≡◌, ◌≢◌, ◌<◌, ℕ, zero, suc, Bool, true, false, List, [], ◌∷◌, ◌++◌, length, Option, Some, None, ⊎_elim, refl, sym, ap, ◌∙◌, subst, arith}
+-- Cells that are set, instances that are entered and given back: what is fine stays so, and the store is fine again.
+use Rattle.std.proofs.Common.{◌≡◌, ◌≢◌, ◌<◌, ℕ, zero, suc, Bool, true, false, List, [], ◌∷◌, ◌++◌, length, Option, Some, None, ◌⊎◌, inl, inr, ⊎_elim, refl, sym, ap, ◌∙◌, subst, arith}
 use Rattle.std.proofs.lemmas.Bool.{cases_eq}
 use Rattle.std.specs.Prelude.{◌==◌, ◌&&◌, not, if◌then◌else◌, slice_get}
 use Rattle.sim_chains.specs.Components.{Standing}
+use Rattle.sim_base.specs.declared.numbering.DeclNo.{DeclNo}
 use Rattle.sim_scope.specs.Source.{Source}
 use Rattle.sim_values.specs.declared.kind.Kind.{Kind}
 use Rattle.sim_code.specs.Outcome.{ArrayOf as OneArray, World}
 use Rattle.sim_code.specs.Arrays.{given_with, giving_back, goes_with, unless_given}
 use Rattle.sim_code.specs.Instances.{Instance, entered, given, given_in, is_given_at_end, live, with_instance}
 use Rattle.sim_code.specs.Instances as instances
-use Rattle.sim_meaning.specs.Pending.{Activation, Declared, Held, Instances, Key, Val, held_set}
+use Rattle.sim_meaning.specs.Pending.{Activation, Declared, Held, Instances, Key, Val, held, held_set}
 use Rattle.sim_meaning.specs.Meaning.{instances_left, text_of, words_of_text, world_left}
 use Rattle.sim_meaning.specs.Texts.{text}
 use Rattle.sim_sound.specs.Typed.{Holds, key_holds}
-use Rattle.sim_sound.proofs.Sound.{AllArrays, ArrayFine, KeepsNone, NothingKept, Own, Sight, ValFine, see}
+use Rattle.sim_sound.proofs.Sound.{AllArrays, AllOn, ArrayFine, InstanceFine, KeepsNone, NothingKept, OnChain, Operates, Present, Sight, StoreFine, ValFine, see}
 use Rattle.sim_sound.proofs.Changes.{cells_set, held_stays, keys_set}
-use Rattle.sim_sound.proofs.Later.{Copies, Later, OwnLater, later_none}
-use Rattle.sim_sound.proofs.Lists.{append_before, if_false, other_numbers, same_some, set_len, set_other, set_same}
+use Rattle.sim_sound.proofs.Later.{Copies, Later, enclosed_later, instance_later, later_none, live_less}
+use Rattle.sim_sound.proofs.Lists.{append_before, if_false, no_some, other_numbers, same_some, set_len, set_other, set_same}
+
+one_longer : (xs : List (Instance (List Held))) (x : Instance (List Held)) → length (xs ++ x ∷ []) ≡ suc (length xs)
+one_longer [] x = refl
+one_longer (y ∷ xs) x = ap suc (one_longer xs x)
 
 -- ---- an instance that is there
 
@@ -31,47 +36,80 @@ instance_there (Some z) it h = let x = instance_if z it z.given_back refl h in (
 pub instance_lives : (o : Option (Instance (List Held))) (it : Instance (List Held)) → o ≡ Some it → it.given_back ≡ false → instances.unless_given o ≡ Some it
 instance_lives o it e f = ap instances.unless_given e ∙ if_false it.given_back None (Some it) f
 
+-- ---- a step that leaves all instances where they stand
+
+pub record SameOnes (m n : Instances) : Type 0 where
+  pub count : length n.instances ≡ length m.instances
+  pub were : (j : ℕ) (x : Instance (List Held)) → live n j ≡ Some x → (y : Instance (List Held)) × (live m j ≡ Some y)
+  pub standings : n.standings ≡ m.standings
+
+pub same_ones : (m : Instances) → SameOnes m m
+same_ones m = record { count = refl; were = λ j x e. (x, e); standings = refl }
+
+pub operates_on : (m n : Instances) (i : ℕ) (rest : List Activation) → SameOnes m n → Operates m i rest → Operates n i rest
+operates_on m n i rest same top = record {
+  before = subst (λ z. i < z) (sym same.count) top.before;
+  all = λ j x e. let y = same.were j x e in top.all j y.0 y.1;
+  parked = λ j x e. top.parked j x (ap (λ z. slice_get z j) (sym same.standings) ∙ e);
+}
+
 -- ---- a cell that is set
 
-module _ (s : Source) (o : AllArrays) (m : Instances) (e u : ℕ) (y : Instance (List Held)) (own : Own s o m e u y) (key : Key) (h : Holds) (v : Val) (is : key_holds s u key ≡ Some h) (fine : ValFine o e h v) (cells : List Held) (set : held_set key v y.cells ≡ Some cells) where
+module _ (s : Source) (o : AllArrays) (m : Instances) (e u : ℕ) (y : Instance (List Held)) (lives : live m e ≡ Some y) (of_text : y.text ≡ u) (f : InstanceFine s o m e u y) (key : Key) (h : Holds) (v : Val) (is : key_holds s u key ≡ Some h) (fine : ValFine o e h v) (cells : List Held) (set : held_set key v y.cells ≡ Some cells) where
   abbrev pub other : Instance (List Held)
   other = record y { cells = cells }
 
   abbrev pub set_in : Instances
   set_in = with_instance m e other
 
-  pub own_set : Own s o set_in e u other
-  own_set =
-      let w = instance_there (slice_get m.instances e) y own.lives in
-      record {
-        lives = instance_lives (slice_get set_in.instances e) other (set_same m.instances e y other w.0) w.1;
-        of_text = own.of_text;
-        words = own.words;
-        has_text = own.has_text;
-        level = own.level;
-        keys = keys_set key v y.cells cells set ∙ own.keys;
-        cells = cells_set key v s o e u h is fine y.cells cells set own.cells;
-      }
+  pub set_lives : live set_in e ≡ Some other
+  set_lives =
+      let w = instance_there (slice_get m.instances e) y lives in
+      instance_lives (slice_get set_in.instances e) other (set_same m.instances e y other w.0) w.1
 
-  pub set_later_own : OwnLater s o set_in e u y
-  set_later_own = record { now = other; own = own_set; encloser = refl; made = λ todo f d k a c b. f d k a c (held_stays key v (Declared d.0) y.cells cells set b) }
+  elsewhere : (j : ℕ) → j ≢ e → live set_in j ≡ live m j
+  elsewhere j differ = ap instances.unless_given (set_other m.instances e j other differ)
 
   pub later_cell : (bound : ℕ) → Later s o m o set_in bound
-  later_cell bound = record { arrays = λ j k a lt f. f; elements = λ j k a n lt f. f; own = λ j t x lt a. ⊎_elim (here j t x a) (elsewhere j t x a) (cases_eq j e); parked = λ p. p }
+  later_cell bound = record { arrays = λ j k a lt f. f; elements = λ j k a n lt f. f; present = λ j t todo lt p. ⊎_elim (here j t todo p) (there j t todo p) (cases_eq j e) }
     where
-      here : (j t : ℕ) (x : Instance (List Held)) → Own s o m j t x → j ≡ e → OwnLater s o set_in j t x
-      here j t x a same =
-          let is_y : x ≡ y = same_some (live m j) x y a.lives (ap (live m) same ∙ own.lives) in
-          let is_u : t ≡ u = sym a.of_text ∙ ap (λ z. z.text) is_y ∙ own.of_text in
-          subst (λ z. OwnLater s o set_in z t x) (sym same) (subst (λ z. OwnLater s o set_in e z x) (sym is_u) (subst (OwnLater s o set_in e u) (sym is_y) set_later_own))
+      here : (j t : ℕ) (todo : List DeclNo) → Present s m j t todo → j ≡ e → Present s set_in j t todo
+      here j t todo p same =
+          let is_y : y ≡ p.now = same_some (live m j) y p.now (ap (live m) same ∙ lives) p.lives in
+          record {
+            now = other;
+            lives = ap (live set_in) same ∙ set_lives;
+            of_text = ap (λ z. z.text) is_y ∙ p.of_text;
+            words = p.words;
+            has_text = p.has_text;
+            made = λ d k a c none. p.made d k a c (subst (λ z. held (Declared d.0) z.cells ≡ None) is_y (held_stays key v (Declared d.0) y.cells cells set none));
+          }
 
-      elsewhere : (j t : ℕ) (x : Instance (List Held)) → Own s o m j t x → j ≢ e → OwnLater s o set_in j t x
-      elsewhere j t x a differ = record {
-        now = x;
-        own = record { lives = ap instances.unless_given (set_other m.instances e j other differ) ∙ a.lives; of_text = a.of_text; words = a.words; has_text = a.has_text; level = a.level; keys = a.keys; cells = a.cells };
-        encloser = refl;
-        made = λ todo f. f;
-      }
+      there : (j t : ℕ) (todo : List DeclNo) → Present s m j t todo → j ≢ e → Present s set_in j t todo
+      there j t todo p differ = record { now = p.now; lives = elsewhere j differ ∙ p.lives; of_text = p.of_text; words = p.words; has_text = p.has_text; made = p.made }
+
+  fine_set : InstanceFine s o set_in e u other
+  fine_set = record {
+    level = f.level;
+    keys = keys_set key v y.cells cells set ∙ f.keys;
+    cells = cells_set key v s o e u h is fine y.cells cells set f.cells;
+    ends = f.ends;
+    out = enclosed_later s o m o set_in (suc e) (later_cell (suc e)) e u y.encloser (omega arith) f.out;
+  }
+
+  pub store_cell : StoreFine s o m → StoreFine s o set_in
+  store_cell store j x now = ⊎_elim here there (cases_eq j e)
+    where
+      here : j ≡ e → InstanceFine s o set_in j x.text x
+      here same =
+          let is_x : other ≡ x = same_some (live set_in j) other x (ap (live set_in) same ∙ set_lives) now in
+          subst (λ z. InstanceFine s o set_in z x.text x) (sym same) (subst (λ z. InstanceFine s o set_in e z.text z) is_x (subst (λ z. InstanceFine s o set_in e z other) (sym of_text) fine_set))
+
+      there : j ≢ e → InstanceFine s o set_in j x.text x
+      there differ = instance_later s o m o set_in (suc j) (later_cell (suc j)) j x.text x (omega arith) (store j x (sym (elsewhere j differ) ∙ now))
+
+  pub same_cell : SameOnes m set_in
+  same_cell = record { count = set_len m.instances e other; were = λ j x now. ⊎_elim (λ same. (y, ap (live m) same ∙ lives)) (λ differ. (x, sym (elsewhere j differ) ∙ now)) (cases_eq j e); standings = refl }
 
 -- ---- one instance more
 
@@ -81,18 +119,41 @@ kept_more [] z k f (suc j) x e = absurd (cc)
 kept_more (y ∷ xs) z k f zero x e = f zero x e
 kept_more (y ∷ xs) z k f (suc j) x e = kept_more xs z k (λ i. f (suc i)) j x e
 
-pub later_entered : (s : Source) (o : AllArrays) (m : Instances) (x : Instance (List Held)) (z : Standing Activation) → KeepsNone z → Later s o m o (entered m x z) (length m.instances)
-later_entered s o m x z none = record {
-  arrays = λ j k a lt f. f;
-  elements = λ j k a n lt f. f;
-  own = λ j t y lt a. record {
-    now = y;
-    own = record { lives = ap instances.unless_given (append_before m.instances x j lt) ∙ a.lives; of_text = a.of_text; words = a.words; has_text = a.has_text; level = a.level; keys = a.keys; cells = a.cells };
-    encloser = refl;
-    made = λ todo f. f;
-  };
-  parked = kept_more m.standings z none;
-}
+old_or_new : (xs : List (Instance (List Held))) (y : Instance (List Held)) (j : ℕ) (x : Instance (List Held)) → slice_get (xs ++ y ∷ []) j ≡ Some x → (slice_get xs j ≡ Some x) ⊎ ((j ≡ length xs) × (y ≡ x))
+old_or_new [] y zero x e = inr (refl, (cc))
+old_or_new [] y (suc j) x e = absurd (cc)
+old_or_new (z ∷ xs) y zero x e = inl e
+old_or_new (z ∷ xs) y (suc j) x e = ⊎_elim (λ old. inl old) (λ new. inr (ap suc new.0, new.1)) (old_or_new xs y j x e)
+
+module _ (s : Source) (o : AllArrays) (m : Instances) (y : Instance (List Held)) (z : Standing Activation) where
+  abbrev after : Instances
+  after = entered m y z
+
+  was_or_is : (j : ℕ) (x : Instance (List Held)) → live after j ≡ Some x → (live m j ≡ Some x) ⊎ ((j ≡ length m.instances) × (y ≡ x))
+  was_or_is j x e =
+      let w = instance_there (slice_get after.instances j) x e in
+      ⊎_elim (λ old. inl (instance_lives (slice_get m.instances j) x old w.1)) (λ new. inr new) (old_or_new m.instances y j x w.0)
+
+  pub later_entered : Later s o m o after (length m.instances)
+  later_entered = record {
+    arrays = λ j k a lt f. f;
+    elements = λ j k a n lt f. f;
+    present = λ j t todo lt p. record { now = p.now; lives = ap instances.unless_given (append_before m.instances y j lt) ∙ p.lives; of_text = p.of_text; words = p.words; has_text = p.has_text; made = p.made };
+  }
+
+  pub store_entered : StoreFine s o m → InstanceFine s o after (length m.instances) y.text y → StoreFine s o after
+  store_entered store f j x e =
+      ⊎_elim
+      (λ old. instance_later s o m o after (length m.instances) later_entered j x.text x (live_less m j x old) (store j x old))
+      (λ new. subst (λ z. InstanceFine s o after z x.text x) (sym new.0) (subst (λ z. InstanceFine s o after (length m.instances) z.text z) new.1 f))
+      (was_or_is j x e)
+
+  pub operates_entered : (chain : List Activation) → AllOn m chain → NothingKept m → KeepsNone z → Operates after (length m.instances) chain
+  operates_entered chain all kept none = record {
+    before = (let n = one_longer m.instances y in omega (arith, n));
+    all = λ j x e. ⊎_elim (λ old. inr (all j x old)) (λ new. inl new.0) (was_or_is j x e);
+    parked = kept_more m.standings z none kept;
+  }
 
 -- ---- an instance that ends
 
@@ -123,38 +184,20 @@ with_len : (i : ℕ) (o : List OneArray) → length (given_with i o) ≡ length 
 with_len i [] = refl
 with_len i (x ∷ o) = ap suc (with_len i o)
 
-given_other : (m : Instances) (i j : ℕ) (x : Option (Instance (List Held))) → j < i → slice_get (given_in m i x).instances j ≡ slice_get m.instances j
-given_other m i j None lt = refl
-given_other m i j (Some x) lt = set_other m.instances i j (record x { given_back = true }) (λ e. omega (arith, e, lt))
+given_other : (m : Instances) (i j : ℕ) (x : Option (Instance (List Held))) → j ≢ i → slice_get (given_in m i x).instances j ≡ slice_get m.instances j
+given_other m i j None differ = refl
+given_other m i j (Some x) differ = set_other m.instances i j (record x { given_back = true }) differ
 
 given_len : (m : Instances) (i : ℕ) (x : Option (Instance (List Held))) → length (given_in m i x).instances ≡ length m.instances
 given_len m i None = refl
 given_len m i (Some x) = set_len m.instances i (record x { given_back = true })
-
-given_kept : (m : Instances) (i : ℕ) (x : Option (Instance (List Held))) → NothingKept m → NothingKept (given_in m i x)
-given_kept m i None p = p
-given_kept m i (Some x) p = p
 
 later_given : (s : Source) (o : AllArrays) (m : Instances) (i : ℕ) → Later s o m (given_view i o) (given m i) i
 unfolding array_given
 later_given s o m i = record {
   arrays = λ j k a lt f. array_given o i j k a lt f;
   elements = λ j k a n lt f. record { array = array_given o i j k a lt f.array; there = f.there };
-  own = λ j t y lt a. record {
-    now = y;
-    own = record {
-      lives = ap instances.unless_given (given_other m i j (slice_get m.instances i) lt) ∙ a.lives;
-      of_text = a.of_text;
-      words = a.words;
-      has_text = a.has_text;
-      level = a.level;
-      keys = a.keys;
-      cells = Rattle.sim_sound.proofs.Changes.cells_map s o (given_view i o) j t (Rattle.sim_sound.proofs.Changes.val_map o (given_view i o) j (λ k n. array_given o i j k n lt)) y.cells a.cells;
-    };
-    encloser = refl;
-    made = λ todo f. f;
-  };
-  parked = given_kept m i (slice_get m.instances i);
+  present = λ j t todo lt p. record { now = p.now; lives = ap instances.unless_given (given_other m i j (slice_get m.instances i) (λ e. omega (arith, e, lt))) ∙ p.lives; of_text = p.of_text; words = p.words; has_text = p.has_text; made = p.made };
 }
 
 later_if : (s : Source) (g : List Sight) (o p : World) (m n : Instances) (i : ℕ) (b : Bool) → Later s (see g o) m (see g p) n i → Later s (see g o) m (see g (if b then p else o)) (if b then n else m) i
@@ -187,3 +230,41 @@ len_if m n false e = refl
 
 pub left_len : (m : Instances) (i : ℕ) → length (instances_left i m).instances ≡ length m.instances
 left_len m i = len_if m (given m i) (is_given_at_end m i) (given_len m i (slice_get m.instances i))
+
+-- ---- what lives after an end lived before, and is another instance
+
+given_gone : (m : Instances) (i : ℕ) (y : Option (Instance (List Held))) → slice_get m.instances i ≡ y → live (given_in m i y) i ≡ None
+given_gone m i None e = ap instances.unless_given e
+given_gone m i (Some y) e = ap instances.unless_given (set_same m.instances i y (record y { given_back = true }) e)
+
+left_given : (m : Instances) (i j : ℕ) (x : Instance (List Held)) (b : Bool) → b ≡ true → live (if b then given m i else m) j ≡ Some x → (j ≢ i) × (live m j ≡ Some x)
+left_given m i j x false is e = absurd (cc)
+left_given m i j x true is e =
+    let differ : j ≢ i = λ same. no_some (live (given m i) i) x (given_gone m i (slice_get m.instances i) refl) (ap (live (given m i)) (sym same) ∙ e) in
+    (differ, sym (ap instances.unless_given (given_other m i j (slice_get m.instances i) differ)) ∙ e)
+
+kept_given : (m : Instances) (i : ℕ) (y : Option (Instance (List Held))) → (given_in m i y).standings ≡ m.standings
+kept_given m i None = refl
+kept_given m i (Some y) = refl
+
+kept_if : (m n : Instances) (b : Bool) → n.standings ≡ m.standings → (if b then n else m).standings ≡ m.standings
+kept_if m n true e = e
+kept_if m n false e = refl
+
+-- An instance ends that is given back then, and all others that were not are below it.
+module _ (s : Source) (g : List Sight) (o : World) (m : Instances) (i : ℕ) (rest : List Activation) (ends : is_given_at_end m i ≡ true) (top : Operates m i rest) (less : (j : ℕ) → OnChain j rest → j < i) where
+  abbrev left : Instances
+  left = instances_left i m
+
+  pub all_left : AllOn left rest
+  all_left j x e =
+      let was = left_given m i j x (is_given_at_end m i) ends e in
+      ⊎_elim (λ same. absurd (was.0 same)) (λ on. on) (top.all j x was.1)
+
+  pub kept_left : NothingKept left
+  kept_left j x e = top.parked j x (ap (λ z. slice_get z j) (sym (kept_if m (given m i) (is_given_at_end m i) (kept_given m i (slice_get m.instances i)))) ∙ e)
+
+  pub store_left : StoreFine s (see g o) m → StoreFine s (see g (world_left s i o m)) left
+  store_left store j x e =
+      let was = left_given m i j x (is_given_at_end m i) ends e in
+      instance_later s (see g o) m (see g (world_left s i o m)) left i (later_left s g o m i) j x.text x (less j (all_left j x e)) (store j x was.1)

@@ -23,7 +23,7 @@ use Rattle.sim_meaning.specs.Pending.{Address, ArrayValue, Configuration, Instan
 use Rattle.sim_meaning.specs.Steps.{of_plain, operand, plain_in, put_back}
 use Rattle.sim_sound.specs.Typed.{ArrayOf, Simply, standard_kind}
 use Rattle.sim_sound.proofs.Cells.{target_cell}
-use Rattle.sim_sound.proofs.Sound.{AddressOf, Copied, DeepFine, ElementFine, HandFine, HandsFine, ImageAddress, IsImage, Kinds, LinkTo, OperandIs, OperandsAre, Sight, ValFine, Value, pushed, see}
+use Rattle.sim_sound.proofs.Sound.{AddressOf, Copied, DeepFine, ElementFine, HandFine, HandsFine, ImageAddress, IsImage, Kinds, LinkTo, OperandIs, OperandsAre, Sight, StoreFine, ValFine, Value, pushed, see}
 use Rattle.sim_sound.proofs.Lifts.{Goes, Shape, a_char, a_text, an_int, any_popped, computed, had, ran, shape, took}
 use Rattle.sim_sound.proofs.Lists.{equal_numbers, there_get}
 
@@ -217,38 +217,38 @@ module _ {S : Type 0} (P : World → S → Type 0) (s : Source) (o : World) (g :
       let x = text_read p (shape P p kind.Text is) in
       (Text x.0, reads ∙ ap only_text at ∙ ap (λ z. only_text (Some z)) x.1, sym e, λ n f. absurd (no_image n f))
 
-  operand_read : (k : Kind) (x : Kinds) (v : Val) → OperandIs k x → HandFine s (see g o) m j x v → Read k v
-  operand_read k (Value (Simply k')) v is a =
+  operand_read : StoreFine s (see g o) m → (k : Kind) (x : Kinds) (v : Val) → OperandIs k x → HandFine s (see g o) m j x v → Read k v
+  operand_read store k (Value (Simply k')) v is a =
       let p = plain_of s g o j k' v a in
       (p.0, ap (operand o m) p.1, p.2 ∙ (let f : k' ≡ k = cc in f), λ n f. absurd (cc))
-  operand_read k (Value (ArrayOf k')) v is a = absurd (cc)
-  operand_read k (AddressOf k') (Address (ElementPlace a n None)) is f =
+  operand_read store k (Value (ArrayOf k')) v is a = absurd (cc)
+  operand_read store k (AddressOf k') (Address (ElementPlace a n None)) is f =
       let q = element_there g o j a n k' f in
       place_read k (Address (ElementPlace a n None)) (plain_in (of_plain (element o a n))) q.0 is.0 (ap (λ z. plain_in (of_plain z)) q.1) (q.2 ∙ is.1) refl (λ i g. cc)
-  operand_read k (AddressOf k') (Address (CellPlace e key None)) is c =
-      let q = target_cell s (see g o) m j e key k' c in
+  operand_read store k (AddressOf k') (Address (CellPlace e key None)) is c =
+      let q = target_cell s (see g o) m j e key k' store c in
       let p = plain_of s g o e k' q.0 q.2 in
       place_read k (Address (CellPlace e key None)) (plain_in (cell m e key)) p.0 is.0 (ap plain_in q.1 ∙ ap (λ z. plain_in (Some z)) p.1) (p.2 ∙ is.1) refl (λ i g. cc)
-  operand_read k (AddressOf k') (Address (ElementPlace a n (Some c))) is f = absurd f
-  operand_read k (AddressOf k') (Address (CellPlace a n (Some c))) is f = absurd f
-  operand_read k (AddressOf k') (Address (ImagePlace n)) is f = absurd f
-  operand_read k (AddressOf k') (Of z) is f = absurd f
-  operand_read k (AddressOf k') (Link z) is f = absurd f
-  operand_read k (AddressOf k') (ArrayValue z) is f = absurd f
-  operand_read k (AddressOf k') (ProcedureValue z y) is f = absurd f
-  operand_read k (AddressOf k') (Tree z) is f = absurd f
-  operand_read k ImageAddress (Address (ImagePlace zero)) is f = (Text o.store.sysin, refl, sym is, λ n g. (o.store.sysin, refl, ap (image_at o.store) (let h : n ≡ 0 = cc in h)))
-  operand_read k ImageAddress (Address (ImagePlace (suc zero))) is f = (Text o.store.sysout, refl, sym is, λ n g. (o.store.sysout, refl, ap (image_at o.store) (let h : n ≡ 1 = cc in h)))
-  operand_read k ImageAddress (Address (ImagePlace (suc (suc n)))) is f = absurd f
-  operand_read k ImageAddress (Address (ElementPlace a n c)) is f = absurd f
-  operand_read k ImageAddress (Address (CellPlace a n c)) is f = absurd f
-  operand_read k ImageAddress (Of z) is f = absurd f
-  operand_read k ImageAddress (Link z) is f = absurd f
-  operand_read k ImageAddress (ArrayValue z) is f = absurd f
-  operand_read k ImageAddress (ProcedureValue z y) is f = absurd f
-  operand_read k ImageAddress (Tree z) is f = absurd f
-  operand_read k (LinkTo t) v is f = absurd is
-  operand_read k (Copied t) v is f = absurd is
+  operand_read store k (AddressOf k') (Address (ElementPlace a n (Some c))) is f = absurd f
+  operand_read store k (AddressOf k') (Address (CellPlace a n (Some c))) is f = absurd f
+  operand_read store k (AddressOf k') (Address (ImagePlace n)) is f = absurd f
+  operand_read store k (AddressOf k') (Of z) is f = absurd f
+  operand_read store k (AddressOf k') (Link z) is f = absurd f
+  operand_read store k (AddressOf k') (ArrayValue z) is f = absurd f
+  operand_read store k (AddressOf k') (ProcedureValue z y) is f = absurd f
+  operand_read store k (AddressOf k') (Tree z) is f = absurd f
+  operand_read store k ImageAddress (Address (ImagePlace zero)) is f = (Text o.store.sysin, refl, sym is, λ n g. (o.store.sysin, refl, ap (image_at o.store) (let h : n ≡ 0 = cc in h)))
+  operand_read store k ImageAddress (Address (ImagePlace (suc zero))) is f = (Text o.store.sysout, refl, sym is, λ n g. (o.store.sysout, refl, ap (image_at o.store) (let h : n ≡ 1 = cc in h)))
+  operand_read store k ImageAddress (Address (ImagePlace (suc (suc n)))) is f = absurd f
+  operand_read store k ImageAddress (Address (ElementPlace a n c)) is f = absurd f
+  operand_read store k ImageAddress (Address (CellPlace a n c)) is f = absurd f
+  operand_read store k ImageAddress (Of z) is f = absurd f
+  operand_read store k ImageAddress (Link z) is f = absurd f
+  operand_read store k ImageAddress (ArrayValue z) is f = absurd f
+  operand_read store k ImageAddress (ProcedureValue z y) is f = absurd f
+  operand_read store k ImageAddress (Tree z) is f = absurd f
+  operand_read store k (LinkTo t) v is f = absurd is
+  operand_read store k (Copied t) v is f = absurd is
 
   -- an operand is no copy of an array
   at_hand : (k : Kind) (x : Kinds) (d : ℕ) (v : Val) → OperandIs k x → DeepFine s (see g o) m j d x v → HandFine s (see g o) m j x v
@@ -298,16 +298,16 @@ module _ {S : Type 0} (P : World → S → Type 0) (s : Source) (o : World) (g :
       first_back None c g = absurd g.0
       first_back (Some t) c g = put_there e.store v t u c g.1 g.0
 
-  operand_popped : (k : Kind) (x : Kinds) (ks : List Kinds) (n : ℕ) (first : Option Val) (vals : List Val) (f : List Plain → Option Val → List Val → Run S) → OperandIs k x → HandsFine s (see g o) m j (x ∷ ks) vals
+  operand_popped : StoreFine s (see g o) m → (k : Kind) (x : Kinds) (ks : List Kinds) (n : ℕ) (first : Option Val) (vals : List Val) (f : List Plain → Option Val → List Val → Run S) → OperandIs k x → HandsFine s (see g o) m j (x ∷ ks) vals
       → ((v : Val) (p : Plain) (rest : List Val) → kind_of p ≡ k → HandFine s (see g o) m j x v → ReadAt v p → HandsFine s (see g o) m j ks rest → Goes P (pop_operands (operand o m) n (Some v) rest o (λ ps first rest. f (p ∷ ps) first rest))) → Goes P (pop_operands (operand o m) (suc n) first vals o f)
   unfolding pop_operands
-  operand_popped k x ks n first vals f is h go =
+  operand_popped store k x ks n first vals f is h go =
       any_popped P s (see g o) m j x ks vals o (λ v rest. having (operand o m v) o (λ p. pop_operands (operand o m) n (Some v) rest o (λ ps first rest. f (p ∷ ps) first rest))) h (λ v rest same here more.
       let hand = at_hand k x (length rest) v is here in
-      let r = operand_read k x v is hand in
+      let r = operand_read store k x v is hand in
       had P (operand o m v) r.0 o (λ p. pop_operands (operand o m) n (Some v) rest o (λ ps first rest. f (p ∷ ps) first rest)) r.1 (go v r.0 rest r.2 hand r.3 more))
 
-  module _ (left : List Kinds) (after : Effect → Option Val → List Val → Run S) (k : Option Kind) (goes : (e : Effect) (first : Option Val) (rest : List Val) → Valued k e.answer → AllBack e.store first e.moved → HandsFine s (see g o) m j left rest → Goes P (after e first rest)) where
+  module _ (store : StoreFine s (see g o) m) (left : List Kinds) (after : Effect → Option Val → List Val → Run S) (k : Option Kind) (goes : (e : Effect) (first : Option Val) (rest : List Val) → Valued k e.answer → AllBack e.store first e.moved → HandsFine s (see g o) m j left rest → Goes P (after e first rest)) where
     abbrev done : Function → List Plain → Option Val → List Val → Run S
     done f vs first rest = having (applied f vs o.store) o (λ e. after e first rest)
 
@@ -317,40 +317,40 @@ module _ {S : Type 0} (P : World → S → Type 0) (s : Source) (o : World) (g :
     took_all : (f : Function) (xs : List Kinds) (vals : List Val) → AllFine k f → OperandsAre (operands_of f) xs → HandsFine s (see g o) m j (pushed xs left) vals → Goes P (pop_operands (operand o m) (length (operands_of f)) None vals o (done f))
     unfolding pop_operands take_nothing take_integer take_character take_text
     took_all (of_nothing f) [] vals all a h = finish (f o.store) None None vals (all o.store) tt h
-    took_all (of_integer f) (x ∷ []) vals all a h = operand_popped kind.Integer x left 0 None vals (done (of_integer f)) a.0 h (λ v p rest e here at more. one v p rest (shape P p kind.Integer e) more)
+    took_all (of_integer f) (x ∷ []) vals all a h = operand_popped store kind.Integer x left 0 None vals (done (of_integer f)) a.0 h (λ v p rest e here at more. one v p rest (shape P p kind.Integer e) more)
       where
         one : (v : Val) (p : Plain) (rest : List Val) → Shape P p kind.Integer → HandsFine s (see g o) m j left rest → Goes P (done (of_integer f) (p ∷ []) (Some v) rest)
         one v _ rest (an_int z) more = finish (f z o.store) (Some v) None rest (all z o.store) tt more
-    took_all (of_character f) (x ∷ []) vals all a h = operand_popped kind.Character x left 0 None vals (done (of_character f)) a.0 h (λ v p rest e here at more. one v p rest (shape P p kind.Character e) more)
+    took_all (of_character f) (x ∷ []) vals all a h = operand_popped store kind.Character x left 0 None vals (done (of_character f)) a.0 h (λ v p rest e here at more. one v p rest (shape P p kind.Character e) more)
       where
         one : (v : Val) (p : Plain) (rest : List Val) → Shape P p kind.Character → HandsFine s (see g o) m j left rest → Goes P (done (of_character f) (p ∷ []) (Some v) rest)
         one v _ rest (a_char z) more = finish (f z o.store) (Some v) None rest (all z o.store) tt more
     took_all (of_integers f) (x ∷ y ∷ []) vals all a h =
-        operand_popped kind.Integer y (x ∷ left) 1 None vals (done (of_integers f)) (a.1).0 h (λ u q rest d there at more.
-        operand_popped kind.Integer x left 0 (Some u) rest (λ ps first rest. done (of_integers f) (q ∷ ps) first rest) a.0 more (λ v p rest e here at most. two v p q rest (shape P p kind.Integer e) (shape P q kind.Integer d) most))
+        operand_popped store kind.Integer y (x ∷ left) 1 None vals (done (of_integers f)) (a.1).0 h (λ u q rest d there at more.
+        operand_popped store kind.Integer x left 0 (Some u) rest (λ ps first rest. done (of_integers f) (q ∷ ps) first rest) a.0 more (λ v p rest e here at most. two v p q rest (shape P p kind.Integer e) (shape P q kind.Integer d) most))
       where
         two : (v : Val) (p q : Plain) (rest : List Val) → Shape P p kind.Integer → Shape P q kind.Integer → HandsFine s (see g o) m j left rest → Goes P (done (of_integers f) (q ∷ p ∷ []) (Some v) rest)
         two v _ _ rest (an_int b) (an_int c) more = finish (f b c o.store) (Some v) None rest (all b c o.store) tt more
-    took_all (of_text f) (x ∷ []) vals all a h = operand_popped kind.Text x left 0 None vals (done (of_text f)) a.0 h (λ v p rest e here at more. one v p rest here at (shape P p kind.Text e) more)
+    took_all (of_text f) (x ∷ []) vals all a h = operand_popped store kind.Text x left 0 None vals (done (of_text f)) a.0 h (λ v p rest e here at more. one v p rest here at (shape P p kind.Text e) more)
       where
         one : (v : Val) (p : Plain) (rest : List Val) → HandFine s (see g o) m j x v → ReadAt v p → Shape P p kind.Text → HandsFine s (see g o) m j left rest → Goes P (done (of_text f) (p ∷ []) (Some v) rest)
         one v _ rest here at (a_text t) more = finish (f t o.store) (Some v) (Some t) rest (all t o.store) (x, a.0, here, at) more
     took_all (of_text_and_integer f) (x ∷ y ∷ []) vals all a h =
-        operand_popped kind.Integer y (x ∷ left) 1 None vals (done (of_text_and_integer f)) (a.1).0 h (λ u q rest d there at more.
-        operand_popped kind.Text x left 0 (Some u) rest (λ ps first rest. done (of_text_and_integer f) (q ∷ ps) first rest) a.0 more (λ v p rest e here at most. two v p q rest here at (shape P p kind.Text e) (shape P q kind.Integer d) most))
+        operand_popped store kind.Integer y (x ∷ left) 1 None vals (done (of_text_and_integer f)) (a.1).0 h (λ u q rest d there at more.
+        operand_popped store kind.Text x left 0 (Some u) rest (λ ps first rest. done (of_text_and_integer f) (q ∷ ps) first rest) a.0 more (λ v p rest e here at most. two v p q rest here at (shape P p kind.Text e) (shape P q kind.Integer d) most))
       where
         two : (v : Val) (p q : Plain) (rest : List Val) → HandFine s (see g o) m j x v → ReadAt v p → Shape P p kind.Text → Shape P q kind.Integer → HandsFine s (see g o) m j left rest → Goes P (done (of_text_and_integer f) (q ∷ p ∷ []) (Some v) rest)
         two v _ _ rest here at (a_text t) (an_int c) more = finish (f t c o.store) (Some v) (Some t) rest (all t c o.store) (x, a.0, here, at) more
     took_all (of_text_and_character f) (x ∷ y ∷ []) vals all a h =
-        operand_popped kind.Character y (x ∷ left) 1 None vals (done (of_text_and_character f)) (a.1).0 h (λ u q rest d there at more.
-        operand_popped kind.Text x left 0 (Some u) rest (λ ps first rest. done (of_text_and_character f) (q ∷ ps) first rest) a.0 more (λ v p rest e here at most. two v p q rest here at (shape P p kind.Text e) (shape P q kind.Character d) most))
+        operand_popped store kind.Character y (x ∷ left) 1 None vals (done (of_text_and_character f)) (a.1).0 h (λ u q rest d there at more.
+        operand_popped store kind.Text x left 0 (Some u) rest (λ ps first rest. done (of_text_and_character f) (q ∷ ps) first rest) a.0 more (λ v p rest e here at most. two v p q rest here at (shape P p kind.Text e) (shape P q kind.Character d) most))
       where
         two : (v : Val) (p q : Plain) (rest : List Val) → HandFine s (see g o) m j x v → ReadAt v p → Shape P p kind.Text → Shape P q kind.Character → HandsFine s (see g o) m j left rest → Goes P (done (of_text_and_character f) (q ∷ p ∷ []) (Some v) rest)
         two v _ _ rest here at (a_text t) (a_char c) more = finish (f t c o.store) (Some v) (Some t) rest (all t c o.store) (x, a.0, here, at) more
     took_all (of_text_and_integers f) (x ∷ y ∷ z ∷ []) vals all a h =
-        operand_popped kind.Integer z (y ∷ x ∷ left) 2 None vals (done (of_text_and_integers f)) ((a.1).1).0 h (λ u r rest c there at more.
-        operand_popped kind.Integer y (x ∷ left) 1 (Some u) rest (λ ps first rest. done (of_text_and_integers f) (r ∷ ps) first rest) (a.1).0 more (λ u q rest d there at most.
-        operand_popped kind.Text x left 0 (Some u) rest (λ ps first rest. done (of_text_and_integers f) (r ∷ q ∷ ps) first rest) a.0 most (λ v p rest e here at all_more. three v p q r rest here at (shape P p kind.Text e) (shape P q kind.Integer d) (shape P r kind.Integer c) all_more)))
+        operand_popped store kind.Integer z (y ∷ x ∷ left) 2 None vals (done (of_text_and_integers f)) ((a.1).1).0 h (λ u r rest c there at more.
+        operand_popped store kind.Integer y (x ∷ left) 1 (Some u) rest (λ ps first rest. done (of_text_and_integers f) (r ∷ ps) first rest) (a.1).0 more (λ u q rest d there at most.
+        operand_popped store kind.Text x left 0 (Some u) rest (λ ps first rest. done (of_text_and_integers f) (r ∷ q ∷ ps) first rest) a.0 most (λ v p rest e here at all_more. three v p q r rest here at (shape P p kind.Text e) (shape P q kind.Integer d) (shape P r kind.Integer c) all_more)))
       where
         three : (v : Val) (p q r : Plain) (rest : List Val) → HandFine s (see g o) m j x v → ReadAt v p → Shape P p kind.Text → Shape P q kind.Integer → Shape P r kind.Integer → HandsFine s (see g o) m j left rest → Goes P (done (of_text_and_integers f) (r ∷ q ∷ p ∷ []) (Some v) rest)
         three v _ _ _ rest here at (a_text t) (an_int b) (an_int c) more = finish (f t b c o.store) (Some v) (Some t) rest (all t b c o.store) (x, a.0, here, at) more
@@ -376,13 +376,13 @@ module _ {S : Type 0} (P : World → S → Type 0) (s : Source) (o : World) (g :
     took_all (of_text_and_integers f) (x ∷ y ∷ []) vals all a h = absurd (a.1).1
     took_all (of_text_and_integers f) (x ∷ y ∷ z ∷ w ∷ xs) vals all a h = absurd ((a.1).1).1
 
-module _ (P : World → Configuration → Type 0) (s : Source) (o : World) (g : List Sight) (m : Instances) (j : ℕ) where
+module _ (P : World → Configuration → Type 0) (s : Source) (o : World) (g : List Sight) (m : Instances) (j : ℕ) (fine : StoreFine s (see g o) m) where
   pub performed : (l : Limits) (line : ℕ) (n : Standard) (left xs : List Kinds) (vals : List Val) (f : World → Instances → Option Plain → List Val → Run Configuration) → name_runs n ≡ true → OperandsAre (operands_of (row_of n).function) xs → HandsFine s (see g o) m j (pushed xs left) vals
       → ((t w : ℕ) (store : Store) (first : Option Val) (moved : Option TextVal) (v : Option Plain) (rest : List Val) → AllBack P s o g m j store first moved → ValueIs (standard_kind (row_of n).result) v → HandsFine s (see g o) m j left rest → Goes P (putting_back put_back first moved (record (ran o t w) { store = store }) m (λ p m. f p m v rest)))
       → Goes P (performing operand put_back l line n vals o m f)
   unfolding performing standard_effect
   performed l line n left xs vals f runs are h goes =
-      took_all P s o g m j left (λ e first rest. taking l line e.wanted o (λ p. computing line e.answer (record p { store = e.store }) (λ value. putting_back put_back first e.moved (record p { store = e.store }) m (λ p m. f p m value rest)))) (standard_kind (row_of n).result)
+      took_all P s o g m j fine left (λ e first rest. taking l line e.wanted o (λ p. computing line e.answer (record p { store = e.store }) (λ value. putting_back put_back first e.moved (record p { store = e.store }) m (λ p m. f p m value rest)))) (standard_kind (row_of n).result)
       (λ e first rest is back more.
       took P l line e.wanted o (λ p. computing line e.answer (record p { store = e.store }) (λ value. putting_back put_back first e.moved (record p { store = e.store }) m (λ p m. f p m value rest))) (λ t w.
       computed P line e.answer (record (ran o t w) { store = e.store }) (λ value. putting_back put_back first e.moved (record (ran o t w) { store = e.store }) m (λ p m. f p m value rest)) (λ v d. goes t w e.store first e.moved v rest back (is v d) more)))

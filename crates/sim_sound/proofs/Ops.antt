@@ -16,15 +16,15 @@ use Rattle.sim_code.specs.Outcome.{ArrayOf as OneArray, Run, World}
 use Rattle.sim_meaning.specs.Pending.{Activation, Address, AgainOp, ArrayOp, ArrayValue, Cell, Configuration, CopyOp, Declared, Do, DropOp, ElementOp, Eval, FetchOp, GiveOp, Held, IfOp, Instances, Item, Key, Link, Of, OneOp, Op, PastOp, ProcedureValue, ShareOp, StandardOp, StepOp, StoreOp, Target, Term, ToAddress, ToCell, Tree, TwoOp, Val, array_in, cell, cell_set, held, place_in, plain}
 use Rattle.sim_meaning.specs.Steps.{go, of_plain, put_back, putting, value_at}
 use Rattle.sim_sound.specs.Typed.{Among, ArrayOf, Simply, Typed, first, key_holds, later}
-use Rattle.sim_sound.proofs.Cells.{cell_put, target_cell}
+use Rattle.sim_sound.proofs.Cells.{cell_put, fine_at, target_cell}
 use Rattle.sim_sound.proofs.Changes.{changed, copies_element, held_now, held_stays, later_element}
 use Rattle.sim_sound.proofs.Evals.{IsFine, Work, goes_on}
-use Rattle.sim_sound.proofs.Later.{Copies, Later, begun_later, chain_later, enclosed_later, hands_later, later_under, work_later}
+use Rattle.sim_sound.proofs.Later.{Copies, Later, chain_later, hands_later, later_under, store_later, work_later}
 use Rattle.sim_sound.proofs.Lifts.{Goes, had, ran}
 use Rattle.sim_sound.proofs.Names.{AllBack, element_there, image_there, plain_of}
 use Rattle.sim_sound.proofs.Lists.{if_true, no_some, set_len}
-use Rattle.sim_sound.proofs.Moves.{later_cell, other, own_set, set_in}
-use Rattle.sim_sound.proofs.Sound.{AddressOf, AllArrays, ArrayFine, ArrayStored, Begun, CellTarget, ChainFine, Copied, ElementFine, Fine, HandFine, HandsFine, ImageAddress, Kinds, Leads, LinkTo, Made, OpFine, OperandIs, Own, Sight, StoreFine, TargetFine, TargetsFine, ValFine, Value, Whole, WorkFine, array_stored, given, held_kinds, integers, runs, see, simple, value_stored}
+use Rattle.sim_sound.proofs.Moves.{SameOnes, later_cell, operates_on, other, same_cell, same_ones, set_in, set_lives, store_cell}
+use Rattle.sim_sound.proofs.Sound.{AddressOf, AllArrays, ArrayFine, ArrayStored, Begun, CellTarget, ChainFine, Copied, ElementFine, Fine, HandFine, HandsFine, ImageAddress, Kinds, Leads, LinkTo, Made, OperandIs, Operates, Present, Sight, StoreFine, TargetFine, TargetsFine, ValFine, Value, Whole, WorkFine, array_stored, given, held_kinds, integers, runs, see, simple, value_stored}
 
 among_cases : (e : DeclNo) (xs : List DeclNo) → Among e xs → (d : DeclNo) (ds : List DeclNo) → xs ≡ d ∷ ds → (e ≡ d) ⊎ Among e ds
 among_cases e xs (first {ds = es}) d ds f = inl (cc)
@@ -33,9 +33,9 @@ among_cases e xs (later {e = x} {ds = es} a) d ds f = inr (subst (Among e) (let 
 abbrev pub with_arrays : World → List OneArray → World
 with_arrays o a = record o { arrays = a }
 
-module _ (s : Source) (ok : Typed s) (l : Limits) (o : World) (g : List Sight) (long : length g ≡ length o.arrays) (m : Instances) (i t : ℕ) (rest : List Activation) (lt : i < length m.instances) where
+module _ (s : Source) (ok : Typed s) (l : Limits) (o : World) (g : List Sight) (long : length g ≡ length o.arrays) (m : Instances) (i t : ℕ) (rest : List Activation) (top : Operates m i rest) where
   abbrev Wk : List Item → List DeclNo → List Kinds → Type 0
-  Wk w todo ks = Work s o g long m i t rest lt w todo ks
+  Wk w todo ks = Work s o g long m i t rest top w todo ks
 
   abbrev Hd : List Kinds → List Val → Type 0
   Hd ks vals = HandsFine s (see g o) m i ks vals
@@ -47,24 +47,24 @@ module _ (s : Source) (ok : Typed s) (l : Limits) (o : World) (g : List Sight) (
   Bg todo = Begun s (see g o) m i t todo
 
   -- where a store is later, with all else as it was
-  module _ (g' : List Sight) (o' : World) (long' : length g' ≡ length o'.arrays) (n : Instances) (e : Later s (see g o) m (see g' o') n (length m.instances)) (copies : (j d : ℕ) → j < length m.instances → Copies (see g o) (see g' o') j d) (same : length n.instances ≡ length m.instances) where
+  module _ (g' : List Sight) (o' : World) (long' : length g' ≡ length o'.arrays) (n : Instances) (e : Later s (see g o) m (see g' o') n (length m.instances)) (copies : (j d : ℕ) → j < length m.instances → Copies (see g o) (see g' o') j d) (same : SameOnes m n) (store : StoreFine s (see g' o') n) where
     under : Later s (see g o) m (see g' o') n i
-    under = later_under s (see g o) m (see g' o') n (length m.instances) i (omega (arith, lt)) e
+    under = later_under s (see g o) m (see g' o') n (length m.instances) i (let less = top.before in omega (arith, less)) e
 
     below_later : (v : Option Kinds) → ChainFine s (see g o) m i rest v → ChainFine s (see g' o') n i rest v
-    below_later v c = chain_later s (see g o) m (see g' o') n i under (λ j d less. copies j d (omega (arith, less, lt))) rest v c
+    below_later v c = chain_later s (see g o) m (see g' o') n i under (λ j d less. copies j d (let up = top.before in omega (arith, less, up))) rest v c
 
     pub later_work : (w : List Item) (todo : List DeclNo) (ks : List Kinds) → Wk w todo ks → WorkFine s (see g' o') n (λ v. ChainFine s (see g' o') n i rest v) (rest ≡ []) i t w todo ks
-    later_work w todo ks a = work_later s (see g o) m (see g' o') n (length m.instances) e i t lt (rest ≡ []) (λ v. ChainFine s (see g o) m i rest v) (λ v. ChainFine s (see g' o') n i rest v) below_later w todo ks a
+    later_work w todo ks a = work_later s (see g o) m (see g' o') n (length m.instances) e i t top.before (rest ≡ []) (λ v. ChainFine s (see g o) m i rest v) (λ v. ChainFine s (see g' o') n i rest v) below_later w todo ks a
 
     pub later_hands : (ks : List Kinds) (vals : List Val) → Hd ks vals → HandsFine s (see g' o') n i ks vals
-    later_hands ks vals h = hands_later s (see g o) m (see g' o') n (length m.instances) e i lt ks vals (copies i (length vals) lt) h
+    later_hands ks vals h = hands_later s (see g o) m (see g' o') n (length m.instances) e i top.before ks vals (copies i (length vals) top.before) h
 
-    pub later_with : (w : List Item) (vals : List Val) (todo' : List DeclNo) (ks : List Kinds) → Begun s (see g' o') n i t todo' → HandsFine s (see g' o') n i ks vals → Wk w todo' ks → IsFine s o' (record { chain = record { instance = i; work = w; values = vals } ∷ rest; memory = n })
-    later_with w vals todo' ks b h work = goes_on s o' g' long' n i t rest (subst (λ z. i < z) (sym same) lt) w vals todo' ks b h (later_work w todo' ks work)
+    pub later_with : (w : List Item) (vals : List Val) (todo' : List DeclNo) (ks : List Kinds) → Present s n i t todo' → HandsFine s (see g' o') n i ks vals → Wk w todo' ks → IsFine s o' (record { chain = record { instance = i; work = w; values = vals } ∷ rest; memory = n })
+    later_with w vals todo' ks p h work = goes_on s o' g' long' n i t rest (operates_on m n i rest same top) w vals todo' ks (record { store = store; here = p }) h (later_work w todo' ks work)
 
     pub later_goes : (w : List Item) (vals : List Val) (todo : List DeclNo) (ks : List Kinds) → Bg todo → Hd ks vals → Wk w todo ks → IsFine s o' (record { chain = record { instance = i; work = w; values = vals } ∷ rest; memory = n })
-    later_goes w vals todo ks b h work = later_with w vals todo ks (begun_later s (see g o) m (see g' o') n (length m.instances) e i t todo lt b) (later_hands ks vals h) work
+    later_goes w vals todo ks b h work = later_with w vals todo ks (e.present i t todo top.before b.here) (later_hands ks vals h) work
 
   -- arrays stay as they are
   same_copies : (j d : ℕ) → j < length m.instances → Copies (see g o) (see g o) j d
@@ -74,11 +74,12 @@ module _ (s : Source) (ok : Typed s) (l : Limits) (o : World) (g : List Sight) (
 
   pub set_goes : (j u : ℕ) (key : Key) (k : Kind) (v : Val) (w : List Item) (vals : List Val) (todo : List DeclNo) (ks : List Kinds) → CellTarget s (see g o) m i j key k → ValFine (see g o) i (Simply k) v → Bg todo → Hd ks vals → Wk w todo ks → Go (having (cell_set m j key v) o (λ m. go o m i w vals rest))
   set_goes j u key k v w vals todo ks c fine b h work =
-      let own = (c.whole).own in
-      let x = (c.whole).now in
-      let r = cell_put s (see g o) m j c.around x key v own c.there in
-      had (IsFine s) (cell_set m j key v) (set_in s (see g o) m j c.around x own key (Simply k) v c.holds (simple_here v fine) r.0 r.1) o (λ m. go o m i w vals rest) r.2
-      (later_goes g o long (set_in s (see g o) m j c.around x own key (Simply k) v c.holds (simple_here v fine) r.0 r.1) (later_cell s (see g o) m j c.around x own key (Simply k) v c.holds (simple_here v fine) r.0 r.1 (length m.instances)) same_copies (set_len m.instances j (record x { cells = r.0 })) w vals todo ks b h work)
+      let p = c.whole in
+      let x = p.now in
+      let f = fine_at s (see g o) m j c.around [] b.store p in
+      let r = cell_put s (see g o) m j c.around x key v p.lives f c.there in
+      had (IsFine s) (cell_set m j key v) (set_in s (see g o) m j c.around x p.lives p.of_text f key (Simply k) v c.holds (simple_here v fine) r.0 r.1) o (λ m. go o m i w vals rest) r.2
+      (later_goes g o long (set_in s (see g o) m j c.around x p.lives p.of_text f key (Simply k) v c.holds (simple_here v fine) r.0 r.1) (later_cell s (see g o) m j c.around x p.lives p.of_text f key (Simply k) v c.holds (simple_here v fine) r.0 r.1 (length m.instances)) same_copies (same_cell s (see g o) m j c.around x p.lives p.of_text f key (Simply k) v c.holds (simple_here v fine) r.0 r.1) (store_cell s (see g o) m j c.around x p.lives p.of_text f key (Simply k) v c.holds (simple_here v fine) r.0 r.1 b.store) w vals todo ks b h work)
     where
       simple_here : (v : Val) → ValFine (see g o) i (Simply k) v → ValFine (see g o) j (Simply k) v
       simple_here (Of p) a = a
@@ -97,19 +98,23 @@ module _ (s : Source) (ok : Typed s) (l : Limits) (o : World) (g : List Sight) (
 
   pub stored_array : (d : DeclNo) (k : Kind) (v : Val) (w : List Item) (vals : List Val) (todo todo' : List DeclNo) (ks : List Kinds) → key_holds s t (Declared d.0) ≡ Some (ArrayOf k) → Rattle.sim_sound.proofs.Sound.KeyAmong (Declared d.0) (Rattle.sim_sound.proofs.Sound.keys_in s t (Rattle.sim_meaning.specs.Texts.text s t)) → todo ≡ d ∷ todo' → ValFine (see g o) i (ArrayOf k) v → Bg todo → Hd ks vals → Wk w todo' ks → Go (having (cell_set m i (Declared d.0) v) o (λ m. go o m i w vals rest))
   stored_array d k v w vals todo todo' ks holds there is fine b h work =
-      let own = b.own in
-      let x = b.now in
-      let r = cell_put s (see g o) m i t x (Declared d.0) v own there in
-      let n = set_in s (see g o) m i t x own (Declared d.0) (ArrayOf k) v holds fine r.0 r.1 in
-      let e = later_cell s (see g o) m i t x own (Declared d.0) (ArrayOf k) v holds fine r.0 r.1 (length m.instances) in
+      let p = b.here in
+      let x = p.now in
+      let f = fine_at s (see g o) m i t todo b.store p in
+      let r = cell_put s (see g o) m i t x (Declared d.0) v p.lives f there in
+      let n = set_in s (see g o) m i t x p.lives p.of_text f (Declared d.0) (ArrayOf k) v holds fine r.0 r.1 in
+      let e = later_cell s (see g o) m i t x p.lives p.of_text f (Declared d.0) (ArrayOf k) v holds fine r.0 r.1 (length m.instances) in
+      let same = same_cell s (see g o) m i t x p.lives p.of_text f (Declared d.0) (ArrayOf k) v holds fine r.0 r.1 in
+      let store = store_cell s (see g o) m i t x p.lives p.of_text f (Declared d.0) (ArrayOf k) v holds fine r.0 r.1 b.store in
       had (IsFine s) (cell_set m i (Declared d.0) v) n o (λ m. go o m i w vals rest) r.2
-      (later_with g o long n e same_copies (set_len m.instances i (record x { cells = r.0 })) w vals todo' ks (record {
-        now = other s (see g o) m i t x own (Declared d.0) (ArrayOf k) v holds fine r.0 r.1;
-        own = own_set s (see g o) m i t x own (Declared d.0) (ArrayOf k) v holds fine r.0 r.1;
-        made = made_now todo todo' d v x.cells r.0 r.1 is b.made;
-        out = enclosed_later s (see g o) m (see g o) n (length m.instances) e i t x (other s (see g o) m i t x own (Declared d.0) (ArrayOf k) v holds fine r.0 r.1) refl lt b.out;
-        parked = b.parked;
-      }) (later_hands g o long n e same_copies (set_len m.instances i (record x { cells = r.0 })) ks vals h) work)
+      (later_with g o long n e same_copies same store w vals todo' ks (record {
+        now = other s (see g o) m i t x p.lives p.of_text f (Declared d.0) (ArrayOf k) v holds fine r.0 r.1;
+        lives = set_lives s (see g o) m i t x p.lives p.of_text f (Declared d.0) (ArrayOf k) v holds fine r.0 r.1;
+        of_text = p.of_text;
+        words = p.words;
+        has_text = p.has_text;
+        made = made_now todo todo' d v x.cells r.0 r.1 is p.made;
+      }) (later_hands g o long n e same_copies same store ks vals h) work)
 
   -- ---- an element is set
 
@@ -119,7 +124,7 @@ module _ (s : Source) (ok : Typed s) (l : Limits) (o : World) (g : List Sight) (
       let new = changed (see g o) i k a n p f is in
       let set : element_set o a n p ≡ Some (with_arrays o new.real) = ap (λ z. element_set_in o a n p z (element o a n)) (f.array).lives ∙ ap (λ z. element_set_in o a n p (Some (f.array).it) z) q.1 in
       had (IsFine s) (element_set o a n p) (with_arrays o new.real) o (λ o. go o m i w vals rest) set
-      (later_goes g (with_arrays o new.real) (long ∙ sym (set_len o.arrays a (Rattle.sim_sound.proofs.Changes.new (see g o) i k a n p f is))) m (later_element (see g o) i k a n p f is s m (length m.instances)) (λ j d less. copies_element (see g o) i k a n p f is j d) refl w vals todo ks b h work)
+      (later_goes g (with_arrays o new.real) (long ∙ sym (set_len o.arrays a (Rattle.sim_sound.proofs.Changes.new (see g o) i k a n p f is))) m (later_element (see g o) i k a n p f is s m (length m.instances)) (λ j d less. copies_element (see g o) i k a n p f is j d) (same_ones m) (store_later s (see g o) m new (later_element (see g o) i k a n p f is s m (length m.instances)) b.store) w vals todo ks b h work)
 
   pub putting_goes : (k : Kind) (p v : Val) (w : List Item) (vals : List Val) (todo : List DeclNo) (ks : List Kinds) → HandFine s (see g o) m i (AddressOf k) p → ValFine (see g o) i (Simply k) v → Bg todo → Hd ks vals → Wk w todo ks → Go (having (place_in p) o (λ p. putting p v o m (λ o m. go o m i w vals rest)))
   unfolding putting
@@ -146,16 +151,16 @@ module _ (s : Source) (ok : Typed s) (l : Limits) (o : World) (g : List Sight) (
   fetched_goes k (AddressOf k') (Address (ElementPlace a n None)) w vals todo ks is f b h work =
       let q = element_there g o i a n k' f in
       had (IsFine s) (Some (ElementPlace a n None)) (ElementPlace a n None) o (λ p. having (value_at o m p) o (λ v. go o m i w (v ∷ vals) rest)) refl
-      (had (IsFine s) (of_plain (element o a n)) (Of q.0) o (λ v. go o m i w (v ∷ vals) rest) (ap of_plain q.1) (goes_on s o g long m i t rest lt w (Of q.0 ∷ vals) todo (Value (Simply k) ∷ ks) b (q.2 ∙ is, h) work))
+      (had (IsFine s) (of_plain (element o a n)) (Of q.0) o (λ v. go o m i w (v ∷ vals) rest) (ap of_plain q.1) (goes_on s o g long m i t rest top w (Of q.0 ∷ vals) todo (Value (Simply k) ∷ ks) b (q.2 ∙ is, h) work))
   fetched_goes k (AddressOf k') (Address (CellPlace e key None)) w vals todo ks is c b h work =
-      let q = target_cell s (see g o) m i e key k' c in
+      let q = target_cell s (see g o) m i e key k' b.store c in
       let p = plain_of s g o e k' q.0 q.2 in
       had (IsFine s) (Some (CellPlace e key None)) (CellPlace e key None) o (λ p. having (value_at o m p) o (λ v. go o m i w (v ∷ vals) rest)) refl
-      (had (IsFine s) (cell m e key) (Of p.0) o (λ v. go o m i w (v ∷ vals) rest) (q.1 ∙ ap Some p.1) (goes_on s o g long m i t rest lt w (Of p.0 ∷ vals) todo (Value (Simply k) ∷ ks) b (p.2 ∙ is, h) work))
+      (had (IsFine s) (cell m e key) (Of p.0) o (λ v. go o m i w (v ∷ vals) rest) (q.1 ∙ ap Some p.1) (goes_on s o g long m i t rest top w (Of p.0 ∷ vals) todo (Value (Simply k) ∷ ks) b (p.2 ∙ is, h) work))
   fetched_goes k ImageAddress (Address (ImagePlace n)) w vals todo ks is f b h work =
       let x = image_there o.store n f in
       had (IsFine s) (Some (ImagePlace n)) (ImagePlace n) o (λ p. having (value_at o m p) o (λ v. go o m i w (v ∷ vals) rest)) refl
-      (had (IsFine s) (of_plain (image_value o n)) (Of (Text x.0)) o (λ v. go o m i w (v ∷ vals) rest) (ap (λ z. of_plain (text_of z)) x.1) (goes_on s o g long m i t rest lt w (Of (Text x.0) ∷ vals) todo (Value (Simply k) ∷ ks) b (sym is, h) work))
+      (had (IsFine s) (of_plain (image_value o n)) (Of (Text x.0)) o (λ v. go o m i w (v ∷ vals) rest) (ap (λ z. of_plain (text_of z)) x.1) (goes_on s o g long m i t rest top w (Of (Text x.0) ∷ vals) todo (Value (Simply k) ∷ ks) b (sym is, h) work))
   fetched_goes k (AddressOf k') (Address (ElementPlace a n (Some c))) w vals todo ks is f b h work = absurd f
   fetched_goes k (AddressOf k') (Address (CellPlace a n (Some c))) w vals todo ks is f b h work = absurd f
   fetched_goes k (AddressOf k') (Address (ImagePlace a)) w vals todo ks is f b h work = absurd f
@@ -177,13 +182,13 @@ module _ (s : Source) (ok : Typed s) (l : Limits) (o : World) (g : List Sight) (
 
 -- ---- a text that is put back to where it came from
 
-module _ (s : Source) (ok : Typed s) (l : Limits) (o : World) (g : List Sight) (long : length g ≡ length o.arrays) (m : Instances) (i t : ℕ) (rest : List Activation) (lt : i < length m.instances) (ticks words : ℕ) (store : Store) (w : List Item) (vals : List Val) (todo : List DeclNo) (ks : List Kinds) (b : Begun s (see g o) m i t todo) (h : HandsFine s (see g o) m i ks vals) (work : Work s o g long m i t rest lt w todo ks) where
+module _ (s : Source) (ok : Typed s) (l : Limits) (o : World) (g : List Sight) (long : length g ≡ length o.arrays) (m : Instances) (i t : ℕ) (rest : List Activation) (top : Operates m i rest) (ticks words : ℕ) (store : Store) (w : List Item) (vals : List Val) (todo : List DeclNo) (ks : List Kinds) (b : Begun s (see g o) m i t todo) (h : HandsFine s (see g o) m i ks vals) (work : Work s o g long m i t rest top w todo ks) where
   -- the world then
   abbrev Then : World
   Then = record (ran o ticks words) { store = store }
 
   stays_on : Goes (IsFine s) (go Then m i w vals rest)
-  stays_on = goes_on s o g long m i t rest lt w vals todo ks b h work
+  stays_on = goes_on s o g long m i t rest top w vals todo ks b h work
 
   put_text : (v : Val) (x : TextVal) (from : Kinds) → OperandIs kind.Text from → HandFine s (see g o) m i from v → ((n : ℕ) → v ≡ Address (ImagePlace n) → (y : TextVal) × (image_at store n ≡ Some y) × (same_text y x ≡ true)) → Goes (IsFine s) (put_back v x Then m (λ p m. go p m i w vals rest))
   unfolding put_back putting having
@@ -192,8 +197,8 @@ module _ (s : Source) (ok : Typed s) (l : Limits) (o : World) (g : List Sight) (
   put_text (ArrayValue z) x from is a image = stays_on
   put_text (ProcedureValue z y) x from is a image = stays_on
   put_text (Tree z) x from is a image = stays_on
-  put_text (Address (ElementPlace n e None)) x (AddressOf k) is a image = putting_goes s ok l Then g long m i t rest lt k (Address (ElementPlace n e None)) (Of (Text x)) w vals todo ks a (sym is.1) b h work
-  put_text (Address (CellPlace n e None)) x (AddressOf k) is a image = putting_goes s ok l Then g long m i t rest lt k (Address (CellPlace n e None)) (Of (Text x)) w vals todo ks a (sym is.1) b h work
+  put_text (Address (ElementPlace n e None)) x (AddressOf k) is a image = putting_goes s ok l Then g long m i t rest top k (Address (ElementPlace n e None)) (Of (Text x)) w vals todo ks a (sym is.1) b h work
+  put_text (Address (CellPlace n e None)) x (AddressOf k) is a image = putting_goes s ok l Then g long m i t rest top k (Address (CellPlace n e None)) (Of (Text x)) w vals todo ks a (sym is.1) b h work
   put_text (Address (ImagePlace n)) x ImageAddress is a image =
       let y = image n refl in
       had (IsFine s) (image_set Then n (Text x)) (record Then { store = with_image store n x }) Then (λ p. go p m i w vals rest) (ap (λ z. image_moved Then n z (Some x)) y.1 ∙ if_true (same_text y.0 x) (Some (record Then { store = with_image store n x })) None y.2) stays_on

@@ -15,12 +15,13 @@ use Rattle.sim_meaning.specs.Entries.{cells_from, first_cells, numbers_of, with_
 use Rattle.sim_meaning.specs.Pending.{Declared, Held, Instances, Key, Result}
 use Rattle.sim_meaning.specs.Texts.{BlockText, ClassText, ConnectionText, PrefixedText, ProcedureText, Text, text}
 use Rattle.sim_sound.specs.Typed.{Among, Around, Holds, Sees, TextTyped, Typed, entry_holds, first, further, itself, later}
-use Rattle.sim_sound.proofs.Sound.{AllArrays, Begun, Enclosed, KeyAmong, Own, Whole, alone, first_key, key_of, keys_in, later_key, within}
+use Rattle.sim_sound.proofs.Sound.{AllArrays, Begun, Enclosed, InstanceFine, KeyAmong, Present, StoreFine, Whole, alone, first_key, key_of, keys_in, later_key, within}
+use Rattle.sim_sound.proofs.Cells.{fine_at}
 use Rattle.sim_sound.proofs.Lists.{equal_numbers, if_false, if_true, other_numbers, same_some}
 
 -- what is seen from somewhere is found from the instance i
-abbrev pub Reaches : Source → AllArrays → Instances → ℕ → Option ℕ → Type 0
-Reaches s o m i from = (u : ℕ) → Sees s.tables from u → (j : ℕ) × (at_level m (level_of s u) i ≡ Some j) × (j ≤ i) × Whole s o m j u
+abbrev pub Reaches : Source → Instances → ℕ → Option ℕ → Type 0
+Reaches s m i from = (u : ℕ) → Sees s.tables from u → (j : ℕ) × (at_level m (level_of s u) i ≡ Some j) × (j ≤ i) × Whole s m j u
 
 module _ (s : Source) (ok : Typed s) (o : AllArrays) (m : Instances) where
   outward_levels : {t u : ℕ} → Around s.tables t u → level_of s u ≤ level_of s t
@@ -39,40 +40,43 @@ module _ (s : Source) (ok : Typed s) (o : AllArrays) (m : Instances) where
     pub instance : ℕ
     pub found : level_within n m (level_of s u) i ≡ Some instance
     pub before : instance ≤ i
-    pub whole : Whole s o m instance u
+    pub whole : Whole s m instance u
 
-  -- one step outward
-  outside : (n i t v u : ℕ) (todo : List DeclNo) → i < suc n → encloser s.tables t ≡ Some v → Around s.tables v u → Begun s o m i t todo → ((e : ℕ) → e < n → Whole s o m e v → Found n e u) → Found (suc n) i u
-  outside n i t v u todo lt e ins b f = by_out b.out
-    where
-      by_out : Enclosed s o m i t b.now → Found (suc n) i u
-      by_out (alone none around) = absurd (cc)
-      by_out (within {e = out} {u = w} {y = y} is around less own made inner) =
-          let same : w ≡ v = same_some (encloser s.tables t) w v around e in
-          let whole : Whole s o m out v = subst (Whole s o m out) same (record { now = y; own = own; made = made; out = inner; parked = b.parked }) in
-          let y' = f out (omega (arith, lt, less)) whole in
-          let deeper = ok.levels t v e in
-          let above = outward_levels ins in
-          let level = (b.own).level in
-          let apart : (b.now).level ≢ level_of s u = λ same. (let g : ⊥ = omega (arith, same, level, deeper, above) in g) in
-          record { instance = y'.instance; found = further_found n (level_of s u) i out b.now (b.own).lives apart is ∙ y'.found; before = (let c = y'.before in omega (arith, c, less)); whole = y'.whole }
+  module _ (store : StoreFine s o m) where
+    -- one step outward
+    outside : (n i t v u : ℕ) (todo : List DeclNo) → i < suc n → encloser s.tables t ≡ Some v → Around s.tables v u → Present s m i t todo → ((e : ℕ) → e < n → Whole s m e v → Found n e u) → Found (suc n) i u
+    outside n i t v u todo lt e ins p f = by_out (fine_at s o m i t todo store p)
+      where
+        by_out : InstanceFine s o m i t p.now → Found (suc n) i u
+        by_out x = further_out x.out
+          where
+            further_out : Enclosed s m i t (p.now).encloser → Found (suc n) i u
+            further_out (alone none around) = absurd (cc)
+            further_out (within {e = out} {u = w} is around less whole) =
+                let same : w ≡ v = same_some (encloser s.tables t) w v around e in
+                let y' = f out (omega (arith, lt, less)) (subst (Whole s m out) same whole) in
+                let deeper = ok.levels t v e in
+                let above = outward_levels ins in
+                let level = x.level in
+                let apart : (p.now).level ≢ level_of s u = λ same. (let g : ⊥ = omega (arith, same, level, deeper, above) in g) in
+                record { instance = y'.instance; found = further_found n (level_of s u) i out p.now p.lives apart is ∙ y'.found; before = (let c = y'.before in omega (arith, c, less)); whole = y'.whole }
 
-  inside : (n i : ℕ) {t u : ℕ} → i < n → Around s.tables t u → Whole s o m i t → Found n i u
-  inside zero i lt ins w = absurd (omega (arith, lt))
-  inside (suc n) i lt (itself {t = t}) w = record { instance = i; found = here_found n (level_of s t) i w.now (w.own).lives (w.own).level; before = omega arith; whole = w }
-  inside (suc n) i lt (further {t = t} {u = v} {k = u} e ins) w = outside n i t v u [] lt e ins w (λ j less b. inside n j less ins b)
+    inside : (n i : ℕ) {t u : ℕ} → i < n → Around s.tables t u → Whole s m i t → Found n i u
+    inside zero i lt ins w = absurd (omega (arith, lt))
+    inside (suc n) i lt (itself {t = t}) w = record { instance = i; found = here_found n (level_of s t) i w.now w.lives (fine_at s o m i t [] store w).level; before = omega arith; whole = w }
+    inside (suc n) i lt (further {t = t} {u = v} {k = u} e ins) w = outside n i t v u [] lt e ins w (λ j less b. inside n j less ins b)
 
-  pub reaches_whole : (i t : ℕ) → Whole s o m i t → Reaches s o m i (Some t)
+  pub reaches_whole : (i t : ℕ) → Begun s o m i t [] → Reaches s m i (Some t)
   unfolding at_level
-  reaches_whole i t w u ins = let x = inside (suc i) i (omega arith) ins w in (x.instance, x.found, x.before, x.whole)
+  reaches_whole i t b u ins = let x = inside b.store (suc i) i (omega arith) ins b.here in (x.instance, x.found, x.before, x.whole)
 
-  pub reaches_around : (i t : ℕ) (todo : List DeclNo) → Begun s o m i t todo → Reaches s o m i (encloser s.tables t)
+  pub reaches_around : (i t : ℕ) (todo : List DeclNo) → Begun s o m i t todo → Reaches s m i (encloser s.tables t)
   unfolding at_level
   reaches_around i t todo b u sees = by_from (encloser s.tables t) refl sees
     where
-      by_from : (from : Option ℕ) → encloser s.tables t ≡ from → Sees s.tables from u → (j : ℕ) × (at_level m (level_of s u) i ≡ Some j) × (j ≤ i) × Whole s o m j u
+      by_from : (from : Option ℕ) → encloser s.tables t ≡ from → Sees s.tables from u → (j : ℕ) × (at_level m (level_of s u) i ≡ Some j) × (j ≤ i) × Whole s m j u
       by_from None e ins = absurd ins
-      by_from (Some v) e ins = let x = outside i i t v u todo (omega arith) e ins b (λ j less w. inside i j less ins w) in (x.instance, x.found, x.before, x.whole)
+      by_from (Some v) e ins = let x = outside b.store i i t v u todo (omega arith) e ins b.here (λ j less w. inside b.store i j less ins w) in (x.instance, x.found, x.before, x.whole)
 
 -- ---- cells
 
@@ -126,8 +130,8 @@ module _ (s : Source) where
     keys_text : (u : ℕ) (x : Text) (key : Key) → text s u ≡ Some x → KeyAmong key (map key_of (first_cells s u x)) → KeyAmong key (keys_in s u (text s u))
     keys_text u x key e a = subst (λ y. KeyAmong key (keys_in s u y)) (sym e) a
 
-    pub key_there : (o : AllArrays) (m : Instances) (j u : ℕ) (x : Instance (List Held)) (d : DeclNo) (h : Holds) → Own s o m j u x → entry_holds (entry_of s.tables d) ≡ Some h → Among d (numbers_of s u) → KeyAmong (Declared d.0) (keys_in s u (text s u))
-    key_there o m j u x d h own e a = keys_text u own.words (Declared d.0) own.has_text (key_in u d h own.words (ok.texts u own.words own.has_text) e a)
+    pub key_there : (u : ℕ) (x : Text) (d : DeclNo) (h : Holds) → text s u ≡ Some x → entry_holds (entry_of s.tables d) ≡ Some h → Among d (numbers_of s u) → KeyAmong (Declared d.0) (keys_in s u (text s u))
+    key_there u x d h is e a = keys_text u x (Declared d.0) is (key_in u d h x (ok.texts u x is) e a)
 
     pub key_of_result : (u : ℕ) (type : TypeName) (g : Heading) (b : Statement) → text s u ≡ Some (ProcedureText (Some type) g b) → KeyAmong Result (keys_in s u (text s u))
     unfolding first_cells

@@ -1,6 +1,6 @@
 -- Which configurations have a rule for what is pending.
-use Rattle.std.proofs.Common.{◌≡◌, ◌<◌, ◌≤◌, ℕ, zero, suc, Bool, true, false, List, [], ◌∷◌, length, map, Option, Some, None}
-use Rattle.std.specs.Prelude.{slice_get, ◌*◌}
+use Rattle.std.proofs.Common.{◌≡◌, ◌<◌, ◌≤◌, ℕ, zero, suc, Bool, true, false, List, [], ◌∷◌, length, map, Option, Some, None, ◌⊎◌}
+use Rattle.std.specs.Prelude.{slice_get, ◌*◌, ◌&&◌, not}
 use Rattle.sim_base.specs.declared.numbering.DeclNo.{DeclNo}
 use Rattle.sim_chains.specs.Components.{DetachedObject, NoObject, Standing}
 use Rattle.sim_scope.specs.declared.types.Formal.{Formal}
@@ -88,44 +88,45 @@ pub data KeyAmong (key : Key) : List Key → Type 0 where
   first_key : {ks : List Key} → KeyAmong key (key ∷ ks)
   later_key : {k : Key} {ks : List Key} → KeyAmong key ks → KeyAmong key (k ∷ ks)
 
--- all that there is to an instance of a text but for its encloser
-pub record Own (s : Source) (o : AllArrays) (m : Instances) (j t : ℕ) (x : Instance (List Held)) : Type 0 where
-  pub lives : live m j ≡ Some x
-  pub of_text : x.text ≡ t
-  pub words : Text
-  pub has_text : text s t ≡ Some words
-  pub level : x.level ≡ level_of s t
-  pub keys : map key_of x.cells ≡ keys_in s t (text s t)
-  pub cells : CellsFine s o j t x.cells
-
 -- the arrays of an instance are made, but for these
 abbrev pub Made : Source → (text : ℕ) → List DeclNo → List Held → Type 0
 Made s t todo hs = (d : DeclNo) (k : Kind) → key_holds s t (Declared d.0) ≡ Some (ArrayOf k) → KeyAmong (Declared d.0) (keys_in s t (text s t)) → held (Declared d.0) hs ≡ None → Among d todo
 
--- the instances around are whole
-pub data Enclosed (s : Source) (o : AllArrays) (m : Instances) : (j t : ℕ) → Instance (List Held) → Type 0 where
-  alone : {j t : ℕ} {x : Instance (List Held)} → x.encloser ≡ None → encloser s.tables t ≡ None → Enclosed s o m j t x
-  within : {j t e u : ℕ} {x y : Instance (List Held)} → x.encloser ≡ Some e → encloser s.tables t ≡ Some u → e < j → Own s o m e u y → Made s u [] y.cells → Enclosed s o m e u y → Enclosed s o m j t x
+-- ---- the store
 
--- no chain is kept: no system head waits, no object is detached
-abbrev pub KeepsNone : Standing Activation → Type 0
-KeepsNone (NoObject (Some chain)) = ⊥
-KeepsNone (DetachedObject chain) = ⊥
-KeepsNone _ = Unit {0}
-
-abbrev pub NothingKept : Instances → Type 0
-NothingKept m = (j : ℕ) (x : Standing Activation) → slice_get m.standings j ≡ Some x → KeepsNone x
-
--- an instance whose arrays are made but for these, among whole ones
-pub record Begun (s : Source) (o : AllArrays) (m : Instances) (j t : ℕ) (todo : List DeclNo) : Type 0 where
+-- an instance of a text that was not given back, whose arrays are made but for these
+pub record Present (s : Source) (m : Instances) (j t : ℕ) (todo : List DeclNo) : Type 0 where
   pub now : Instance (List Held)
-  pub own : Own s o m j t now
+  pub lives : live m j ≡ Some now
+  pub of_text : now.text ≡ t
+  pub words : Text
+  pub has_text : text s t ≡ Some words
   pub made : Made s t todo now.cells
-  pub out : Enclosed s o m j t now
-  pub parked : NothingKept m
 
-abbrev pub Whole : Source → AllArrays → Instances → (j t : ℕ) → Type 0
-Whole s o m j t = Begun s o m j t []
+abbrev pub Whole : Source → Instances → (j t : ℕ) → Type 0
+Whole s m j t = Present s m j t []
+
+-- The encloser of an instance of a text is older, and is a whole one of the text around.
+pub data Enclosed (s : Source) (m : Instances) (j t : ℕ) (out : Option ℕ) : Type 0 where
+  alone : out ≡ None → encloser s.tables t ≡ None → Enclosed s m j t out
+  within : {e u : ℕ} → out ≡ Some e → encloser s.tables t ≡ Some u → e < j → Whole s m e u → Enclosed s m j t out
+
+-- An instance is as its text says: its cells are the text's and hold what they should, and it is given back at its end.
+pub record InstanceFine (s : Source) (o : AllArrays) (m : Instances) (j t : ℕ) (x : Instance (List Held)) : Type 0 where
+  pub level : x.level ≡ level_of s t
+  pub keys : map key_of x.cells ≡ keys_in s t (text s t)
+  pub cells : CellsFine s o j t x.cells
+  pub ends : (x.passing && not x.kept) ≡ true
+  pub out : Enclosed s m j t x.encloser
+
+-- Each instance that was not given back is as its text says, wherever it stands.
+abbrev pub StoreFine : Source → AllArrays → Instances → Type 0
+StoreFine s o m = (j : ℕ) (x : Instance (List Held)) → live m j ≡ Some x → InstanceFine s o m j x.text x
+
+-- an instance whose arrays are made but for these, in such a store
+pub record Begun (s : Source) (o : AllArrays) (m : Instances) (j t : ℕ) (todo : List DeclNo) : Type 0 where
+  pub store : StoreFine s o m
+  pub here : Present s m j t todo
 
 -- ---- values in hand
 
@@ -145,7 +146,7 @@ pub record ElementFine (o : AllArrays) (j : ℕ) (k : Kind) (a n : ℕ) : Type 0
 pub record CellTarget (s : Source) (o : AllArrays) (m : Instances) (j e : ℕ) (key : Key) (k : Kind) : Type 0 where
   pub around : ℕ
   pub before : e ≤ j
-  pub whole : Whole s o m e around
+  pub whole : Whole s m e around
   pub holds : key_holds s around key ≡ Some (Simply k)
   pub there : KeyAmong key (keys_in s around (text s around))
 
@@ -159,7 +160,7 @@ HandFine s o m j (Value h) v = ValFine o j h v
 HandFine s o m j (AddressOf k) (Address (ElementPlace a n None)) = ElementFine o j k a n
 HandFine s o m j (AddressOf k) (Address (CellPlace e key None)) = CellTarget s o m j e key k
 HandFine s o m j ImageAddress (Address (ImagePlace n)) = IsImage n
-HandFine s o m j (LinkTo u) (Link e) = (e ≤ j) × Whole s o m e u
+HandFine s o m j (LinkTo u) (Link e) = (e ≤ j) × Whole s m e u
 HandFine s o m j _ _ = ⊥
 
 -- with so many values below
@@ -196,7 +197,7 @@ OneKinds monadic.Not k = k ≡ kind.Boolean
 
 -- a cell of a whole instance, or one of its own that is made
 pub data CellIs (s : Source) (o : AllArrays) (m : Instances) (j t : ℕ) (todo : List DeclNo) (e : ℕ) (key : Key) (h : Holds) : Type 0 where
-  in_whole : {u : ℕ} → e ≤ j → Whole s o m e u → key_holds s u key ≡ Some h → KeyAmong key (keys_in s u (text s u)) → CellIs s o m j t todo e key h
+  in_whole : {u : ℕ} → e ≤ j → Whole s m e u → key_holds s u key ≡ Some h → KeyAmong key (keys_in s u (text s u)) → CellIs s o m j t todo e key h
   own_made : {d : DeclNo} → e ≡ j → key ≡ Declared d.0 → key_holds s t key ≡ Some h → KeyAmong key (keys_in s t (text s t)) → (Among d todo → ⊥) → CellIs s o m j t todo e key h
 
 -- what the cells of formal parameters hold, and what is in hand for them: of an array by value a copy
@@ -217,7 +218,7 @@ formal_kinds (f ∷ fs) = in_hand (is_array_by_value f.mode f.kind) (formal_hold
 pub record CallFine (s : Source) (o : AllArrays) (m : Instances) (j e k : ℕ) (g : Option Kinds) (Actuals : List (Option Kinds) → Type 0) : Type 0 where
   pub around : ℕ
   pub before : e ≤ j
-  pub whole : Whole s o m e around
+  pub whole : Whole s m e around
   pub stands_in : encloser s.tables k ≡ Some around
   pub result : Option TypeName
   pub heading : Heading
@@ -332,9 +333,9 @@ pub record ArrayStored (s : Source) (j t : ℕ) (todo todo' : List DeclNo) (x : 
   pub waits : todo ≡ declaration ∷ todo'
   pub «in» : before ≡ Value (ArrayOf kind) ∷ behind
 
-pub data StoreFine (s : Source) (o : AllArrays) (m : Instances) (j t : ℕ) (todo todo' : List DeclNo) (x : Target) (before behind : List Kinds) : Type 0 where
-  value_stored : (k : Kind) (next : List Kinds) → before ≡ Value (Simply k) ∷ next → TargetFine s o m j x k next behind → todo' ≡ todo → StoreFine s o m j t todo todo' x before behind
-  array_stored : ArrayStored s j t todo todo' x before behind → StoreFine s o m j t todo todo' x before behind
+pub data StoreOpFine (s : Source) (o : AllArrays) (m : Instances) (j t : ℕ) (todo todo' : List DeclNo) (x : Target) (before behind : List Kinds) : Type 0 where
+  value_stored : (k : Kind) (next : List Kinds) → before ≡ Value (Simply k) ∷ next → TargetFine s o m j x k next behind → todo' ≡ todo → StoreOpFine s o m j t todo todo' x before behind
+  array_stored : ArrayStored s j t todo todo' x before behind → StoreOpFine s o m j t todo todo' x before behind
 
 -- a statement, or part of one: all arrays are made
 abbrev pub Ready : (todo todo' : List DeclNo) → (before behind : List Kinds) → (Is : Type 0) → Type 0
@@ -361,7 +362,7 @@ OpFine s o m j t (StandardOp name line) todo todo' before behind =
     (left : List Kinds) × (xs : List Kinds) × (name_runs name ≡ true) × OperandsAre (operands_of (row_of name).function) xs × (before ≡ pushed xs left) × (behind ≡ given (held_kinds (some_holds (standard_kind (row_of name).result))) left) × (todo' ≡ todo)
 OpFine s o m j t DropOp todo todo' before behind = (k : Kinds) × (before ≡ k ∷ behind) × (todo' ≡ todo)
 OpFine s o m j t AgainOp todo todo' before behind = (k : Kind) × (left : List Kinds) × (before ≡ Value (Simply k) ∷ left) × (behind ≡ Value (Simply k) ∷ before) × (todo' ≡ todo)
-OpFine s o m j t (StoreOp x) todo todo' before behind = StoreFine s o m j t todo todo' x before behind
+OpFine s o m j t (StoreOp x) todo todo' before behind = StoreOpFine s o m j t todo todo' x before behind
 OpFine s o m j t (ShareOp ts) todo todo' before behind = (k : Kind) × (next : List Kinds) × (before ≡ Value (Simply k) ∷ next) × TargetsFine s o m j ts k next behind × (todo' ≡ todo)
 OpFine s o m j t (GiveOp v ts) todo todo' before behind = (k : Kind) × ValFine o j (Simply k) v × TargetsFine s o m j ts k before behind × (todo' ≡ todo)
 OpFine s o m j t (ArrayOp k n line) todo todo' before behind = (left : List Kinds) × (before ≡ integers (2 * n) left) × (behind ≡ Value (ArrayOf k) ∷ left) × (todo' ≡ todo)
@@ -394,11 +395,35 @@ WorkFine s o m Below Outermost j t (EndProgram ∷ w) todo before = Outermost
 
 -- ---- chains
 
+-- no chain is kept: no system head waits, no object is detached
+abbrev pub KeepsNone : Standing Activation → Type 0
+KeepsNone (NoObject (Some chain)) = ⊥
+KeepsNone (DetachedObject chain) = ⊥
+KeepsNone _ = Unit {0}
+
+abbrev pub NothingKept : Instances → Type 0
+NothingKept m = (j : ℕ) (x : Standing Activation) → slice_get m.standings j ≡ Some x → KeepsNone x
+
+-- where an instance stands on a chain
+abbrev pub OnChain : ℕ → List Activation → Type 0
+OnChain j [] = ⊥
+OnChain j (a ∷ rest) = (j ≡ a.instance) ⊎ OnChain j rest
+
+-- each instance that was not given back stands on the chain
+abbrev pub AllOn : Instances → List Activation → Type 0
+AllOn m chain = (j : ℕ) (x : Instance (List Held)) → live m j ≡ Some x → OnChain j chain
+
+-- The instance i operates, on top of the rest of the chain: there is no instance that is on neither, and no other chain.
+pub record Operates (m : Instances) (i : ℕ) (rest : List Activation) : Type 0 where
+  pub before : i < length m.instances
+  pub all : (j : ℕ) (x : Instance (List Held)) → live m j ≡ Some x → (j ≡ i) ⊎ OnChain j rest
+  pub parked : NothingKept m
+
 pub record ActFine (s : Source) (o : AllArrays) (m : Instances) (bound : ℕ) (a : Activation) (waits : Option Kinds) (Below : Option Kinds → Type 0) (Outermost : Type 0) : Type 0 where
   pub before : a.instance < bound
   pub of_text : ℕ
   pub todo : List DeclNo
-  pub begun : Begun s o m a.instance of_text todo
+  pub here : Present s m a.instance of_text todo
   pub kinds : List Kinds
   pub hands : HandsFine s o m a.instance kinds a.values
   pub goes : WorkFine s o m Below Outermost a.instance of_text a.work todo (given waits kinds)
@@ -411,4 +436,4 @@ ChainFine s o m bound (a ∷ rest) waits = ActFine s o m bound a waits (λ v. Ch
 -- before the first step there is nothing
 pub data Fine (s : Source) (o : AllArrays) (c : Configuration) : Type 0 where
   opens : c.chain ≡ [] → (c.memory).instances ≡ [] → NothingKept c.memory → Fine s o c
-  runs : ChainFine s o c.memory (length (c.memory).instances) c.chain None → Fine s o c
+  runs : StoreFine s o c.memory → AllOn c.memory c.chain → NothingKept c.memory → ChainFine s o c.memory (length (c.memory).instances) c.chain None → Fine s o c

@@ -1,5 +1,5 @@
 -- Each statement goes on.
-use Rattle.std.proofs.Common.{◌≡◌, ℕ, ◌<◌, Bool, true, false, List, [], ◌∷◌, ◌++◌, length, Option, Some, None, refl, sym, ap, ◌∙◌, subst}
+use Rattle.std.proofs.Common.{◌≡◌, ℕ, Bool, true, false, List, [], ◌∷◌, ◌++◌, length, Option, Some, None, refl, sym, ap, ◌∙◌, subst}
 use Rattle.sim_base.specs.declared.limits.Limits.{Limits}
 use Rattle.sim_base.specs.declared.numbering.DeclNo.{DeclNo}
 use Rattle.sim_scope.specs.declared.scopes.Denotation.{Denotation}
@@ -36,7 +36,7 @@ use Rattle.sim_sound.proofs.Evals.{IsFine, Rest, Work, goes_on}
 use Rattle.sim_sound.proofs.Lefts.{LeftFine, variable_fine}
 use Rattle.sim_sound.proofs.Lifts.{Goes, chosen, ran, ticked, truth_popped}
 use Rattle.sim_sound.proofs.Reach.{reaches_whole}
-use Rattle.sim_sound.proofs.Sound.{HandsFine, Kinds, OpFine, Sight, TermFine, Value, VariableFine, Whole, given, held_kinds, in_whole, see, simple, value_stored}
+use Rattle.sim_sound.proofs.Sound.{Begun, HandsFine, Kinds, OpFine, Operates, Sight, TermFine, Value, VariableFine, given, held_kinds, in_whole, see, simple, value_stored}
 
 -- ---- a left side without operands is a cell
 
@@ -69,15 +69,15 @@ named_cell : (s : Source) (m : Instances) (i line : ℕ) (x : Option Denotation)
 named_cell s m i line (Some (denotation.Declared d)) = declared_cell s m i line d (entry_of s.tables d)
 named_cell s m i line _ = tt
 
-module _ (s : Source) (ok : Typed s) (l : Limits) (o : World) (sights : List Sight) (long : length sights ≡ length o.arrays) (m : Instances) (i t : ℕ) (rest : List Activation) (lt : i < length m.instances) (w : List Item) (vals : List Val) (ks : List Kinds) (b : Whole s (see sights o) m i t) (h : HandsFine s (see sights o) m i ks vals) (work : Work s o sights long m i t rest lt w [] ks) where
+module _ (s : Source) (ok : Typed s) (l : Limits) (o : World) (sights : List Sight) (long : length sights ≡ length o.arrays) (m : Instances) (i t : ℕ) (rest : List Activation) (top : Operates m i rest) (w : List Item) (vals : List Val) (ks : List Kinds) (b : Begun s (see sights o) m i t []) (h : HandsFine s (see sights o) m i ks vals) (work : Work s o sights long m i t rest top w [] ks) where
   abbrev P : World → Configuration → Type 0
   P = IsFine s
 
   abbrev Wk : List Item → List Kinds → Type 0
-  Wk w ks = Work s o sights long m i t rest lt w [] ks
+  Wk w ks = Work s o sights long m i t rest top w [] ks
 
   goes : (w : List Item) → Wk w ks → IsFine s o (record { chain = record { instance = i; work = w; values = vals } ∷ rest; memory = m })
-  goes w x = goes_on s o sights long m i t rest lt w vals [] ks b h x
+  goes w x = goes_on s o sights long m i t rest top w vals [] ks b h x
 
   closed : (e : Expression) (g : Holds) → ExprIs s (Some t) e g → TermFine s (see sights o) m i t [] (close s m i e) (Some (Value g))
   closed e g a = expr_fine s ok (see sights o) m i t [] (Some t) (reaches_whole s ok (see sights o) m i t b) e g a
@@ -105,14 +105,14 @@ module _ (s : Source) (ok : Typed s) (l : Limits) (o : World) (sights : List Sig
       ([], given (held_kinds a.0) ks, (held_kinds a.0, dot_fine s ok (see sights o) m i t [] (Some t) (reaches_whole s ok (see sights o) m i t b) token x name es a.0 a.1, refl, refl), dropped a.0 (leaves s (syntax.Dot token x name es)) a.2)
   call_goes _ a = absurd a
 
-  assign_goes : (es : List LeftSide) (e : Expression) (k : Kind) → Found s ok (see sights o) m i t b (Rest s o sights long m i t rest lt) (rest ≡ []) k es → ExprIs s (Some t) e (Simply k) → (t' w' : ℕ) → Goes P (assigned s (ran o t' w') m i w vals rest (lefts s m i es) e)
+  assign_goes : (es : List LeftSide) (e : Expression) (k : Kind) → Found s ok (see sights o) m i t b (Rest s o sights long m i t rest top) (rest ≡ []) k es → ExprIs s (Some t) e (Simply k) → (t' w' : ℕ) → Goes P (assigned s (ran o t' w') m i w vals rest (lefts s m i es) e)
   assign_goes es e k f a t' w' =
       let ts = (f.is).targets in
       subst (λ z. Goes P (assigned s (ran o t' w') m i w vals rest z e)) (sym f.found)
       (goes ((f.is).work ++ Do (Eval (close s m i e)) ∷ Do (assigning ts) ∷ w)
       (f.works (Do (Eval (close s m i e)) ∷ Do (assigning ts) ∷ w) ks
-      (evals e (Simply k) (Do (assigning ts) ∷ w) (addresses s ok (see sights o) m i t b (Rest s o sights long m i t rest lt) (rest ≡ []) k ts ks) a
-      ([], ks, assigning_fine s ok (see sights o) m i t b (Rest s o sights long m i t rest lt) (rest ≡ []) k ts ks f.each, work))))
+      (evals e (Simply k) (Do (assigning ts) ∷ w) (addresses s ok (see sights o) m i t b (Rest s o sights long m i t rest top) (rest ≡ []) k ts ks) a
+      ([], ks, assigning_fine s ok (see sights o) m i t b (Rest s o sights long m i t rest top) (rest ≡ []) k ts ks f.each, work))))
 
   loop_goes : (text : Bool) (sign : Assignment) (line : ℕ) (x : Left) (k : Kind) (es : List Element) (a : Statement) → ControlIs text sign k → IsCell x → LeftFine s ok (see sights o) m i t b x k → ElementsAre s t k es → StatementIs s t a → (t' w' : ℕ) → Goes P (looping (ran o t' w') m i w vals rest (controlled text sign line x) es a)
   loop_goes true assignment.Value line (LeftCell j key) k es a v c x y z t' w' = goes (Do (ElementsOp (ToTextOf j key line) es a) ∷ w) ([], ks, (refl, refl, refl, (k, (x, v), y, z)), work)
@@ -132,7 +132,7 @@ module _ (s : Source) (ok : Typed s) (l : Limits) (o : World) (sights : List Sig
   exec_goes (syntax.Call e) x = ticked P l o (λ p. go p m i (Do (Eval (close s m i e)) ∷ dropping (leaves s e) w) vals rest) (λ t' w'. goes (Do (Eval (close s m i e)) ∷ dropping (leaves s e) w) (call_goes e x))
   exec_goes (syntax.Assign left rs) x =
       ticked P l o (λ p. assigned s p m i w vals rest (lefts s m i (left_sides left rs)) (last_value left rs)) (λ t' w'.
-      assign_goes (left_sides left rs) (last_value left rs) x.0 (lefts_found s ok (see sights o) m i t b (Rest s o sights long m i t rest lt) (rest ≡ []) x.0 (left_sides left rs) x.1) x.2 t' w')
+      assign_goes (left_sides left rs) (last_value left rs) x.0 (lefts_found s ok (see sights o) m i t b (Rest s o sights long m i t rest top) (rest ≡ []) x.0 (left_sides left rs) x.1) x.2 t' w')
   exec_goes (syntax.Choose token c a other) x =
       ticked P l o (λ p. go p m i (Do (Eval (close s m i c)) ∷ Do (ChooseOp a other) ∷ w) vals rest) (λ t' w'.
       goes (Do (Eval (close s m i c)) ∷ Do (ChooseOp a other) ∷ w) (evals c (Simply kind.Boolean) (Do (ChooseOp a other) ∷ w) ks x.0 ([], ks, (refl, refl, refl, x.1, x.2), work)))
@@ -248,17 +248,17 @@ module _ (s : Source) (ok : Typed s) (l : Limits) (o : World) (sights : List Sig
   first_works (Also a more) = ([], ks, (refl, refl), work)
 
 -- what waits for a truth value
-module _ (s : Source) (ok : Typed s) (l : Limits) (o : World) (sights : List Sight) (long : length sights ≡ length o.arrays) (m : Instances) (i t : ℕ) (rest : List Activation) (lt : i < length m.instances) (w : List Item) (vals : List Val) (ks : List Kinds) (b : Whole s (see sights o) m i t) (h : HandsFine s (see sights o) m i (Value (Simply kind.Boolean) ∷ ks) vals) (work : Work s o sights long m i t rest lt w [] ks) where
+module _ (s : Source) (ok : Typed s) (l : Limits) (o : World) (sights : List Sight) (long : length sights ≡ length o.arrays) (m : Instances) (i t : ℕ) (rest : List Activation) (top : Operates m i rest) (w : List Item) (vals : List Val) (ks : List Kinds) (b : Begun s (see sights o) m i t []) (h : HandsFine s (see sights o) m i (Value (Simply kind.Boolean) ∷ ks) vals) (work : Work s o sights long m i t rest top w [] ks) where
   pub choose_goes : (a : Statement) (other : Statements) → StatementIs s t a → StatementsAre s t other → Goes (IsFine s) (do_op s l o m i w vals rest (ChooseOp a other))
   choose_goes a other x y =
       truth_popped (IsFine s) s (see sights o) m i ks vals o (λ c vs. choosing c (go o m i (Do (Exec a) ∷ first_branch other w) vs rest) (go o m i (Do (Execs other) ∷ w) vs rest)) h (λ c vs more.
       chosen (IsFine s) c (go o m i (Do (Exec a) ∷ first_branch other w) vs rest) (go o m i (Do (Execs other) ∷ w) vs rest)
-      (goes_on s o sights long m i t rest lt (Do (Exec a) ∷ first_branch other w) vs [] ks b more ([], ks, (refl, refl, refl, x), first_works s ok l o sights long m i t rest lt w vs ks b more work other))
-      (goes_on s o sights long m i t rest lt (Do (Execs other) ∷ w) vs [] ks b more ([], ks, (refl, refl, refl, y), work)))
+      (goes_on s o sights long m i t rest top (Do (Exec a) ∷ first_branch other w) vs [] ks b more ([], ks, (refl, refl, refl, x), first_works s ok l o sights long m i t rest top w vs ks b more work other))
+      (goes_on s o sights long m i t rest top (Do (Execs other) ∷ w) vs [] ks b more ([], ks, (refl, refl, refl, y), work)))
 
   pub branch_goes : (a : Statement) (again : Op) → StatementIs s t a → OpFine s (see sights o) m i t again [] [] ks ks → Goes (IsFine s) (do_op s l o m i w vals rest (BranchOp a again))
   branch_goes a again x y =
       truth_popped (IsFine s) s (see sights o) m i ks vals o (λ c vs. choosing c (go o m i (Do (Exec a) ∷ Do again ∷ w) vs rest) (go o m i w vs rest)) h (λ c vs more.
       chosen (IsFine s) c (go o m i (Do (Exec a) ∷ Do again ∷ w) vs rest) (go o m i w vs rest)
-      (goes_on s o sights long m i t rest lt (Do (Exec a) ∷ Do again ∷ w) vs [] ks b more ([], ks, (refl, refl, refl, x), ([], ks, y, work)))
-      (goes_on s o sights long m i t rest lt w vs [] ks b more work))
+      (goes_on s o sights long m i t rest top (Do (Exec a) ∷ Do again ∷ w) vs [] ks b more ([], ks, (refl, refl, refl, x), ([], ks, y, work)))
+      (goes_on s o sights long m i t rest top w vs [] ks b more work))
