@@ -1,5 +1,5 @@
 -- What the entry of a procedure makes of its actual parameters and of what is below on the chain.
-use Rattle.std.proofs.Common.{◌≡◌, ◌+◌, ℕ, zero, suc, Bool, true, false, List, [], ◌∷◌, length, map, Option, Some, None, refl, sym, ap, ◌∙◌, arith}
+use Rattle.std.proofs.Common.{◌≡◌, ◌+◌, ℕ, zero, suc, Bool, true, false, List, [], ◌∷◌, length, map, Option, Some, None, refl, ap, ◌∙◌, arith}
 use Rattle.std.specs.List.{list_any}
 use Rattle.std.specs.Prelude.{◌&&◌, ◌||◌, not, if◌then◌else◌}
 use Rattle.sim_scope.specs.declared.types.Formal.{Formal}
@@ -25,11 +25,10 @@ use Rattle.sim_meaning.specs.Pending as meaning
 use Rattle.sim_meaning.specs.Texts.{is_class_free}
 use Rattle.codegen.specs.Compiled.{RecordOf, code_formal, type_of_name}
 use Rattle.sim_relate.proofs.Ends.{is_typed}
-use Rattle.sim_relate.proofs.Heads.{Same, kept_same, kept_standings}
-use Rattle.sim_relate.proofs.Lists.{same_length}
-use Rattle.sim_relate.proofs.Relation.{Any, Every, Keeps, Kind, Later, StackAt, StoreAt, ValAt, anys, array_at, element_at, image_at, link_at, more_at, plain_at}
+use Rattle.sim_relate.proofs.Heads.{kept_standings}
+use Rattle.sim_relate.proofs.Relation.{Any, Changed, Every, Kind, StackAt, StoreAt, ValAt, anys, array_at, element_at, image_at, link_at, more_at, plain_at}
 use Rattle.sim_relate.proofs.Slots.{results}
-use Rattle.sim_relate.proofs.Stores.{SameOwners, keeps_kept, later_kept, store_kept}
+use Rattle.sim_relate.proofs.Stores.{SameOwners, keeps_kept, later_kept, store_kept, unchanged}
 
 -- ---- formal parameters, as the code says them
 
@@ -100,28 +99,19 @@ behind_result (Some type) = ap (λ b. if b then 0 else 1) (is_typed type)
 -- ---- instances that are kept at the entry
 
 module _ (s : Source) (code : CodeOf) where
-  pub record KeptIs (m : Instances) (fs : Frames) (m' : Instances) (fs' : Frames) : Type 0 where
-    pub store : StoreAt s code m' fs'
-    pub count : length m'.instances ≡ length m.instances
-    pub later : Later s m m'
-    pub keeps : Keeps s m fs fs' Every
-    pub standings : m'.standings ≡ m.standings
-    pub standings' : fs'.standings ≡ fs.standings
-
-  kept_alike : (m : Instances) (fs : Frames) → StoreAt s code m fs → (chain : List Activation) (below : List machine.Activation) → SameOwners s code chain below → (b b' : Bool) → b' ≡ b → KeptIs m fs (if b then kept_on meaning.owner chain m else m) (if b' then kept_on machine.owner below fs else fs)
+  kept_alike : (m : Instances) (fs : Frames) → StoreAt s code m fs → (chain : List Activation) (below : List machine.Activation) → SameOwners s code chain below → (b b' : Bool) → b' ≡ b → Changed s code Every m fs (if b then kept_on meaning.owner chain m else m) (if b' then kept_on machine.owner below fs else fs)
   kept_alike m fs a chain below owners true true e = record {
     store = store_kept s code chain below owners m fs a;
-    count = sym (same_length Same m.instances (kept_on meaning.owner chain m).instances (λ k. kept_same meaning.owner k chain m));
     later = later_kept s m chain;
     keeps = keeps_kept s m fs below;
     standings = kept_standings meaning.owner chain m;
-    standings' = kept_standings machine.owner below fs;
+    frame_standings = kept_standings machine.owner below fs;
   }
   kept_alike m fs a chain below owners true false e = absurd (cc)
   kept_alike m fs a chain below owners false true e = absurd (cc)
-  kept_alike m fs a chain below owners false false e = record { store = a; count = refl; later = record { stands = λ k t st. st; same = λ level k t st. refl }; keeps = record { temps = λ k t c is st le. refl }; standings = refl; standings' = refl }
+  kept_alike m fs a chain below owners false false e = unchanged s code m fs a
 
-  pub both_kept : (m : Instances) (fs : Frames) → StoreAt s code m fs → (chain : List Activation) (below : List machine.Activation) → SameOwners s code chain below → (k : ℕ) (kind : BlockKind) (result : CodeType) (b : BlockOf) → RecordOf s k kind result b → KeptIs m fs (instances_kept s k chain m) (frames_kept b below fs)
+  pub both_kept : (m : Instances) (fs : Frames) → StoreAt s code m fs → (chain : List Activation) (below : List machine.Activation) → SameOwners s code chain below → (k : ℕ) (kind : BlockKind) (result : CodeType) (b : BlockOf) → RecordOf s k kind result b → Changed s code Every m fs (instances_kept s k chain m) (frames_kept b below fs)
   both_kept m fs a chain below owners k kind result b heads =
       kept_alike m fs a chain below owners (not (is_class_free s k) && list_any is_held (formals_of s k)) (not b.class_free && list_any machine.is_held b.formals)
       (ap (λ z. not z && list_any machine.is_held b.formals) heads.class_free ∙ ap (λ z. not (is_class_free s k) && list_any machine.is_held z) heads.formals ∙ ap (λ z. not (is_class_free s k) && z) (any_held (formals_of s k)))

@@ -1,5 +1,5 @@
 -- Values are taken from where they lie, and put there.
-use Rattle.std.proofs.Common.{◌≡◌, ◌<◌, ◌≤◌, ℕ, suc, List, ◌∷◌, length, Option, Some, None, refl, sym, arith, ◌∙◌}
+use Rattle.std.proofs.Common.{◌≡◌, ◌<◌, ◌≤◌, ℕ, suc, List, ◌∷◌, length, Option, Some, None, refl, sym, ◌∙◌, arith}
 use Rattle.std.specs.Prelude.{pos}
 use Rattle.sim_base.specs.declared.limits.Limits.{Limits}
 use Rattle.sim_scope.specs.Source.{Source, level_of}
@@ -22,15 +22,14 @@ use Rattle.sim_meaning.specs.Steps.{go, of_plain, putting, stored, text_assigned
 use Rattle.sim_meaning.specs.Steps as steps
 use Rattle.sim_meaning.specs.Texts.{text}
 use Rattle.codegen_expr.specs.Sites.{cells_in, slot_of, At}
-use Rattle.sim_relate.proofs.Relation.{Any, ChainAt, Every, HandAt, Kind, OpAt, StackAt, StateAt, ValAt, WorkAt, anys, array_at, element_at, link_at, more_at, plain_at, site_at, there, image_at}
-use Rattle.sim_meaning.specs.Sane.{Other}
+use Rattle.sim_relate.proofs.Relation.{Any, ChainAt, Changed, Every, HandAt, Kind, OpAt, StackAt, StateAt, ValAt, WorkAt, anys, array_at, element_at, link_at, more_at, plain_at, site_at, there, image_at}
 use Rattle.sim_relate.proofs.Carried.{all_every, kept_every}
 use Rattle.sim_relate.proofs.Hands.{hand_popping, hand_assigning}
 use Rattle.sim_relate.proofs.Here.{Here, act, at_row, goes, kinds_as, with_values}
-use Rattle.sim_relate.proofs.Moved.{later_itself, moved, own_level, work_more, work_moved}
+use Rattle.sim_relate.proofs.Living.{own_level, reached}
+use Rattle.sim_relate.proofs.Moved.{moved, work_more, work_moved}
 use Rattle.sim_relate.proofs.Operators.{at_cell, onward, pending, pushes, same_plain}
-use Rattle.sim_relate.proofs.Stores.{Written, cell_write, placed_here, temp_written}
-use Rattle.sim_relate.proofs.Reach.{reached}
+use Rattle.sim_relate.proofs.Stores.{cell_write, placed_here, temp_written}
 
 -- addresses of the same element or image
 pub data PlaceAt : Place Key (Option ℕ) → Place ℕ ℕ → Type 0 where
@@ -80,10 +79,10 @@ module _ (s : Source) (code : CodeOf) (l : Limits) (o : World) (m : Instances) (
   -- ---- one left side
 
   -- both go on behind a write of a cell
-  pub wrote_on : {p : World} {vals' : List Val} {stack' : List Value} {next : ℕ} (m' : Instances) (fs' : Frames) → Written s code m fs m' fs' → (ks2 : List Kind) → StackAt (HandAt s m) ks2 vals' stack' → ks' ≡ ks2 → q ≡ next → Alike R (go p m' inst w vals' rest) (Going p (record { chain = act inst next stack' b.room ∷ below; memory = fs' }))
+  pub wrote_on : {p : World} {vals' : List Val} {stack' : List Value} {next : ℕ} (m' : Instances) (fs' : Frames) → Changed s code Every m fs m' fs' → (ks2 : List Kind) → StackAt (HandAt s m) ks2 vals' stack' → ks' ≡ ks2 → q ≡ next → Alike R (go p m' inst w vals' rest) (Going p (record { chain = act inst next stack' b.room ∷ below; memory = fs' }))
   wrote_on m' fs' r ks2 hs e place =
-      goes s code u q (moved s code m m' fs fs' r.store r.later Every r.keeps r.standings r.standings' (kept_every m) here (kinds_as s code (sym e) hs))
-      (work_moved s code m m' fs fs' r.store r.later Every r.keeps r.standings r.standings' (kept_every m) here (all_every rest) below u (λ n le lt. r.keeps.temps inst t n tt here.stands le) w q ks' k) place
+      goes s code u q (moved s code r (kept_every m) here (kinds_as s code (sym e) hs))
+      (work_moved s code r here (all_every rest) below u (λ n le lt. r.keeps.temps inst t n tt here.stands le) w q ks' k) place
 
   to_cell : (j : ℕ) (key : Key) → Follows (StoreOp (ToCell j key))
   to_cell j key a =
@@ -92,7 +91,7 @@ module _ (s : Source) (code : CodeOf) (l : Limits) (o : World) (m : Instances) (
       (hand_popping Configuration Machine R Val Value (HandAt s m) plain machine.plain same_plain Any ks' vals stack o _ _ (kinds_as s code a.1 here.values)
       (λ v x vals' stack' ev ex h hs.
       at_cell s code l o m inst w vals rest fs t b pc stack below ks here o (level_of s c.text) j (slot_of s c.text key) _ _ (reached s m inst c.text j here.lives c.reaches)
-      (alike_having Configuration Machine R Instances Frames (Written s code m fs) (cell_set m j key v) (machine.cell_set fs j (slot_of s c.text key) x) o _ _ (cell_write s code m fs j c.text key v x here.store c.reaches.stands c.has h)
+      (alike_having Configuration Machine R Instances Frames (Changed s code Every m fs) (cell_set m j key v) (machine.cell_set fs j (slot_of s c.text key) x) o _ _ (cell_write s code m fs j c.text key v x here.store c.reaches.stands c.has h)
       (λ m' fs' em efs r. wrote_on m' fs' r ks' hs refl c.is.is.on))))
 
   put_element : (v : Val) (x : Value) (vals2 : List Val) (stack2 : List Value) → ValAt v x → StackAt (HandAt s m) ks' vals2 stack2 → q ≡ suc pc → (a n : ℕ)
@@ -147,7 +146,7 @@ module _ (s : Source) (code : CodeOf) (l : Limits) (o : World) (m : Instances) (
       let in_use : a.temp < suc a.temp = omega arith in
       at_cell s code l o m inst w vals rest fs t b pc stack below ks here o (level_of s t) inst a.temp _ _ (own_level s m inst t here.stands here.lives)
       (alike_found Configuration Machine R Frames (machine.cell_set fs inst a.temp x) r.frames o _ _ r.is
-      (goes s code (suc a.temp) a.x (moved s code m m fs r.frames r.store (later_itself s m) (Other inst) r.keeps refl r.standings here.kept_alone here hs) (
+      (goes s code (suc a.temp) a.x (moved s code r.changed here.kept_alone here hs) (
         a.x,
         suc a.temp,
         q,
@@ -157,7 +156,7 @@ module _ (s : Source) (code : CodeOf) (l : Limits) (o : World) (m : Instances) (
         low',
         record { temp = a.temp; x = x; like = h; «in_use» = in_use; is_temp = record { behind = a.is_temp.behind; within = a.is_temp.within }; holds = r.holds; gives = a.gives },
         work_more s code m r.frames (λ v. ChainAt s code m r.frames rest v below) inst t b u (suc a.temp) more w q ks'
-            (work_moved s code m m fs r.frames r.store (later_itself s m) (Other inst) r.keeps refl r.standings here.kept_alone here here.alone below u (λ n le lt. r.others n (λ same. let no : ⊥ = omega (arith, same, lt, a.unused) in no)) w q ks' k),
+            (work_moved s code r.changed here here.alone below u (λ n le lt. r.others n (λ same. let no : ⊥ = omega (arith, same, lt, a.unused) in no)) w q ks' k),
       ) a.kept.is.on))))
 
   -- what was taken lies in its temp

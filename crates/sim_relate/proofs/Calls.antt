@@ -24,7 +24,7 @@ use Rattle.sim_meaning.specs.Statements.{has_value}
 use Rattle.sim_meaning.specs.Steps.{go, with_value, of_plain, operand, plain_in, put_back, putting}
 use Rattle.sim_meaning.specs.Texts.{text}
 use Rattle.codegen_expr.specs.Sites.{cells_in, HasCell, slot_of}
-use Rattle.sim_relate.proofs.Relation.{ChainAt, HandAt, Kind, OpAt, StackAt, StateAt, WorkAt, given, more_at, plain_at, site_at, AllRead, Any, IsRead, LinkTo, Located, Stands, ValAt, array_at, element_at, image_at, link_at}
+use Rattle.sim_relate.proofs.Relation.{ChainAt, Changed, Every, HandAt, Kind, OpAt, StackAt, StateAt, WorkAt, given, more_at, plain_at, site_at, AllRead, Any, IsRead, LinkTo, Located, Stands, ValAt, array_at, element_at, image_at, link_at}
 use Rattle.sim_relate.proofs.Hands.{stack_length, FirstAt, hand_operands}
 use Rattle.sim_relate.proofs.Here.{Here, act, at_row, kinds_as}
 use Rattle.sim_relate.proofs.Operators.{chosen, onward, same_plain}
@@ -35,7 +35,7 @@ use Rattle.sim_values.specs.declared.value.TextVal.{TextVal}
 use Rattle.sim_code.specs.Arrays.{element, element_set}
 use Rattle.sim_code.specs.Instances.{CellPlace}
 use Rattle.sim_relate.proofs.Assigns.{wrote_on}
-use Rattle.sim_relate.proofs.Stores.{Written, cell_read, cell_write}
+use Rattle.sim_relate.proofs.Stores.{cell_read, cell_write}
 
 read_length : (n : ℕ) (ks left : List Kind) → AllRead n ks left → length ks ≡ n + length left
 read_length zero ks left a = let e = ap length a in omega (arith, e)
@@ -82,7 +82,7 @@ module _ (s : Source) (code : CodeOf) (l : Limits) (o : World) (m : Instances) (
   reads_same (LinkTo text) r v x h = absurd r
 
   -- it goes back to an element, an image or a cell, or is dropped
-  module _ (t2 : TextVal) (p : World) (r : World → Instances → Run Configuration) (y : World → Frames → Run Machine) (as_is : (p : World) → Alike R (r p m) (y p fs)) (after : (p : World) (m' : Instances) (fs' : Frames) → Written s code m fs m' fs' → Alike R (r p m') (y p fs')) where
+  module _ (t2 : TextVal) (p : World) (r : World → Instances → Run Configuration) (y : World → Frames → Run Machine) (as_is : (p : World) → Alike R (r p m) (y p fs)) (after : (p : World) (m' : Instances) (fs' : Frames) → Changed s code Every m fs m' fs' → Alike R (r p m') (y p fs')) where
     value_back : (v : Val) (x : Value) → ValAt v x → Alike R (put_back v t2 p m r) (rows.put_back x t2 p fs y)
     unfolding put_back rows.put_back putting rows.putting having
     value_back _ _ plain_at = as_is p
@@ -94,7 +94,7 @@ module _ (s : Source) (code : CodeOf) (l : Limits) (o : World) (m : Instances) (
     cell_back : (j u : ℕ) (key : Key) → Stands s m j u → HasCell s u key → Alike R (put_back (meaning.Address (CellPlace j key None)) t2 p m r) (rows.put_back (machine.Address (CellPlace j (slot_of s u key) 0)) t2 p fs y)
     unfolding put_back rows.put_back putting rows.putting
     cell_back j u key stands has =
-        alike_having Configuration Machine R Instances Frames (Written s code m fs) (cell_set m j key (meaning.Of (Text t2))) (machine.cell_set fs j (slot_of s u key) (machine.Of (Text t2))) p _ _
+        alike_having Configuration Machine R Instances Frames (Changed s code Every m fs) (cell_set m j key (meaning.Of (Text t2))) (machine.cell_set fs j (slot_of s u key) (machine.Of (Text t2))) p _ _
         (cell_write s code m fs j u key (meaning.Of (Text t2)) (machine.Of (Text t2)) here.store stands has plain_at) (λ m' fs' em efs w. after p m' fs' w)
 
     back : (k : Kind) → IsRead k → (v : Val) (x : Value) → HandAt s m k v x → Alike R (put_back v t2 p m r) (rows.put_back x t2 p fs y)
@@ -104,7 +104,7 @@ module _ (s : Source) (code : CodeOf) (l : Limits) (o : World) (m : Instances) (
         (subst (λ z. Alike R (put_back (meaning.Address (CellPlace h.instance h.key None)) t2 p m r) (rows.put_back z t2 p fs y)) (sym h.is_value) (cell_back h.instance h.text h.key h.stands h.has))
     back (LinkTo text) i v x h = absurd i
 
-  moves_back : (f : Option Val) (f' : Option Value) → Both (FirstAt Configuration Machine R Val Value (HandAt s m) (operand o m) (machine.operand o fs) reads_same) f f' → (moved : Option TextVal) (p : World) (r : World → Instances → Run Configuration) (y : World → Frames → Run Machine) → ((p : World) → Alike R (r p m) (y p fs)) → ((p : World) (m' : Instances) (fs' : Frames) → Written s code m fs m' fs' → Alike R (r p m') (y p fs'))
+  moves_back : (f : Option Val) (f' : Option Value) → Both (FirstAt Configuration Machine R Val Value (HandAt s m) (operand o m) (machine.operand o fs) reads_same) f f' → (moved : Option TextVal) (p : World) (r : World → Instances → Run Configuration) (y : World → Frames → Run Machine) → ((p : World) → Alike R (r p m) (y p fs)) → ((p : World) (m' : Instances) (fs' : Frames) → Changed s code Every m fs m' fs' → Alike R (r p m') (y p fs'))
       → Alike R (putting_back put_back f moved p m r) (putting_back rows.put_back f' moved p fs y)
   unfolding putting_back
   moves_back None None h moved p r y as_is after = as_is p

@@ -9,9 +9,9 @@ use Rattle.sim_code.specs.Machine.{Frames, Value}
 use Rattle.sim_code.specs.Machine as machine
 use Rattle.sim_meaning.specs.Pending.{Activation, BackOp, BranchOp, CallOf, Cell, CopyOf, Do, Either, ElementOf, ElementsOp, EndBlock, EndProcedure, EndProgram, Eval, Further, Given, GiveOp, IfOp, ImageOf, Instances, Item, Joined, NoTerm, One, Op, PlaceOf, RaiseOp, ShareOp, StandardOf, StepTestOp, StoreOp, Target, Term, Terms, ToAddress, ToCell, ToText, ToTextOf, Two, Unbuilt, Val, ValueAt, WhileElementOp}
 use Rattle.sim_meaning.specs.Texts.{text}
-use Rattle.codegen_expr.specs.Sites.{Site, cells_in}
-use Rattle.sim_relate.proofs.Relation.{Any, Bottom, ChainAt, ChainOn, ComesTo, EndAt, Every, GivesIs, HandAt, Keeps, Kind, Later, LinkTo, Located, OpAt, OperandAt, Reaches, ReadsAt, StackAt, StandingAt, StandingsAt, Stands, TargetAt, TermAt, TermsAt, VariableIs, WorkAt, more_at, none_at, over, placed, returning, site_at, there}
 use Rattle.sim_meaning.specs.Sane.{AllKept, AllOf, KeptOf}
+use Rattle.codegen_expr.specs.Sites.{Site, cells_in}
+use Rattle.sim_relate.proofs.Relation.{Any, Bottom, ChainAt, ChainOn, Changed, ComesTo, EndAt, Every, GivesIs, HandAt, Keeps, Kind, Later, LinkTo, Located, OpAt, OperandAt, Reaches, ReadsAt, StackAt, StandingAt, StandingsAt, Stands, TargetAt, TermAt, TermsAt, VariableIs, WorkAt, more_at, none_at, over, placed, returning, site_at, there}
 
 end_later : (s : Source) (code : CodeOf) (Below Below' : Bool → Type 0) → ((v : Bool) → Below v → Below' v) → (t : ℕ) (b : BlockOf) (x : Item) (p : ℕ) (ks : List Kind) → EndAt s code Below t b x p ks → EndAt s code Below' t b x p ks
 end_later s code Below Below' f t b (Do op) p ks a = absurd a
@@ -166,14 +166,11 @@ module _ (s : Source) (code : CodeOf) (m m' : Instances) (e : Later s m m') wher
       work_later Below Below' f b used keeps (EndProcedure v ∷ w) p ks a = (a.0, comes_later b used keeps (length ks) a.0 p a.1, end_later s code Below Below' f t b (EndProcedure v) a.0 ks a.2)
       work_later Below Below' f b used keeps (EndProgram ∷ w) p ks a = (a.0, comes_later b used keeps (length ks) a.0 p a.1, end_later s code Below Below' f t b EndProgram a.0 ks a.2)
 
-pub keeps_of : (s : Source) (m : Instances) (fs fs' : Frames) (Of Some_of : ℕ → Type 0) → ((j : ℕ) → Some_of j → Of j) → Keeps s m fs fs' Of → Keeps s m fs fs' Some_of
-keeps_of s m fs fs' Of Some_of f k = record { temps = λ j t c x. k.temps j t c (f j x) }
-
 module _ (s : Source) (code : CodeOf) (m m' : Instances) (fs fs' : Frames) (e : Later s m m') (Of : ℕ → Type 0) (k : Keeps s m fs fs' Of) where
-  pub chain_later : (Ground Ground' : Bool → List machine.Activation → Type 0) → ((v : Bool) (below : List machine.Activation) → Ground v below → Ground' v below) → (chain : List Activation) → AllOf Of chain → (v : Bool) (below : List machine.Activation) → ChainOn s code Ground m fs chain v below → ChainOn s code Ground' m' fs' chain v below
-  chain_later Ground Ground' g [] all v below c = g v below c
-  chain_later Ground Ground' g (a ∷ rest) all v [] c = absurd c
-  chain_later Ground Ground' g (a ∷ rest) all v (x ∷ below) c = record {
+  chain_on_later : (Ground Ground' : Bool → List machine.Activation → Type 0) → ((v : Bool) (below : List machine.Activation) → Ground v below → Ground' v below) → (chain : List Activation) → AllOf Of chain → (v : Bool) (below : List machine.Activation) → ChainOn s code Ground m fs chain v below → ChainOn s code Ground' m' fs' chain v below
+  chain_on_later Ground Ground' g [] all v below c = g v below c
+  chain_on_later Ground Ground' g (a ∷ rest) all v [] c = absurd c
+  chain_on_later Ground Ground' g (a ∷ rest) all v (x ∷ below) c = record {
     base = c.base;
     home = c.home;
     text = c.text;
@@ -186,46 +183,21 @@ module _ (s : Source) (code : CodeOf) (m m' : Instances) (fs fs' : Frames) (e : 
     fits = c.fits;
     used = c.used;
     goes = work_later s code m m' e a.instance c.text c.stands fs fs' (λ w. ChainOn s code Ground m fs rest w below) (λ w. ChainOn s code Ground' m' fs' rest w below)
-        (λ w b. chain_later Ground Ground' g rest all.1 w below b) c.block c.used (λ t le lt. k.temps a.instance c.text t all.0 c.stands le) a.work x.pc _ c.goes;
+        (λ w b. chain_on_later Ground Ground' g rest all.1 w below b) c.block c.used (λ t le lt. k.temps a.instance c.text t all.0 c.stands le) a.work x.pc _ c.goes;
   }
 
-  pub stands_later : (chain : List Activation) → AllOf Of chain → (v : Bool) (below : List machine.Activation) → ChainAt s code m fs chain v below → ChainAt s code m' fs' chain v below
-  stands_later chain all v below c = chain_later (Bottom s code) (Bottom s code) (λ w b g. g) chain all v below c
+  pub chain_later : (chain : List Activation) → AllOf Of chain → (v : Bool) (below : List machine.Activation) → ChainAt s code m fs chain v below → ChainAt s code m' fs' chain v below
+  chain_later chain all v below c = chain_on_later (Bottom s code) (Bottom s code) (λ w b g. g) chain all v below c
 
   -- the chains that are kept
   standing_later : (x : Standing Activation) (y : Standing machine.Activation) → KeptOf Of x → StandingAt s code m fs x y → StandingAt s code m' fs' x y
-  standing_later (NoObject None) (NoObject None) o a = a
-  standing_later (NoObject (Some chain)) (NoObject (Some below)) o a = stands_later chain o false below a
-  standing_later AttachedObject AttachedObject o a = a
-  standing_later (DetachedObject chain) (DetachedObject below) o a = stands_later chain o false below a
-  standing_later ResumedObject ResumedObject o a = a
-  standing_later TerminatedObject TerminatedObject o a = a
-  standing_later (NoObject None) (NoObject (Some below)) o a = absurd a
-  standing_later (NoObject None) AttachedObject o a = absurd a
-  standing_later (NoObject None) (DetachedObject below) o a = absurd a
-  standing_later (NoObject None) ResumedObject o a = absurd a
-  standing_later (NoObject None) TerminatedObject o a = absurd a
-  standing_later (NoObject (Some chain)) (NoObject None) o a = absurd a
-  standing_later (NoObject (Some chain)) AttachedObject o a = absurd a
-  standing_later (NoObject (Some chain)) (DetachedObject below) o a = absurd a
-  standing_later (NoObject (Some chain)) ResumedObject o a = absurd a
-  standing_later (NoObject (Some chain)) TerminatedObject o a = absurd a
-  standing_later AttachedObject (NoObject main) o a = absurd a
-  standing_later AttachedObject (DetachedObject below) o a = absurd a
-  standing_later AttachedObject ResumedObject o a = absurd a
-  standing_later AttachedObject TerminatedObject o a = absurd a
-  standing_later (DetachedObject chain) (NoObject main) o a = absurd a
-  standing_later (DetachedObject chain) AttachedObject o a = absurd a
-  standing_later (DetachedObject chain) ResumedObject o a = absurd a
-  standing_later (DetachedObject chain) TerminatedObject o a = absurd a
-  standing_later ResumedObject (NoObject main) o a = absurd a
-  standing_later ResumedObject AttachedObject o a = absurd a
-  standing_later ResumedObject (DetachedObject below) o a = absurd a
-  standing_later ResumedObject TerminatedObject o a = absurd a
-  standing_later TerminatedObject (NoObject main) o a = absurd a
-  standing_later TerminatedObject AttachedObject o a = absurd a
-  standing_later TerminatedObject (DetachedObject below) o a = absurd a
-  standing_later TerminatedObject ResumedObject o a = absurd a
+  standing_later (NoObject None) (NoObject None) all a = a
+  standing_later (NoObject (Some chain)) (NoObject (Some below)) all a = chain_later chain all false below a
+  standing_later AttachedObject AttachedObject all a = a
+  standing_later (DetachedObject chain) (DetachedObject below) all a = chain_later chain all false below a
+  standing_later ResumedObject ResumedObject all a = a
+  standing_later TerminatedObject TerminatedObject all a = a
+  standing_later _ _ all a = absurd a
 
   pub both_later : (x : Option (Standing Activation)) (y : Option (Standing machine.Activation)) → ((z : Standing Activation) → x ≡ Some z → KeptOf Of z) → Both (StandingAt s code m fs) x y → Both (StandingAt s code m' fs') x y
   both_later None None o a = a
@@ -233,12 +205,26 @@ module _ (s : Source) (code : CodeOf) (m m' : Instances) (fs fs' : Frames) (e : 
   both_later (Some x) None o a = absurd a
   both_later (Some x) (Some y) o a = standing_later x y (o x refl) a
 
-  -- where neither store has other standings
-  pub standings_later : m'.standings ≡ m.standings → fs'.standings ≡ fs.standings → AllKept Of m → StandingsAt s code m fs → StandingsAt s code m' fs'
-  standings_later e f all a j =
-      subst (λ z. Both (StandingAt s code m' fs') (slice_get z j) (slice_get fs'.standings j)) (sym e)
-      (subst (λ z. Both (StandingAt s code m' fs') (slice_get m.standings j) (slice_get z j)) (sym f)
-      (both_later (slice_get m.standings j) (slice_get fs.standings j) (λ z is. all j z is) (a j)))
+-- what a step leaves where it is
+module _ (s : Source) (code : CodeOf) {Of : ℕ → Type 0} {m m' : Instances} {fs fs' : Frames} (x : Changed s code Of m fs m' fs') where
+  pub chain_changed : (chain : List Activation) → AllOf Of chain → (v : Bool) (below : List machine.Activation) → ChainAt s code m fs chain v below → ChainAt s code m' fs' chain v below
+  chain_changed chain all v below c = chain_later s code m m' fs fs' x.later Of x.keeps chain all v below c
+
+  pub parked_changed : AllKept Of m → StandingsAt s code m fs → StandingsAt s code m' fs'
+  parked_changed all a j =
+      subst (λ z. Both (StandingAt s code m' fs') (slice_get z j) (slice_get fs'.standings j)) (sym x.standings)
+      (subst (λ z. Both (StandingAt s code m' fs') (slice_get m.standings j) (slice_get z j)) (sym x.frame_standings)
+      (both_later s code m m' fs fs' x.later Of x.keeps (slice_get m.standings j) (slice_get fs.standings j) (λ z is. all j z is) (a j)))
+
+  -- a step, and another one behind it
+  pub changed_twice : {m2 : Instances} {fs2 : Frames} → Changed s code Of m' fs' m2 fs2 → Changed s code Of m fs m2 fs2
+  changed_twice y = record {
+    store = y.store;
+    later = record { stands = λ j t st. (y.later).stands j t ((x.later).stands j t st); same = λ level j t st. (y.later).same level j t ((x.later).stands j t st) ∙ (x.later).same level j t st };
+    keeps = record { temps = λ j t c of st le. (y.keeps).temps j t c of ((x.later).stands j t st) le ∙ (x.keeps).temps j t c of st le };
+    standings = y.standings ∙ x.standings;
+    frame_standings = y.frame_standings ∙ x.frame_standings;
+  }
 
 -- of every instance
 pub all_every : (chain : List Activation) → AllOf Every chain

@@ -13,7 +13,7 @@ use Rattle.sim_scope.specs.declared.types.Mode.{Mode}
 use Rattle.sim_scope.specs.declared.types.Mode.TheVariants as mode
 use Rattle.sim_scope.specs.declared.types.SimType.{SimType}
 use Rattle.sim_scope.specs.Scopes.{entry_of}
-use Rattle.sim_scope.specs.Source.{Source, block_of, denoted, line_at, level_of}
+use Rattle.sim_scope.specs.Source.{Source, block_of, denoted, line_at}
 use Rattle.sim_tree.specs.declared.expr.Identifier.{Identifier}
 use Rattle.sim_tree.specs.declared.expr.Sign.{Sign}
 use Rattle.sim_tree.specs.declared.expr.Sign.TheVariants as sign
@@ -22,7 +22,6 @@ use Rattle.sim_tree.specs.Syntax as syntax
 use Rattle.sim_values.specs.declared.standard.Standard.{Standard}
 use Rattle.sim_values.specs.Plain.{Plain, Character, Integer, Nothing, Object, Text, Truth}
 use Rattle.sim_code.specs.declared.instr.Instr.TheVariants as i
-use Rattle.sim_code.specs.Instances.{at_level}
 use Rattle.sim_code.specs.Code.{CodeOf}
 use Rattle.sim_meaning.specs.Closing.{Joining, Lazily, Negated, Plainly, Sort, actual_term, array_term, close, close_actuals, close_all, constant_term, declared_term, formal_term, formals_at, home_of, in_instance, is_text, is_text_type, literal_term, named_term, signed_term, sort_of, standard_term, two_term, variable_term, array_place, attribute_term, behind_dot, close_place, declared_place, dot_term, formal_place, given_term, image_place, is_variable, name_term, named_place, object_term, stream_denoted, stream_of, sysout, variable_place}
 use Rattle.sim_meaning.specs.Names.{procedure_named, stream_named}
@@ -35,7 +34,7 @@ use Rattle.codegen_expr.specs.CodeExpr.{ActualAt, ActualsAt, ArrayAt, CallAt, Ce
 use Rattle.codegen_expr.specs.CodeExpr as code_gives
 use Rattle.codegen.specs.Agrees.{Agrees}
 use Rattle.sim_relate.proofs.Formals.{actuals_counted, formals_same}
-use Rattle.sim_relate.proofs.Relation.{OperandAt, Reaches, TermAt, TermsAt, gives, text_gives, GivenIs, IsImage, ReadsAt, empty, listed, of_input, of_output, reads}
+use Rattle.sim_relate.proofs.Relation.{Finds, OperandAt, TermAt, TermsAt, gives, text_gives, GivenIs, IsImage, ReadsAt, empty, listed, of_input, of_output, reads}
 use Rattle.sim_scope.specs.declared.standard.StandardName.{StandardName}
 use Rattle.sim_scope.specs.declared.standard.StandardName.TheVariants as found
 use Rattle.sim_values.specs.declared.standard.Standard.TheVariants as name_of
@@ -43,7 +42,7 @@ use Rattle.sim_values.specs.Standard.{is_image, moves_position, on_image, row_of
 use Rattle.sim_meaning.specs.Constants.{text_constant}
 use Rattle.sim_relate.proofs.Pending.{read_given}
 
-module _ (s : Source) (code : CodeOf) (m : Instances) (inst : ℕ) (site : Site) (agrees : Agrees s) (reach : (u : ℕ) → Inside s.tables site.text u → (j : ℕ) × Reaches s m inst u j × (at_level m (level_of s u) inst ≡ Some j)) where
+module _ (s : Source) (code : CodeOf) (m : Instances) (inst : ℕ) (site : Site) (agrees : Agrees s) (reach : (u : ℕ) → Inside s.tables site.text u → Finds s m inst u) where
   -- the tree evaluates, and leaves a value just where g says so
   abbrev pub NamedIs : (n : ℕ) → Bool → Term → ℕ → ℕ → Type 0
   NamedIs n g t p q = TermAt s code m inst site n t p q × (gives s t ≡ g)

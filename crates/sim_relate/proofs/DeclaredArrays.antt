@@ -12,14 +12,15 @@ use Rattle.sim_meaning.specs.Closing.{close}
 use Rattle.sim_meaning.specs.Entries.{arrays_declared, arrays_of, bounds_of, first_array, further_arrays, segments_of}
 use Rattle.sim_meaning.specs.Pending.{ArrayOp, Cell, CopyOp, Declared, Do, Eval, Instances, Item, StoreOp, ToCell}
 use Rattle.sim_meaning.specs.Texts.{declared_at, kind_named, text}
+use Rattle.sim_meaning.specs.Sane.{Lives}
 use Rattle.codegen_expr.specs.Sites.{At, cells_in}
 use Rattle.codegen.specs.Agrees.{Agrees}
 use Rattle.codegen.specs.CodeArrays.{ArraysAt, BoundsAt, FurtherAt, KeepsArray, LoadsArray, MakesAt, SegmentsAt}
 use Rattle.sim_relate.proofs.Closing.{close_at}
+use Rattle.sim_relate.proofs.Living.{reach_found}
 use Rattle.sim_relate.proofs.Pending.{anys_more, evals, pends}
-use Rattle.sim_relate.proofs.Reach.{own_reaches, reach_found}
+use Rattle.sim_relate.proofs.Reach.{own_reaches}
 use Rattle.sim_relate.proofs.Relation.{Any, Kind, Stands, WorkAt, anys, site_at}
-use Rattle.sim_meaning.specs.Sane.{Lives}
 
 -- two values for each dimension
 abbrev bounded : List BoundPair → List Kind → List Kind

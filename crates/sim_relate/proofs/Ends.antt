@@ -1,5 +1,5 @@
 -- The ends of blocks, of procedures and of the program.
-use Rattle.std.proofs.Common.{◌≡◌, ◌<◌, ◌≤◌, ℕ, Bool, true, false, List, [], ◌∷◌, length, Option, Some, None, refl, sym, ap, ◌∙◌, subst, arith}
+use Rattle.std.proofs.Common.{◌≡◌, ◌<◌, ℕ, Bool, true, false, List, [], ◌∷◌, length, Option, Some, None, refl, sym, ap, ◌∙◌, subst, arith}
 use Rattle.std.specs.Prelude.{◌==◌, if◌then◌else◌, nat_lt, pos, slice_get}
 use Rattle.sim_base.specs.declared.limits.Limits.{Limits}
 use Rattle.sim_scope.specs.Source.{Source}
@@ -27,13 +27,13 @@ use Rattle.sim_meaning.specs.Entries.{first_cells}
 use Rattle.codegen_expr.specs.CodeExpr.{block_number}
 use Rattle.codegen_expr.specs.Sites.{HasCell, cells_in, place_of, slot_of}
 use Rattle.codegen.specs.Compiled.{type_of_name}
-use Rattle.sim_relate.proofs.Carried.{all_every, kept_every, standings_later, stands_later}
+use Rattle.sim_relate.proofs.Carried.{all_every, chain_changed, kept_every, parked_changed}
 use Rattle.sim_relate.proofs.Hands.{stack_length}
-use Rattle.sim_relate.proofs.Heads.{given_length, given_standings, is_live_at}
-use Rattle.sim_relate.proofs.Reach.{lives_now}
+use Rattle.sim_relate.proofs.Heads.{given_standings, is_live_at}
 use Rattle.sim_relate.proofs.Here.{Here, act, at_row}
-use Rattle.sim_relate.proofs.Relation.{Any, ChainAt, EndAt, EndIs, Every, Keeps, Kind, Later, StandingsAt, StateAt, StoreAt, ValAt, more_at}
-use Rattle.sim_relate.proofs.Stores.{cell_read, framed, given_at_end_same, keeps_given, later_given, store_given}
+use Rattle.sim_relate.proofs.Living.{lives_now}
+use Rattle.sim_relate.proofs.Relation.{Any, ChainAt, Changed, EndAt, EndIs, Every, Kind, StandingsAt, StateAt, StoreAt, ValAt, more_at}
+use Rattle.sim_relate.proofs.Stores.{cell_read, framed, given_at_end_same, keeps_given, later_given, store_given, unchanged}
 
 pub chosen : {A : Type 0} (P : A → Type 0) (b : Bool) (x y : A) → b ≡ true → P x → P (if b then x else y)
 chosen P true x y e h = h
@@ -78,21 +78,13 @@ module _ (s : Source) (code : CodeOf) where
 
   -- ---- the stores behind an end
 
-  pub record Behind (m : Instances) (fs : Frames) (j : ℕ) (m' : Instances) (fs' : Frames) : Type 0 where
-    pub store : StoreAt s code m' fs'
-    pub count : length m'.instances ≡ length m.instances
-    pub later : Later s m m'
-    pub keeps : Keeps s m fs fs' Every
-    pub standings : m'.standings ≡ m.standings
-    pub standings' : fs'.standings ≡ fs.standings
-
-  left_alike : (m : Instances) (fs : Frames) → StoreAt s code m fs → (j : ℕ) (b b' : Bool) → b' ≡ b → Behind m fs j (if b then given m j else m) (if b' then given fs j else fs)
-  left_alike m fs a j true true e = record { store = store_given s code m fs a j; count = given_length m j (slice_get m.instances j); later = later_given s m j; keeps = keeps_given s m fs j; standings = given_standings m j (slice_get m.instances j); standings' = given_standings fs j (slice_get fs.instances j) }
+  left_alike : (m : Instances) (fs : Frames) → StoreAt s code m fs → (j : ℕ) (b b' : Bool) → b' ≡ b → Changed s code Every m fs (if b then given m j else m) (if b' then given fs j else fs)
+  left_alike m fs a j true true e = record { store = store_given s code m fs a j; later = later_given s m j; keeps = keeps_given s m fs j; standings = given_standings m j (slice_get m.instances j); frame_standings = given_standings fs j (slice_get fs.instances j) }
   left_alike m fs a j true false e = absurd (cc)
   left_alike m fs a j false true e = absurd (cc)
-  left_alike m fs a j false false e = record { store = a; count = refl; later = record { stands = λ k t st. st; same = λ level k t st. refl }; keeps = record { temps = λ k t c is st le. refl }; standings = refl; standings' = refl }
+  left_alike m fs a j false false e = unchanged s code m fs a
 
-  pub stores_left : (m : Instances) (fs : Frames) → StoreAt s code m fs → (j : ℕ) → Behind m fs j (instances_left j m) (frames_left j fs)
+  pub stores_left : (m : Instances) (fs : Frames) → StoreAt s code m fs → (j : ℕ) → Changed s code Every m fs (instances_left j m) (frames_left j fs)
   stores_left m fs a j = left_alike m fs a j (is_given_at_end m j) (is_given_at_end fs j) (sym (given_at_end_same s code m fs a j))
 
   pub worlds_left : (o : World) (m : Instances) (fs : Frames) → StoreAt s code m fs → (j t : ℕ) (b : BlockOf) → text_of m j ≡ t → words_of_text s t (text s t) ≡ words_of_block b → machine.world_left b j o fs ≡ world_left s j o m
@@ -102,14 +94,10 @@ module _ (s : Source) (code : CodeOf) where
 
   module _ (o : World) (m : Instances) (fs : Frames) (a : StoreAt s code m fs) (parked : StandingsAt s code m fs) (j t : ℕ) (b : BlockOf) (is : text_of m j ≡ t) (words : words_of_text s t (text s t) ≡ words_of_block b) where
     chain_left : (rest : List Activation) (v : Bool) (below : List machine.Activation) → ChainAt s code m fs rest v below → ChainAt s code (instances_left j m) (frames_left j fs) rest v below
-    chain_left rest v below c =
-        let x = stores_left m fs a j in
-        stands_later s code m (instances_left j m) fs (frames_left j fs) x.later Every x.keeps rest (all_every rest) v below c
+    chain_left rest v below c = chain_changed s code (stores_left m fs a j) rest (all_every rest) v below c
 
     parked_left : StandingsAt s code (instances_left j m) (frames_left j fs)
-    parked_left =
-        let x = stores_left m fs a j in
-        standings_later s code m (instances_left j m) fs (frames_left j fs) x.later Every x.keeps x.standings x.standings' (kept_every m) parked
+    parked_left = parked_changed s code (stores_left m fs a j) (kept_every m) parked
 
     in_world : (c : Configuration) (x : Machine) → R c x → Alike R (Going (world_left s j o m) c) (Going (machine.world_left b j o fs) x)
     in_world c x h = subst (λ z. Alike R (Going (world_left s j o m) c) (Going z x)) (sym (worlds_left o m fs a j t b is words)) (going h)

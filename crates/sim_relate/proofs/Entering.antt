@@ -1,5 +1,5 @@
 -- What entries of all kinds have in common.
-use Rattle.std.proofs.Common.{◌≡◌, ◌<◌, ◌≤◌, ◌+◌, ℕ, zero, suc, Bool, true, false, List, [], ◌∷◌, ◌++◌, length, map, Option, Some, None, refl, sym, ap, ◌∙◌, subst, arith, length-append}
+use Rattle.std.proofs.Common.{◌≡◌, ◌<◌, ◌+◌, ℕ, zero, suc, Bool, true, false, List, [], ◌∷◌, ◌++◌, length, map, Option, Some, None, refl, sym, ap, ◌∙◌, subst, arith}
 use Rattle.std.proofs.lemmas.List.{length-map}
 use Rattle.std.proofs.lemmas.Option.{slice_get_within}
 use Rattle.std.specs.Prelude.{if◌then◌else◌, pos, slice_get}
@@ -26,12 +26,13 @@ use Rattle.codegen_expr.specs.CodeExpr.{block_number}
 use Rattle.codegen_expr.specs.Sites.{cells_in}
 use Rattle.codegen.specs.Agrees.{Agrees}
 use Rattle.codegen.specs.Compiled.{CodeHas, Compiled, RecordOf, TextCode, type_of_cell}
-use Rattle.sim_relate.proofs.Carried.{all_every, both_later, kept_every, stands_later}
+use Rattle.sim_relate.proofs.Carried.{all_every, both_later, chain_later, kept_every}
 use Rattle.sim_relate.proofs.Ends.{chosen, left_out}
 use Rattle.sim_relate.proofs.Relation.{CellsAt, ChainAt, Every, InstanceAt, Kind, StandingAt, StandingsAt, StateAt, StoreAt, Stands, ValAt, WorkAt, key_of, none_at, plain_at, value_of}
 use Rattle.sim_relate.proofs.Slots.{first_all, first_cells_at}
-use Rattle.sim_relate.proofs.Stores.{SameOwners, keeps_entered, later_entered, store_entered}
 use Rattle.sim_relate.proofs.Lists.{append_both}
+use Rattle.sim_relate.proofs.Reach.{same_some}
+use Rattle.sim_relate.proofs.Stores.{SameOwners, keeps_entered, later_entered, store_entered}
 
 -- ---- texts and blocks that are there
 
@@ -124,9 +125,6 @@ module _ (s : Source) (code : CodeOf) where
   abbrev pub new_frame : (number : ℕ) → BlockOf → (parent : Option ℕ) → Cells → Instance Cells
   new_frame n b parent cells = record { text = n; level = b.level; encloser = parent; cells = cells; passing = b.class_free; kept = false; given_back = false }
 
-  same_some : {A : Type 0} (o : Option A) (a b : A) → o ≡ Some a → o ≡ Some b → b ≡ a
-  same_some o a b e f = cc
-
   pub instance_at : (k : ℕ) (x : Text) (kind : BlockKind) (result : CodeType) (b : BlockOf) → text s k ≡ Some x → RecordOf s k kind result b → slice_get code.blocks (block_number s k) ≡ Some b → (e : Option ℕ) (cells : List Held) (cells' : Cells) → CellsAt ValAt (map value_of cells) cells' → map key_of cells ≡ map key_of (first_cells s k x) → length cells' ≡ length b.types
       → InstanceAt s code (new_instance s k e cells) (new_frame (block_number s k) b e cells')
   instance_at k x kind result b is heads found e cells cells' at keys size = record {
@@ -138,7 +136,7 @@ module _ (s : Source) (code : CodeOf) where
     given_back = refl;
     cells = at;
     keys = keys ∙ ap (λ z. map key_of (cells_in s k z)) (sym is);
-    size = λ b' f. size ∙ ap (λ z. length (z.types)) (sym (same_some (slice_get code.blocks (block_number s k)) b b' found f));
+    size = λ b' f. size ∙ ap (λ z. length (z.types)) (same_some (slice_get code.blocks (block_number s k)) b b' found f);
   }
 
   pub first_at : (k : ℕ) (x : Text) (kind : BlockKind) (result : CodeType) (b : BlockOf) → text s k ≡ Some x → RecordOf s k kind result b → CellsAt ValAt (map value_of (first_cells s k x)) (machine.first_cells b)
@@ -159,7 +157,7 @@ module _ (s : Source) (code : CodeOf) where
     later_fs = entered fs y r
 
     pub chain_entered : (chain : List Activation) (v : Bool) (below : List machine.Activation) → ChainAt s code m fs chain v below → ChainAt s code later_m later_fs chain v below
-    chain_entered chain v below c = stands_later s code m later_m fs later_fs (later_entered s m x p) Every (keeps_entered s m fs a.as_many y r) chain (all_every chain) v below c
+    chain_entered chain v below c = chain_later s code m later_m fs later_fs (later_entered s m x p) Every (keeps_entered s m fs a.as_many y r) chain (all_every chain) v below c
 
     pub parked_entered : StandingAt s code later_m later_fs p r → StandingsAt s code m fs → StandingsAt s code later_m later_fs
     parked_entered new old =

@@ -31,24 +31,25 @@ use Rattle.sim_meaning.specs.Meaning.{block_work, do_op, first_step, has_result,
 use Rattle.sim_meaning.specs.Pending.{Activation, ArrayOp, ArrayValue, CallOp, Configuration, Do, EndBlock, EndProcedure, EndProgram, EnterOp, Exec, Execs, Held, Instances, Item, Op, PastOp, Val, instance_in, plain}
 use Rattle.sim_meaning.specs.Steps.{go}
 use Rattle.sim_meaning.specs.Texts.{BlockText, ClassText, ConnectionText, PrefixedText, ProcedureText, Text, text}
+use Rattle.sim_meaning.specs.Sane.{Lives, lives_alone}
 use Rattle.codegen_expr.specs.CodeExpr.{block_number}
 use Rattle.codegen_expr.specs.Sites.{At, cells_in, lined}
 use Rattle.codegen.specs.CodeArrays.{ArraysAt, element_number}
 use Rattle.codegen.specs.CodeStm.{StmsAt}
 use Rattle.codegen.specs.Compiled.{Compiled, ProcedureTextOf, ProgramOf, TextCode, type_of_name}
-use Rattle.sim_relate.proofs.Actuals.{KeptIs, arrays_same, behind_result, both_kept, counted_many, each_length}
-use Rattle.sim_relate.proofs.Carried.{all_every, kept_every, standings_later, stands_later}
+use Rattle.sim_relate.proofs.Actuals.{arrays_same, behind_result, both_kept, counted_many, each_length}
+use Rattle.sim_relate.proofs.Carried.{all_every, chain_changed, kept_every, parked_changed}
 use Rattle.sim_relate.proofs.DeclaredArrays.{arrays_at}
 use Rattle.sim_relate.proofs.Ends.{chosen}
-use Rattle.sim_relate.proofs.Entering.{block_alike, block_refused, chain_entered, chain_owners, code_there, enters, parked_entered, first_at, first_size, first_text, instance_at, later_fs, later_m, new_frame, text_there}
+use Rattle.sim_relate.proofs.Entering.{block_alike, block_refused, chain_entered, chain_owners, code_there, enters, first_at, first_size, first_text, instance_at, later_fs, later_m, new_frame, parked_entered, text_there}
 use Rattle.sim_relate.proofs.Formals.{formals_fit}
 use Rattle.sim_relate.proofs.Hands.{hand_integers, hand_popping, stack_length}
 use Rattle.sim_relate.proofs.Here.{Here, act, at_row, goes, kinds_as, with_values}
+use Rattle.sim_relate.proofs.Living.{new_lives, new_lives_inside}
 use Rattle.sim_relate.proofs.Pending.{ends_at, pends}
-use Rattle.sim_relate.proofs.Relation.{Any, CallOpIs, ChainAt, Every, HandAt, Kind, LinkIs, StandingsAt, LinkTo, OpAt, StackAt, StateAt, StoreAt, Stands, ValAt, WorkAt, anys, array_at, element_at, given, link_at, more_at, plain_at, site_at, straight, image_at}
-use Rattle.sim_meaning.specs.Sane.{Lives, lives_alone}
+use Rattle.sim_relate.proofs.Relation.{Any, CallOpIs, ChainAt, Changed, Every, HandAt, Kind, LinkIs, LinkTo, OpAt, StackAt, StandingsAt, StateAt, StoreAt, Stands, ValAt, WorkAt, anys, array_at, element_at, given, link_at, more_at, plain_at, site_at, straight, image_at}
 use Rattle.sim_relate.proofs.Slots.{Written, cells_filled_behind, cells_fit, machine_fills, put_from, put_length, results}
-use Rattle.sim_relate.proofs.Stores.{is_live_same, new_inside, new_lives, new_lives_inside, new_outermost}
+use Rattle.sim_relate.proofs.Stores.{is_live_same, new_inside, new_outermost}
 
 no_around : (o : Option ℕ) (u : ℕ) → o ≡ None → o ≡ Some u → ⊥
 no_around o u e f = cc
@@ -92,13 +93,13 @@ module _ (s : Source) (code : CodeOf) (compiled : Compiled s code) (l : Limits) 
       let m' = later_m s code m fs a new frame (NoObject None) (NoObject None) in
       let fs' = later_fs s code m fs a new frame (NoObject None) (NoObject None) in
       let stands : Stands s m' (length m.instances) 0 = new_outermost s m 0 new (NoObject None) refl refl refl compiled.agrees.outermost in
-      let born : Lives m' (length m.instances) = lives_alone (new_lives m new (NoObject None) refl) refl in
+      let lives : Lives m' (length m.instances) = lives_alone (new_lives m new (NoObject None) refl) refl in
       let Below : Bool → Type 0 = λ v. ChainAt s code m' fs' [] v [] in
       let low : length (cells_in s 0 (text s 0)) ≤ b.cells = omega (arith, heads.cells) in
       let next = (h.enter).on in
       let start = body.there in
       let ahead : b.entry < h.start = omega (arith, next) in
-      let work = block_pends s code compiled m' fs' Below (length m.instances) 0 b stands born ds ss EndProgram h.start (body.body).0 body.stop heads.cells (body.body).1 (body.body).2
+      let work = block_pends s code compiled m' fs' Below (length m.instances) 0 b stands lives ds ss EndProgram h.start (body.body).0 body.stop heads.cells (body.body).1 (body.body).2
       (ends_at s code m' fs' Below (length m.instances) 0 b b.cells EndProgram [] body.stop [] (refl, record { last = body.last; at = body.ends; heads = heads; none = refl; below = record { still = refl; is = refl } })) in
       going (enters s code m fs a new frame (NoObject None) (NoObject None) (parked_entered s code m fs a new frame (NoObject None) (NoObject None) tt parked) [] [] 0 b (instance_at s code 0 (BlockText begin ds ss) block_kind.SubBlock type.Nothing b is heads found None cells (machine.first_cells b) (first_at s code 0 (BlockText begin ds ss) block_kind.SubBlock type.Nothing b is heads) refl (first_size s code b))
       found stands (Do PastOp ∷ block_work s m' (length m.instances) ds ss EndProgram) b.cells b.entry
@@ -180,11 +181,11 @@ module _ (s : Source) (code : CodeOf) (compiled : Compiled s code) (l : Limits) 
       let under : List machine.Activation = waiting top stack ∷ below in
       let Below : Bool → Type 0 = λ v. ChainAt s code m' fs' chain v under in
       let stands : Stands s m' (length m.instances) (suc k) = new_inside s m (suc k) inst t new (NoObject None) refl refl refl around here.stands in
-      let born : Lives m' (length m.instances) = new_lives_inside m new (NoObject None) refl inst refl here.lives in
+      let lives : Lives m' (length m.instances) = new_lives_inside m new (NoObject None) refl inst refl here.lives in
       let waiting_chain = chain_entered s code m fs here.store new frame (NoObject None) (NoObject None) chain false under (waits false ks vals stack here.values (λ no. absurd (cc)) e at.on) in
       going (enters s code m fs here.store new frame (NoObject None) (NoObject None) (parked_entered s code m fs here.store new frame (NoObject None) (NoObject None) tt here.parked) chain under (suc k) new_block (instance_at s code (suc k) (BlockText begin ds ss) block_kind.SubBlock type.Nothing new_block is heads c.found (Some inst) cells (machine.first_cells new_block) (first_at s code (suc k) (BlockText begin ds ss) block_kind.SubBlock type.Nothing new_block is heads) refl (first_size s code new_block))
       c.found stands (block_work s m' (length m.instances) ds ss EndBlock) new_block.cells new_block.entry
-      (block_pends s code compiled m' fs' Below (length m.instances) (suc k) new_block stands born ds ss EndBlock new_block.entry (body.body).0 body.stop heads.cells (body.body).1 (body.body).2
+      (block_pends s code compiled m' fs' Below (length m.instances) (suc k) new_block stands lives ds ss EndBlock new_block.entry (body.body).0 body.stop heads.cells (body.body).1 (body.body).2
       (ends_at s code m' fs' Below (length m.instances) (suc k) new_block new_block.cells EndBlock [] body.stop [] (record { begin = begin; declarations = ds; statements = ss; is = is }, record { last = body.last; at = body.ends; heads = heads; none = refl; below = waiting_chain })))))))
 
   enter_some : (k line : ℕ) (x : Text) → text s k ≡ Some x → At code (i.Enter (pos (block_number s k))) line pc q → encloser s.tables k ≡ Some t → ks' ≡ ks → Alike Related (sub_block_entered s l o m inst w vals rest k line (Some x)) (on_top code l o fs top below)
@@ -244,7 +245,7 @@ module _ (s : Source) (code : CodeOf) (compiled : Compiled s code) (l : Limits) 
     abbrev kept_fs : Frames
     kept_fs = frames_kept new_block (top ∷ below) fs
 
-    kept : KeptIs s code m fs kept_m kept_fs
+    kept : Changed s code Every m fs kept_m kept_fs
     kept = both_kept s code m fs here.store chain (top ∷ below) (chain_owners s code m fs chain (has_result result) under waiting_here) k block_kind.Procedure (type_of_name result) new_block h.heads
 
     abbrev new : Instance (List Held)
@@ -262,8 +263,8 @@ module _ (s : Source) (code : CodeOf) (compiled : Compiled s code) (l : Limits) 
         let Below : Bool → Type 0 = λ v. ChainAt s code m' fs' chain v under in
         let out = (kept.later).stands j around link in
         let stands : Stands s m' (length kept_m.instances) k = new_inside s kept_m k j around new (NoObject None) refl refl refl in_text out in
-        let chain_kept = stands_later s code m kept_m fs kept_fs kept.later Every kept.keeps chain (all_every chain) (has_result result) under waiting_here in
-        let parked_kept = standings_later s code m kept_m fs kept_fs kept.later Every kept.keeps kept.standings kept.standings' (kept_every m) here.parked in
+        let chain_kept = chain_changed s code kept chain (all_every chain) (has_result result) under waiting_here in
+        let parked_kept = parked_changed s code kept (kept_every m) here.parked in
         let chain_there = chain_entered s code kept_m kept_fs kept.store new frame (NoObject None) (NoObject None) chain (has_result result) under chain_kept in
         let size : length cells' ≡ length new_block.types = put_length (results result) values' (machine.first_cells new_block) ∙ first_size s code new_block in
         let pair = instance_at s code k (ProcedureText result heading body) block_kind.Procedure (type_of_name result) new_block is heads found (Some j) cells_at.now cells' cells_at.at cells_at.keys size in

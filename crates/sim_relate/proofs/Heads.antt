@@ -1,6 +1,5 @@
 -- What instances have in common before and after a step, and what follows for what is found from them.
-use Rattle.std.proofs.Common.{◌≡◌, ◌≢◌, ℕ, zero, suc, ◌<◌, List, [], ◌∷◌, ◌++◌, length, Option, Some, None, Bool, true, false, refl, sym, ap, ◌∙◌, subst, arith}
-use Rattle.std.proofs.lemmas.List.{length-set}
+use Rattle.std.proofs.Common.{◌≡◌, ℕ, zero, suc, ◌<◌, List, [], ◌∷◌, ◌++◌, length, Option, Some, None, Bool, true, false, refl, sym, ap, ◌∙◌, subst}
 use Rattle.std.specs.Prelude.{◌==◌, if◌then◌else◌, slice_get, slice_set}
 use Rattle.sim_chains.specs.Components.{Standing}
 use Rattle.sim_scope.specs.Source.{Source}
@@ -113,13 +112,13 @@ module _ {C : Type 0} where
 -- ---- what later stores keep
 
 module _ (s : Source) (m m' : Instances) (heads : (k : ℕ) (x : Instance (List Held)) → slice_get m.instances k ≡ Some x → Found Heads x (slice_get m'.instances k)) where
-  pub stands_later : (j t : ℕ) → Stands s m j t → Stands s m' j t
-  stands_later j t (outermost {x = x} there text level alone around) =
-      let y = heads j x there in
+  stands_later : (j t : ℕ) → Stands s m j t → Stands s m' j t
+  stands_later j t (outermost {x = x} is text level alone around) =
+      let y = heads j x is in
       let h = y.related in
       outermost y.is (h.text ∙ text) (h.level ∙ level) (h.encloser ∙ alone) around
-  stands_later j t (inside {e = e} {u = u} {x = x} there text level alone around before stands) =
-      let y = heads j x there in
+  stands_later j t (inside {e = e} {u = u} {x = x} is text level alone around before stands) =
+      let y = heads j x is in
       let h = y.related in
       inside y.is (h.text ∙ text) (h.level ∙ level) (h.encloser ∙ alone) around before (stands_later e u stands)
 
@@ -129,17 +128,24 @@ module _ (s : Source) (m m' : Instances) (heads : (k : ℕ) (x : Instance (List 
 
   within_later : (n level j t : ℕ) → Stands s m j t → seen_within n m' level j ≡ seen_within n m level j
   within_later zero level j t st = refl
-  within_later (suc n) level j t (outermost {x = x} there text lev alone around) =
-      let y = heads j x there in
-      found_same (seen_within n m level) (seen_within n m' level) level j x y.it there y.is y.related (ap (outward (seen_within n m' level)) alone ∙ sym (ap (outward (seen_within n m level)) alone))
-  within_later (suc n) level j t (inside {e = e} {u = u} {x = x} there text lev alone around before stands) =
-      let y = heads j x there in
-      found_same (seen_within n m level) (seen_within n m' level) level j x y.it there y.is y.related
+  within_later (suc n) level j t (outermost {x = x} is text lev alone around) =
+      let y = heads j x is in
+      found_same (seen_within n m level) (seen_within n m' level) level j x y.it is y.is y.related (ap (outward (seen_within n m' level)) alone ∙ sym (ap (outward (seen_within n m level)) alone))
+  within_later (suc n) level j t (inside {e = e} {u = u} {x = x} is text lev alone around before stands) =
+      let y = heads j x is in
+      found_same (seen_within n m level) (seen_within n m' level) level j x y.it is y.is y.related
       (ap (outward (seen_within n m' level)) alone ∙ within_later n level e u stands ∙ sym (ap (outward (seen_within n m level)) alone))
 
   pub later_heads : Later s m m'
   unfolding seen_at
   later_heads = record { stands = stands_later; same = λ level j t st. within_later (suc j) level j t st }
+
+pub later_all : (s : Source) (m m' : Instances) → ((k : ℕ) → Both Heads (slice_get m.instances k) (slice_get m'.instances k)) → Later s m m'
+later_all s m m' all = later_heads s m m' (λ k x e. both_found Heads (slice_get m.instances k) (slice_get m'.instances k) x e (all k))
+
+-- nothing has changed
+pub later_itself : (s : Source) (m : Instances) → Later s m m
+later_itself s m = record { stands = λ j t st. st; same = λ level j t st. refl }
 
 -- ---- entries and ends
 
@@ -157,10 +163,6 @@ module _ {C A : Type 0} (m : Memory C A) where
   pub given_standings : (i : ℕ) (o : Option (Instance C)) → (given_in m i o).standings ≡ m.standings
   given_standings i None = refl
   given_standings i (Some x) = refl
-
-  pub given_length : (i : ℕ) (o : Option (Instance C)) → length (given_in m i o).instances ≡ length m.instances
-  given_length i None = refl
-  given_length i (Some x) = length-set m.instances i (record x { given_back = true })
 
 module _ {C A : Type 0} (owner : A → Option ℕ) (k : ℕ) where
   abbrev KeepsAt : Memory C A → Memory C A → Type 0
@@ -186,24 +188,24 @@ module _ {C A : Type 0} (owner : A → Option ℕ) (k : ℕ) where
   kept_same [] m = both_refl Same same_refl (slice_get m.instances k)
   kept_same (a ∷ chain) m = kept_one (kept_on owner chain) (kept_same chain) m (owner a)
 
--- instances that are kept stand as before
+-- how they stand is not touched
 module _ {C A : Type 0} (owner : A → Option ℕ) where
-  abbrev StandsAlike : (Memory C A → Memory C A) → Type 0
-  StandsAlike go = (m : Memory C A) → (go m).standings ≡ m.standings
+  abbrev SameStandings : (Memory C A → Memory C A) → Type 0
+  SameStandings go = (m : Memory C A) → (go m).standings ≡ m.standings
 
-  kept_stands_if : (go : Memory C A → Memory C A) → StandsAlike go → (m : Memory C A) (j : ℕ) (x : Instance C) (b : Bool) → (if b then go (with_instance m j (record x { kept = true })) else m).standings ≡ m.standings
-  kept_stands_if go f m j x true = f (with_instance m j (record x { kept = true }))
-  kept_stands_if go f m j x false = refl
+  kept_standings_if : (go : Memory C A → Memory C A) → SameStandings go → (m : Memory C A) (j : ℕ) (x : Instance C) (b : Bool) → (if b then go (with_instance m j (record x { kept = true })) else m).standings ≡ m.standings
+  kept_standings_if go f m j x true = f (with_instance m j (record x { kept = true }))
+  kept_standings_if go f m j x false = refl
 
-  kept_stands_in : (go : Memory C A → Memory C A) → StandsAlike go → (m : Memory C A) (j : ℕ) (o : Option (Instance C)) → (kept_further go m j o).standings ≡ m.standings
-  kept_stands_in go f m j None = refl
-  kept_stands_in go f m j (Some x) = kept_stands_if go f m j x x.passing
+  kept_standings_in : (go : Memory C A → Memory C A) → SameStandings go → (m : Memory C A) (j : ℕ) (o : Option (Instance C)) → (kept_further go m j o).standings ≡ m.standings
+  kept_standings_in go f m j None = refl
+  kept_standings_in go f m j (Some x) = kept_standings_if go f m j x x.passing
 
-  kept_stands_at : (go : Memory C A → Memory C A) → StandsAlike go → (m : Memory C A) (o : Option ℕ) → (kept_at go m o).standings ≡ m.standings
-  kept_stands_at go f m None = f m
-  kept_stands_at go f m (Some j) = kept_stands_in go f m j (slice_get m.instances j)
+  kept_standings_at : (go : Memory C A → Memory C A) → SameStandings go → (m : Memory C A) (o : Option ℕ) → (kept_at go m o).standings ≡ m.standings
+  kept_standings_at go f m None = f m
+  kept_standings_at go f m (Some j) = kept_standings_in go f m j (slice_get m.instances j)
 
-  pub kept_standings : (chain : List A) → StandsAlike (kept_on owner chain)
+  pub kept_standings : (chain : List A) → SameStandings (kept_on owner chain)
   unfolding kept_on
   kept_standings [] m = refl
-  kept_standings (a ∷ chain) m = kept_stands_at (kept_on owner chain) (kept_standings chain) m (owner a)
+  kept_standings (a ∷ chain) m = kept_standings_at (kept_on owner chain) (kept_standings chain) m (owner a)

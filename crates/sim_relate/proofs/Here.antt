@@ -1,5 +1,5 @@
 -- Related states, put together.
-use Rattle.std.proofs.Common.{◌≡◌, ◌<◌, ℕ, List, ◌∷◌, length, false, Some, refl, subst}
+use Rattle.std.proofs.Common.{◌≡◌, ℕ, List, ◌∷◌, false, Some, refl, subst}
 use Rattle.std.specs.Prelude.{slice_get}
 use Rattle.sim_base.specs.declared.limits.Limits.{Limits}
 use Rattle.sim_scope.specs.Source.{Source}
@@ -14,10 +14,10 @@ use Rattle.sim_code.proofs.Lifts.{alike_found}
 use Rattle.sim_code.proofs.Simulation.{Alike, going}
 use Rattle.sim_meaning.specs.Pending.{Activation, Configuration, Instances, Item, Val}
 use Rattle.sim_meaning.specs.Steps.{go}
+use Rattle.sim_meaning.specs.Sane.{AllKept, AllOf, Lives, Other}
 use Rattle.codegen_expr.specs.Sites.{At, lined}
 use Rattle.codegen_expr.specs.CodeExpr.{block_number}
 use Rattle.sim_relate.proofs.Relation.{ChainAt, HandAt, Kind, StackAt, StandingsAt, Stands, StateAt, StoreAt, WorkAt}
-use Rattle.sim_meaning.specs.Sane.{AllKept, AllOf, Lives, Other}
 
 -- the activation of an instance
 abbrev pub act : (inst pc : ℕ) → List Value → (room : ℕ) → machine.Activation

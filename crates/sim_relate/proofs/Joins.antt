@@ -28,16 +28,18 @@ use Rattle.sim_meaning.specs.Pending.{Activation, Configuration, Instances, Item
 use Rattle.sim_meaning.specs.Pending as meaning
 use Rattle.sim_meaning.specs.Steps.{go}
 use Rattle.sim_meaning.specs.Texts.{text}
+use Rattle.sim_meaning.specs.Sane.{Other}
 use Rattle.codegen_expr.specs.CodeExpr.{Stand, join_instrs}
 use Rattle.codegen_expr.specs.Sites.{cells_in}
 use Rattle.sim_relate.specs.SameRuns.{seen_world}
-use Rattle.sim_relate.proofs.Relation.{ChainAt, HandAt, Keeps, Kind, OpAt, placed, StackAt, StateAt, StoreAt, ValAt, WorkAt, anys, array_at, element_at, image_at, link_at, more_at, plain_at, site_at}
-use Rattle.sim_meaning.specs.Sane.{Other}
+use Rattle.sim_relate.proofs.Relation.{ChainAt, Changed, HandAt, Kind, OpAt, StackAt, StateAt, StoreAt, ValAt, WorkAt, anys, array_at, element_at, image_at, link_at, more_at, placed, plain_at, site_at}
+use Rattle.sim_relate.proofs.Carried.{changed_twice}
 use Rattle.sim_relate.proofs.Hands.{stack_length}
 use Rattle.sim_relate.proofs.Here.{Here, act, goes, kinds_as}
 use Rattle.sim_relate.proofs.JoinTexts.{first_assigns, frames1, new, second_assigns, smaller, sub_is, sum_bad, sum_ok}
-use Rattle.sim_relate.proofs.Moved.{later_itself, moved, own_level, work_moved}
-use Rattle.sim_relate.proofs.Ranked.{Catches, Meets, caught, first, lags, meets, simply}
+use Rattle.sim_relate.proofs.Living.{own_level}
+use Rattle.sim_relate.proofs.Moved.{moved, work_moved}
+use Rattle.sim_relate.proofs.Ranked.{Catches, InEach, Meets, caught, first, lags, meets, simply}
 use Rattle.sim_relate.proofs.Stores.{levels_same, temp_written}
 use Rattle.sim_relate.proofs.Straight.{RowIs, add_fault, add_row, assign_row, blanks_full, blanks_row, dup_row, int_row, length_full, length_row, load_row, made, pop_row, same_row, st, stands_at, stands_to, step_at, store_row, sub_row, takes_none, takes_some, takes_too_many, up}
 
@@ -113,17 +115,12 @@ module _ (s : Source) (code : CodeOf) (l : Limits) (o : World) (m : Instances) (
   abbrev R : Configuration → Machine → Type 0
   R = StateAt s code
 
-  abbrev RW : World → Configuration → Machine → Type 0
-  RW o c x = StateAt s code c x
-
   abbrev g : World → Machine → Run Machine
   g = mstep code l
 
   -- frames in which some temps have other values
   record Temps (f : Frames) : Type 0 where
-    store : StoreAt s code m f
-    keeps : Keeps s m fs f (Other inst)
-    standings : f.standings ≡ fs.standings
+    changed : Changed s code (Other inst) m fs m f
     own : (c : ℕ) → length (cells_in s t (text s t)) ≤ c → c < u → placed f inst c ≡ placed fs inst c
 
   module _ (line temp : ℕ) (left : List Kind) (unused : u ≤ temp) (within : suc (suc temp) < length b.types) (room : suc (suc (length left)) < b.room) (joins : Stand code line (join_instrs (level_of s t) temp) pc q) (out : ks' ≡ anys 1 left)
@@ -157,23 +154,23 @@ module _ (s : Source) (code : CodeOf) (l : Limits) (o : World) (m : Instances) (
     steps : (n : ℕ) (x : Instr) (p : World) (stk : List Value) (f : Frames) (z : Run Machine) → slice_get (join_instrs lev temp) n ≡ Some x → Row x n p stk f z → g p (at n stk f) ≡ z
     steps n x p stk f z e a = step_at code l line inst b.room below x (up n pc) (suc (up n pc)) p stk f z (stands_at code line (join_instrs lev temp) pc q joins n x e) a
 
-    silent : {r : Run Configuration} {stk stk' : List Value} {f f' : Frames} (n : ℕ) (x : Instr) → slice_get (join_instrs lev temp) n ≡ Some x → Row x n o stk f (Going o (at (suc n) stk' f')) → Meets g RW r o (at (suc n) stk' f') → Meets g RW r o (at n stk f)
+    silent : {r : Run Configuration} {stk stk' : List Value} {f f' : Frames} (n : ℕ) (x : Instr) → slice_get (join_instrs lev temp) n ≡ Some x → Row x n o stk f (Going o (at (suc n) stk' f')) → Meets g (InEach R) r o (at (suc n) stk' f') → Meets g (InEach R) r o (at n stk f)
     silent {stk = stk} {f = f} n x e a more = first (steps n x o stk f _ e a) more
 
-    lag : {r : Run Configuration} {p p' : World} {stk stk' : List Value} {f f' : Frames} (n : ℕ) (x : Instr) → slice_get (join_instrs lev temp) n ≡ Some x → Row x n p stk f (Going p' (at (suc n) stk' f')) → seen_world p None ≡ seen_world p' None → Catches g RW r (Going p' (at (suc n) stk' f')) → Catches g RW r (Going p (at n stk f))
+    lag : {r : Run Configuration} {p p' : World} {stk stk' : List Value} {f f' : Frames} (n : ℕ) (x : Instr) → slice_get (join_instrs lev temp) n ≡ Some x → Row x n p stk f (Going p' (at (suc n) stk' f')) → seen_world p None ≡ seen_world p' None → Catches g (InEach R) r (Going p' (at (suc n) stk' f')) → Catches g (InEach R) r (Going p (at n stk f))
     lag {p = p} {stk = stk} {f = f} n x e a same more = lags (steps n x p stk f _ e a) same more
 
-    both_end : (r : Run Configuration) (x : Machine) → r ≡ no_rule o → g o x ≡ no_rule o → Meets g RW r o x
+    both_end : (r : Run Configuration) (x : Machine) → r ≡ no_rule o → g o x ≡ no_rule o → Meets g (InEach R) r o x
     both_end r x e f = meets (caught (simply (subst (λ z. Alike R r z) (sym f) (subst (λ z. Alike R z (no_rule o)) (sym e) (alike_no_rule Configuration Machine R o)))))
 
-    both_stop : (e : Ending) (r : Run Configuration) (x : Machine) → r ≡ stopping e o → g o x ≡ stopping e o → Meets g RW r o x
+    both_stop : (e : Ending) (r : Run Configuration) (x : Machine) → r ≡ stopping e o → g o x ≡ stopping e o → Meets g (InEach R) r o x
     both_stop e r x f h = meets (caught (simply (subst (λ z. Alike R r z) (sym h) (subst (λ z. Alike R z (stopping e o)) (sym f) (alike_stopping Configuration Machine R e o)))))
 
     -- the end
     ends : (p : World) (f : Frames) → Temps f → (x : TextVal) → Alike R (go p m inst w (meaning.Of (Text x) ∷ vals') rest) (Going p (at 31 (machine.Of (Text x) ∷ stack') f))
     ends p f temps x =
-        goes s code u q (moved s code m m fs f temps.store (later_itself s m) (Other inst) temps.keeps refl temps.standings here.kept_alone here (kinds_as s code (sym out) (more_at plain_at hands)))
-        (work_moved s code m m fs f temps.store (later_itself s m) (Other inst) temps.keeps refl temps.standings here.kept_alone here here.alone below u temps.own w q ks' k) (stands_to code line (join_instrs lev temp) pc q joins)
+        goes s code u q (moved s code temps.changed here.kept_alone here (kinds_as s code (sym out) (more_at plain_at hands)))
+        (work_moved s code temps.changed here here.alone below u temps.own w q ks' k) (stands_to code line (join_instrs lev temp) pc q joins)
 
     -- what `&` does in the program
     abbrev joined_run : Val → Val → Run Configuration
@@ -243,15 +240,15 @@ module _ (s : Source) (code : CodeOf) (l : Limits) (o : World) (m : Instances) (
       taken e = ap (λ c. let x = blanks frames (pos (la + lb)) in making_text l line (if c then with_both x x.answer ta tb else record { wanted = 0; frames = frames; answer = Err IntegerOverflow }) o (λ t p. go p m inst w (meaning.Of (Text t) ∷ vals') rest)) e
 
       -- behind `blanks`
-      behind_blanks : is_integer (pos (la + 1 + lb)) ≡ true → is_exhausted l.storage o.words words ≡ false → Catches g RW (after_words (let p : World = record o { words = o.words + words } in p)) (Going (made code l line inst b.room below o (la + lb)) (at 16 (machine.Of (Text (new frames ta tb)) ∷ stack') f))
+      behind_blanks : is_integer (pos (la + 1 + lb)) ≡ true → is_exhausted l.storage o.words words ≡ false → Catches g (InEach R) (after_words (let p : World = record o { words = o.words + words } in p)) (Going (made code l line inst b.room below o (la + lb)) (at 16 (machine.Of (Text (new frames ta tb)) ∷ stack') f))
       behind_blanks big fits =
           let one_more = smaller (la + 1) (la + 1 + lb) (omega arith) big in
           let vr : Value = machine.Of (Text (new frames ta tb)) in
-          let r = temp_written s code m f inst t b (suc (suc temp)) vr temps.store here.stands here.lives here.found (omega (arith, low, unused)) within in
-          let e = own_frame f temps.store in
-          let e3 = own_frame r.frames r.store in
-          let in_a3 : machine.cell r.frames inst temp ≡ Some va = r.others_read temp (λ same. (let no : ⊥ = omega (arith, same) in no)) ∙ in_a in
-          let in_b3 : machine.cell r.frames inst (suc temp) ≡ Some vb = r.others_read (suc temp) (λ same. (let no : ⊥ = omega (arith, same) in no)) ∙ in_b in
+          let r = temp_written s code m f inst t b (suc (suc temp)) vr temps.changed.store here.stands here.lives here.found (omega (arith, low, unused)) within in
+          let e = own_frame f temps.changed.store in
+          let e3 = own_frame r.frames r.changed.store in
+          let in_a3 : machine.cell r.frames inst temp ≡ Some va = r.reads_others temp (λ same. (let no : ⊥ = omega (arith, same) in no)) ∙ in_a in
+          let in_b3 : machine.cell r.frames inst (suc temp) ≡ Some vb = r.reads_others (suc temp) (λ same. (let no : ⊥ = omega (arith, same) in no)) ∙ in_b in
           let o2 = made code l line inst b.room below o (la + lb) in
           let o3 = with_texts o2 (assigned (frames1 frames ta tb) (new frames ta tb) ta) in
           let o4 = with_texts o3 both_frames in
@@ -273,32 +270,30 @@ module _ (s : Source) (code : CodeOf) (l : Limits) (o : World) (m : Instances) (
           (lag 29 i.AssignT refl (assign_row code l line inst b.room below r.frames o3 (up 29 pc) (part (new frames ta tb) (la + 1) lb) tb stack' (second_assigns frames ta tb)) refl
           (lag 30 (i.Load (pos lev) (pos (suc (suc temp)))) refl (h0 o4 (up 30 pc) stack' lev (suc (suc temp)) vr e3 r.reads fits0) refl
           (caught (simply (ends o4 r.frames (record {
-            store = r.store;
-            standings = r.standings ∙ temps.standings;
-            keeps = record { temps = λ j v c lt stands le. r.keeps.temps j v c lt stands le ∙ temps.keeps.temps j v c lt stands le };
+            changed = changed_twice s code temps.changed r.changed;
             own = λ c le lt. r.others c (λ same. (let no : ⊥ = omega (arith, same, lt, unused) in no)) ∙ temps.own c le lt;
           }) (new frames ta tb))))))))))))))))))
 
       abbrev sums : List Value
       sums = machine.Of (Integer (pos (la + lb))) ∷ stack'
 
-      words_split : (c : Bool) → is_exhausted l.storage o.words words ≡ c → is_integer (pos (la + 1 + lb)) ≡ true → Meets g RW (made_run o) o (at 15 sums f)
+      words_split : (c : Bool) → is_exhausted l.storage o.words words ≡ c → is_integer (pos (la + 1 + lb)) ≡ true → Meets g (InEach R) (made_run o) o (at 15 sums f)
       words_split true e big =
           both_stop (StorageExhausted line o.words words) (made_run o) (at 15 sums f) (taken big ∙ takes_too_many l line o after_words words e) (steps 15 (i.Std (pos 14)) o sums f _ refl (blanks_full code l line inst b.room below f o (up 15 pc) (la + lb) stack' e fits0))
       words_split false e big =
-          meets (subst (λ z. Catches g RW (made_run o) z) (sym (steps 15 (i.Std (pos 14)) o sums f _ refl (blanks_row code l line inst b.room below f o (up 15 pc) (la + lb) stack' e fits0)))
-          (subst (λ z. Catches g RW z (Going (made code l line inst b.room below o (la + lb)) (at 16 (machine.Of (Text (new frames ta tb)) ∷ stack') f))) (sym (taken big ∙ takes_some l line o after_words words e)) (behind_blanks big e)))
+          meets (subst (λ z. Catches g (InEach R) (made_run o) z) (sym (steps 15 (i.Std (pos 14)) o sums f _ refl (blanks_row code l line inst b.room below f o (up 15 pc) (la + lb) stack' e fits0)))
+          (subst (λ z. Catches g (InEach R) z (Going (made code l line inst b.room below o (la + lb)) (at 16 (machine.Of (Text (new frames ta tb)) ∷ stack') f))) (sym (taken big ∙ takes_some l line o after_words words e)) (behind_blanks big e)))
 
       abbrev lengths : List Value
       lengths = machine.Of (Integer (pos lb)) ∷ machine.Of (Integer (pos la)) ∷ stack'
 
-      sum_of_both : is_integer (pos (la + lb)) ≡ true → Meets g RW (made_run o) o (at 13 (machine.Of (Integer (pos 1)) ∷ machine.Of (Integer (pos (la + lb))) ∷ sums) f) → Meets g RW (made_run o) o (at 10 lengths f)
+      sum_of_both : is_integer (pos (la + lb)) ≡ true → Meets g (InEach R) (made_run o) o (at 13 (machine.Of (Integer (pos 1)) ∷ machine.Of (Integer (pos (la + lb))) ∷ sums) f) → Meets g (InEach R) (made_run o) o (at 10 lengths f)
       sum_of_both small more =
           silent 10 i.Add refl (add_row code l line inst b.room below f o (up 10 pc) (pos la) (pos lb) (pos (la + lb)) stack' (sum_ok la lb (la + lb) refl small))
           (silent 11 i.Dup refl (dup_row code l line inst b.room below f o (up 11 pc) (machine.Of (Integer (pos (la + lb)))) stack' fits1)
           (silent 12 (i.Int (pos 1)) refl (int_row code l line inst b.room below f o (up 12 pc) (machine.Of (Integer (pos (la + lb))) ∷ sums) (pos 1) fits2) more))
 
-      sum_too_great : (c : Bool) → is_integer (pos (la + lb)) ≡ c → is_integer (pos (la + 1 + lb)) ≡ false → is_exhausted l.storage o.words 0 ≡ false → Meets g RW (made_run o) o (at 10 lengths f)
+      sum_too_great : (c : Bool) → is_integer (pos (la + lb)) ≡ c → is_integer (pos (la + 1 + lb)) ≡ false → is_exhausted l.storage o.words 0 ≡ false → Meets g (InEach R) (made_run o) o (at 10 lengths f)
       sum_too_great false small e fits =
           both_stop (RunFault IntegerOverflow line) (made_run o) (at 10 lengths f) (overflows e fits) (steps 10 i.Add o lengths f _ refl (add_fault code l line inst b.room below f o (up 10 pc) (pos la) (pos lb) IntegerOverflow stack' (sum_bad la lb (la + lb) refl small)))
       sum_too_great true small e fits =
@@ -306,61 +301,59 @@ module _ (s : Source) (code : CodeOf) (l : Limits) (o : World) (m : Instances) (
           (both_stop (RunFault IntegerOverflow line) (made_run o) (at 13 (machine.Of (Integer (pos 1)) ∷ machine.Of (Integer (pos (la + lb))) ∷ sums) f) (overflows e fits)
           (steps 13 i.Add o (machine.Of (Integer (pos 1)) ∷ machine.Of (Integer (pos (la + lb))) ∷ sums) f _ refl (add_fault code l line inst b.room below f o (up 13 pc) (pos (la + lb)) (pos 1) IntegerOverflow sums (sum_bad (la + lb) 1 (la + 1 + lb) (omega arith) e))))
 
-      sum_split : (c : Bool) → is_integer (pos (la + 1 + lb)) ≡ c → is_exhausted l.storage o.words 0 ≡ false → Meets g RW (made_run o) o (at 10 lengths f)
+      sum_split : (c : Bool) → is_integer (pos (la + 1 + lb)) ≡ c → is_exhausted l.storage o.words 0 ≡ false → Meets g (InEach R) (made_run o) o (at 10 lengths f)
       sum_split false e fits = sum_too_great (is_integer (pos (la + lb))) refl e fits
       sum_split true e fits =
           sum_of_both (smaller (la + lb) (la + 1 + lb) (omega arith) e)
           (silent 13 i.Add refl (add_row code l line inst b.room below f o (up 13 pc) (pos (la + lb)) (pos 1) (pos (la + 1 + lb)) sums (sum_ok (la + lb) 1 (la + 1 + lb) (omega arith) e))
           (silent 14 i.Pop refl (pop_row code l line inst b.room below f o (up 14 pc) (machine.Of (Integer (pos (la + 1 + lb)))) sums) (words_split (is_exhausted l.storage o.words words) refl e)))
 
-      length_split : (c : Bool) → is_exhausted l.storage o.words 0 ≡ c → Meets g RW text_run o (at 7 (va ∷ stack') f)
+      length_split : (c : Bool) → is_exhausted l.storage o.words 0 ≡ c → Meets g (InEach R) text_run o (at 7 (va ∷ stack') f)
       length_split true e =
           both_stop (StorageExhausted line o.words 0) text_run (at 7 (va ∷ stack') f) (opens ∙ takes_too_many l line o made_run 0 e) (steps 7 (i.Std (pos 20)) o (va ∷ stack') f _ refl (length_full code l line inst b.room below f o (up 7 pc) ta stack' e fits0))
       length_split false e =
-          subst (λ z. Meets g RW z o (at 7 (va ∷ stack') f)) (sym (opens ∙ takes_none l line o made_run e))
+          subst (λ z. Meets g (InEach R) z o (at 7 (va ∷ stack') f)) (sym (opens ∙ takes_none l line o made_run e))
           (silent 7 (i.Std (pos 20)) refl (length_row code l line inst b.room below f o (up 7 pc) ta stack' e fits0)
-          (silent 8 (i.Load (pos lev) (pos (suc temp))) refl (load_row code l line inst b.room below f o (up 8 pc) (machine.Of (Integer (pos la)) ∷ stack') lev (suc temp) vb (own_frame f temps.store) in_b fits1)
+          (silent 8 (i.Load (pos lev) (pos (suc temp))) refl (load_row code l line inst b.room below f o (up 8 pc) (machine.Of (Integer (pos la)) ∷ stack') lev (suc temp) vb (own_frame f temps.changed.store) in_b fits1)
           (silent 9 (i.Std (pos 20)) refl (length_row code l line inst b.room below f o (up 9 pc) tb (machine.Of (Integer (pos la)) ∷ stack') e fits1) (sum_split (is_integer (pos (la + 1 + lb))) refl e))))
 
-      text_meets : Meets g RW text_run o (at 4 (vb ∷ va ∷ stack') f)
+      text_meets : Meets g (InEach R) text_run o (at 4 (vb ∷ va ∷ stack') f)
       text_meets =
           silent 4 i.SameT refl (same_row code l line inst b.room below f o (up 4 pc) ta tb stack')
           (silent 5 i.Pop refl (pop_row code l line inst b.room below f o (up 5 pc) (machine.Of (Truth (same_text ta tb))) stack')
-          (silent 6 (i.Load (pos lev) (pos temp)) refl (load_row code l line inst b.room below f o (up 6 pc) stack' lev temp va (own_frame f temps.store) in_a fits0) (length_split (is_exhausted l.storage o.words 0) refl)))
+          (silent 6 (i.Load (pos lev) (pos temp)) refl (load_row code l line inst b.room below f o (up 6 pc) stack' lev temp va (own_frame f temps.changed.store) in_a fits0) (length_split (is_exhausted l.storage o.words 0) refl)))
 
     -- ---- two values
 
-    after_loads : (v v' : Val) (x x' : Value) → TextOr v x → TextOr v' x' → (f : Frames) → Temps f → machine.cell f inst temp ≡ Some x' → machine.cell f inst (suc temp) ≡ Some x → Meets g RW (joined_run v v') o (at 4 (x ∷ x' ∷ stack') f)
+    after_loads : (v v' : Val) (x x' : Value) → TextOr v x → TextOr v' x' → (f : Frames) → Temps f → machine.cell f inst temp ≡ Some x' → machine.cell f inst (suc temp) ≡ Some x → Meets g (InEach R) (joined_run v v') o (at 4 (x ∷ x' ∷ stack') f)
     after_loads v v' x x' (no_text h h') a f temps in_a in_b = both_end (joined_run v v') (at 4 (x ∷ x' ∷ stack') f) (no_right v v' h) (steps 4 i.SameT o (x ∷ x' ∷ stack') f _ refl (row_no_right x x' f h'))
     after_loads v v' x x' (is_text tb ev ex) (no_text h h') f temps in_a in_b =
         both_end (joined_run v v') (at 4 (x ∷ x' ∷ stack') f) (ap (λ z. joined_run z v') ev ∙ no_left tb v' h)
         (steps 4 i.SameT o (x ∷ x' ∷ stack') f (no_rule o) refl (subst (λ z. Row i.SameT 4 o (z ∷ x' ∷ stack') f (no_rule o)) (sym ex) (row_no_left tb x' f h')))
     after_loads v v' x x' (is_text tb ev ex) (is_text ta ev' ex') f temps in_a in_b =
-        subst (λ z. Meets g RW (joined_run z v') o (at 4 (x ∷ x' ∷ stack') f)) (sym ev)
-        (subst (λ z. Meets g RW (joined_run (meaning.Of (Text tb)) z) o (at 4 (x ∷ x' ∷ stack') f)) (sym ev')
-        (subst (λ z. Meets g RW (joined_run (meaning.Of (Text tb)) (meaning.Of (Text ta))) o (at 4 (z ∷ x' ∷ stack') f)) (sym ex)
-        (subst (λ z. Meets g RW (joined_run (meaning.Of (Text tb)) (meaning.Of (Text ta))) o (at 4 (machine.Of (Text tb) ∷ z ∷ stack') f)) (sym ex') (text_meets ta tb f temps (in_a ∙ ap Some ex') (in_b ∙ ap Some ex)))))
+        subst (λ z. Meets g (InEach R) (joined_run z v') o (at 4 (x ∷ x' ∷ stack') f)) (sym ev)
+        (subst (λ z. Meets g (InEach R) (joined_run (meaning.Of (Text tb)) z) o (at 4 (x ∷ x' ∷ stack') f)) (sym ev')
+        (subst (λ z. Meets g (InEach R) (joined_run (meaning.Of (Text tb)) (meaning.Of (Text ta))) o (at 4 (z ∷ x' ∷ stack') f)) (sym ex)
+        (subst (λ z. Meets g (InEach R) (joined_run (meaning.Of (Text tb)) (meaning.Of (Text ta))) o (at 4 (machine.Of (Text tb) ∷ z ∷ stack') f)) (sym ex') (text_meets ta tb f temps (in_a ∙ ap Some ex') (in_b ∙ ap Some ex)))))
 
-    starts : (v v' : Val) (x x' : Value) → ValAt v x → ValAt v' x' → Meets g RW (joined_run v v') o (at 0 (x ∷ x' ∷ stack') fs)
+    starts : (v v' : Val) (x x' : Value) → ValAt v x → ValAt v' x' → Meets g (InEach R) (joined_run v v') o (at 0 (x ∷ x' ∷ stack') fs)
     starts v v' x x' h h' =
         let r1 = temp_written s code m fs inst t b (suc temp) x here.store here.stands here.lives here.found (omega (arith, low, unused)) (omega (arith, within)) in
-        let r2 = temp_written s code m r1.frames inst t b temp x' r1.store here.stands here.lives here.found (omega (arith, low, unused)) (omega (arith, within)) in
-        let in_b : machine.cell r2.frames inst (suc temp) ≡ Some x = r2.others_read (suc temp) (λ same. (let no : ⊥ = omega (arith, same) in no)) ∙ r1.reads in
-        let e2 = own_frame r2.frames r2.store in
+        let r2 = temp_written s code m r1.frames inst t b temp x' r1.changed.store here.stands here.lives here.found (omega (arith, low, unused)) (omega (arith, within)) in
+        let in_b : machine.cell r2.frames inst (suc temp) ≡ Some x = r2.reads_others (suc temp) (λ same. (let no : ⊥ = omega (arith, same) in no)) ∙ r1.reads in
+        let e2 = own_frame r2.frames r2.changed.store in
         silent 0 (i.Store (pos lev) (pos (suc temp))) refl (store_row code l line inst b.room below fs r1.frames o (up 0 pc) x (x' ∷ stack') lev (suc temp) (own_frame fs here.store) r1.is)
-        (silent 1 (i.Store (pos lev) (pos temp)) refl (store_row code l line inst b.room below r1.frames r2.frames o (up 1 pc) x' stack' lev temp (own_frame r1.frames r1.store) r2.is)
+        (silent 1 (i.Store (pos lev) (pos temp)) refl (store_row code l line inst b.room below r1.frames r2.frames o (up 1 pc) x' stack' lev temp (own_frame r1.frames r1.changed.store) r2.is)
         (silent 2 (i.Load (pos lev) (pos temp)) refl (load_row code l line inst b.room below r2.frames o (up 2 pc) stack' lev temp x' e2 r2.reads fits0)
         (silent 3 (i.Load (pos lev) (pos (suc temp))) refl (load_row code l line inst b.room below r2.frames o (up 3 pc) (x' ∷ stack') lev (suc temp) x e2 in_b fits1)
         (after_loads v v' x x' (text_or v x h) (text_or v' x' h') r2.frames (record {
-          store = r2.store;
-          standings = r2.standings ∙ r1.standings;
-          keeps = record { temps = λ j v c lt stands le. r2.keeps.temps j v c lt stands le ∙ r1.keeps.temps j v c lt stands le };
+          changed = changed_twice s code r1.changed r2.changed;
           own = λ c le lt. r2.others c (λ same. (let no : ⊥ = omega (arith, same, lt, unused) in no)) ∙ r1.others c (λ same. (let no : ⊥ = omega (arith, same, lt, unused) in no));
         }) r2.reads in_b))))
 
   in_hands : (line : ℕ) (left : List Kind) (vs : List Val) (xs : List Value) → StackAt (HandAt s m) (anys 2 left) vs xs → (temp : ℕ) → u ≤ temp → suc (suc temp) < length b.types → suc (suc (length left)) < b.room → Stand code line (join_instrs (level_of s t) temp) pc q → ks' ≡ anys 1 left
-      → Meets g RW (joining plain l line vs o (λ z p vals. go p m inst w (meaning.Of z ∷ vals) rest)) o (record { chain = act inst pc xs b.room ∷ below; memory = fs })
+      → Meets g (InEach R) (joining plain l line vs o (λ z p vals. go p m inst w (meaning.Of z ∷ vals) rest)) o (record { chain = act inst pc xs b.room ∷ below; memory = fs })
   in_hands line left _ _ (more_at {v = v} {x = x} h (more_at {v = v'} {vals = vals'} {x = x'} {stack = stack'} h' hands)) temp unused within room joins out = starts line temp left unused within room joins out vals' stack' hands v v' x x' h h'
 
-  pub join : (line : ℕ) → OpAt s code m fs inst (site_at t b u) (JoinOp line) pc q ks ks' → Meets (mstep code l) (λ o c x. StateAt s code c x) (do_op s l o m inst w vals rest (JoinOp line)) o (record { chain = act inst pc stack b.room ∷ below; memory = fs })
+  pub join : (line : ℕ) → OpAt s code m fs inst (site_at t b u) (JoinOp line) pc q ks ks' → Meets (mstep code l) (InEach (StateAt s code)) (do_op s l o m inst w vals rest (JoinOp line)) o (record { chain = act inst pc stack b.room ∷ below; memory = fs })
   join line a = let j = a.joins in in_hands line a.left vals stack (kinds_as s code a.«in» here.values) j.temp j.unused j.within j.room j.joins a.out

@@ -12,14 +12,13 @@ use Rattle.sim_scope.specs.declared.types.FormalKind.TheVariants as shape
 use Rattle.sim_scope.specs.declared.types.Mode.{Mode}
 use Rattle.sim_scope.specs.declared.types.Mode.TheVariants as mode
 use Rattle.sim_scope.specs.Scopes.{entry_of}
-use Rattle.sim_scope.specs.Source.{Source, block_of, denoted, line_at, level_of}
+use Rattle.sim_scope.specs.Source.{Source, block_of, denoted, line_at}
 use Rattle.sim_scope.specs.Assignments.{LeftSide}
 use Rattle.sim_tree.specs.declared.stmt.Assignment.{Assignment}
 use Rattle.sim_tree.specs.declared.stmt.Assignment.TheVariants as assignment
 use Rattle.sim_tree.specs.Syntax.{Expression, Expressions, NoMore, Then}
 use Rattle.sim_tree.specs.Syntax as syntax
 use Rattle.sim_code.specs.declared.instr.Instr.TheVariants as i
-use Rattle.sim_code.specs.Instances.{at_level}
 use Rattle.sim_code.specs.Code.{BlockOf, CodeOf}
 use Rattle.sim_code.specs.Machine.{Frames}
 use Rattle.sim_code.proofs.Lifts.{EachAt}
@@ -32,7 +31,7 @@ use Rattle.codegen_expr.specs.Sites.{At, HasCell, Inside, Site, cells_in}
 use Rattle.codegen_expr.specs.CodeExpr.{ElementAt, ExprsAt, ExprAt}
 use Rattle.codegen.specs.Agrees.{Agrees}
 use Rattle.codegen.specs.CodeLeft.{AtAddress, GivesAt, GoesAt, InCell, LeftsAt, NotBuilt, SharesAt, StoreAt, Stored, addresses, each_stored, stored, stored_declared, stored_element, stored_formal, stored_named, stored_of, stored_result, stored_variable, ResultAt, ToResult, ToText, stored_left, stored_text}
-use Rattle.sim_relate.proofs.Relation.{Any, GivesIs, Kind, OperandAt, Reaches, TargetAt, WorkAt, anys, site_at}
+use Rattle.sim_relate.proofs.Relation.{Any, Finds, GivesIs, Kind, OperandAt, Reaches, TargetAt, WorkAt, anys, site_at}
 use Rattle.sim_relate.proofs.Closing.{close_all_at, close_at, count_close}
 use Rattle.sim_relate.proofs.Pending.{anys_more, evals, pends}
 
@@ -83,7 +82,7 @@ addresses_reverse : (xs : List Stored) → addresses (reverse xs) ≡ addresses 
 addresses_reverse [] = refl
 addresses_reverse (x ∷ xs) = ap addresses (reverse_first x xs) ∙ addresses_last (reverse xs) x ∙ addresses_first x (reverse xs) xs (addresses_reverse xs)
 
-module _ (s : Source) (code : CodeOf) (m : Instances) (inst t : ℕ) (b : BlockOf) (u : ℕ) (agrees : Agrees s) (reach : (v : ℕ) → Inside s.tables t v → (j : ℕ) × Reaches s m inst v j × (at_level m (level_of s v) inst ≡ Some j)) where
+module _ (s : Source) (code : CodeOf) (m : Instances) (inst t : ℕ) (b : BlockOf) (u : ℕ) (agrees : Agrees s) (reach : (v : ℕ) → Inside s.tables t v → Finds s m inst v) where
   abbrev pub site : Site
   site = site_at t b u
 

@@ -9,6 +9,7 @@ pub mod Reach
 pub mod Formals
 pub mod Closing
 pub mod Heads
+pub mod Living
 pub mod Stores
 pub mod Pending
 pub mod Operators

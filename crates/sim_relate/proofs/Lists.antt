@@ -29,12 +29,6 @@ append_at (x ∷ xs) y = append_at xs y
 -- ---- two lists
 
 module _ {A B : Type 0} (P : A → B → Type 0) where
-  pub same_length : (xs : List A) (ys : List B) → ((j : ℕ) → Both P (slice_get xs j) (slice_get ys j)) → length xs ≡ length ys
-  same_length [] [] all = refl
-  same_length [] (y ∷ ys) all = absurd (all 0)
-  same_length (x ∷ xs) [] all = absurd (all 0)
-  same_length (x ∷ xs) (y ∷ ys) all = ap suc (same_length xs ys (λ j. all (suc j)))
-
   -- one more on each
   pub append_both : (xs : List A) (ys : List B) (x : A) (y : B) → ((j : ℕ) → Both P (slice_get xs j) (slice_get ys j)) → P x y → (j : ℕ) → Both P (slice_get (xs ++ x ∷ []) j) (slice_get (ys ++ y ∷ []) j)
   append_both [] [] x y all here zero = here

@@ -37,9 +37,9 @@ use Rattle.sim_relate.proofs.Relation.{Any, BeginsAt, ChainAt, ComesTo, HandAt, 
 use Rattle.sim_relate.proofs.Hands.{hand_plain}
 use Rattle.sim_relate.proofs.Here.{Here, act, at_row, goes, kinds_as, there_of}
 use Rattle.sim_relate.proofs.Lefts.{LeftFits, left_at}
+use Rattle.sim_relate.proofs.Living.{reach_found}
 use Rattle.sim_relate.proofs.Operators.{onward, same_plain}
 use Rattle.sim_relate.proofs.Pending.{evals, pends}
-use Rattle.sim_relate.proofs.Reach.{reach_found}
 use Rattle.sim_relate.proofs.Statements.{closing, ticks}
 use Rattle.std.specs.Prelude.{pos}
 

@@ -16,6 +16,7 @@ use Rattle.sim_meaning.specs.Meaning.{do_op, has_result, step}
 use Rattle.sim_meaning.specs.Pending.{Activation, AgainOp, ArrayOp, BackOp, BranchOp, CallOf, CallOp, Cell, ChooseOp, Configuration, CopyOf, CopyOp, Do, DropOp, Either, ElementOf, ElementOp, ElementsOp, EndBlock, EndProcedure, EndProgram, EnterOp, Eval, Exec, Execs, FetchOp, Given, GiveOp, IfOp, Instances, Item, One, OneOp, Op, PastOp, RaiseOp, ShareOp, StandardOf, StandardOp, StepOp, StepTestOp, StoreOp, Target, Term, Terms, TestOp, Two, TwoOp, Unbuilt, Val, ValueAt, WhileElementOp, ImageOf, JoinOp, Joined, PlaceOf}
 use Rattle.sim_meaning.specs.Steps.{count}
 use Rattle.sim_meaning.specs.Texts.{text}
+use Rattle.sim_meaning.specs.Sane.{Sane, SaneOn}
 use Rattle.codegen_expr.specs.Sites.{cells_in}
 use Rattle.codegen.specs.Compiled.{Compiled}
 use Rattle.sim_relate.proofs.Assigns as assigns
@@ -23,22 +24,21 @@ use Rattle.sim_relate.proofs.Calls as calls
 use Rattle.sim_relate.proofs.Ends as ends
 use Rattle.sim_relate.proofs.Entries as entries
 use Rattle.sim_relate.proofs.Here.{Here, act, at_row, goes, state_at, there_of, with_values}
-use Rattle.sim_relate.proofs.Reach.{reached}
 use Rattle.sim_relate.proofs.Joins as joins
+use Rattle.sim_relate.proofs.Living.{reached}
 use Rattle.sim_relate.proofs.Loops as loops
 use Rattle.sim_relate.proofs.Operators as operators
 use Rattle.sim_relate.proofs.Pending.{each_pends, pends}
 use Rattle.sim_relate.proofs.Quiet.{each_weight, weight}
 use Rattle.sim_relate.proofs.Quiet as quiet_steps
 use Rattle.sim_relate.proofs.Relation.{BeginsAt, ChainAt, ChainNow, Kind, LinkTo, NowAt, OpAt, StandingsAt, StateAt, StateNow, StoreAt, WorkAt, anys, given, more_at, site_at, text_gives}
-use Rattle.sim_meaning.specs.Sane.{Sane, SaneOn}
 use Rattle.sim_relate.proofs.Statements as statements
-use Rattle.sim_relate.proofs.Ranked.{Meets}
+use Rattle.sim_relate.proofs.Ranked.{InEach, Meets}
 
 -- a step of both, or one of the program alone that leaves less to be taken apart
 pub data MovesNow (s : Source) (code : CodeOf) (l : Limits) (o : World) (c : Configuration) (x : Machine) : Type 0 where
   both : Alike (StateAt s code) (step s l o c) (mstep code l o x) → MovesNow s code l o c x
-  several : Meets (mstep code l) (λ o c x. StateAt s code c x) (step s l o c) o x → MovesNow s code l o c x
+  several : Meets (mstep code l) (InEach (StateAt s code)) (step s l o c) o x → MovesNow s code l o c x
   quiet : (c' : Configuration) → step s l o c ≡ Going o c' → StateAt s code c' x → weight s c' < weight s c → MovesNow s code l o c x
 
 module _ (s : Source) (code : CodeOf) (compiled : Compiled s code) (l : Limits) (o : World) (m : Instances) (inst : ℕ) (w : List Item) (vals : List Val) (rest : List Activation) (fs : Frames) (t : ℕ) (b : BlockOf) (pc : ℕ) (stack : List Value) (below : List machine.Activation) (ks : List Kind) (here : Here s code m fs inst rest t b ks vals stack) (u q : ℕ) (ks' : List Kind) (low : length (cells_in s t (text s t)) ≤ u) (k : WorkAt s code m fs (λ v. ChainAt s code m fs rest v below) inst t b u w q ks') where

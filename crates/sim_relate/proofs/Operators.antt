@@ -33,9 +33,9 @@ use Rattle.codegen_expr.specs.CodeExpr.{one_instr, two_instr}
 use Rattle.sim_relate.proofs.Relation.{Any, ChainAt, HandAt, Kind, OpAt, OperandAt, StackAt, StateAt, ValAt, WorkAt, anys, array_at, element_at, link_at, more_at, plain_at, site_at, IsImage, TextIs, empty, image_at, listed, of_input, of_output}
 use Rattle.sim_relate.proofs.Hands.{hand_finding, hand_one, hand_popping, hand_truth, hand_two, stack_length}
 use Rattle.sim_relate.proofs.Here.{Here, act, at_row, goes, kinds_as, with_values}
+use Rattle.sim_relate.proofs.Living.{reached}
 use Rattle.sim_relate.proofs.Pending.{anys_more, evals, pends}
 use Rattle.sim_relate.proofs.Stores.{cell_read, levels_same}
-use Rattle.sim_relate.proofs.Reach.{reached}
 use Rattle.sim_values.specs.declared.value.TextVal.{TextVal}
 use Rattle.sim_values.specs.Texts.{notext}
 use Rattle.sim_values.specs.Store.{image_at as image_of}

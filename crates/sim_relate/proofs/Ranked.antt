@@ -6,12 +6,16 @@ use Rattle.sim_code.proofs.Simulation.{Alike}
 use Rattle.sim_code.proofs.Simulation as simple
 use Rattle.sim_relate.specs.SameRuns.{seen, seen_world}
 
--- Two runs that are alike, where the relation may speak of the world that both have.
+-- Two runs that are alike, by a relation that may speak of the world that both have.
 pub data AlikeIn {S M : Type 0} (R : World → S → M → Type 0) : Run S → Run M → Type 0 where
   going : {o : World} {s : S} {m : M} → R o s m → AlikeIn R (Going o s) (Going o m)
   ended : {o : World} {e : Ending} → AlikeIn R (Ended o e) (Ended o e)
 
-pub simply : {S M : Type 0} {R : S → M → Type 0} {r : Run S} {q : Run M} → Alike R r q → AlikeIn (λ o s m. R s m) r q
+-- the same relation in each world
+abbrev pub InEach : {S M : Type 0} → (S → M → Type 0) → World → S → M → Type 0
+InEach R o s m = R s m
+
+pub simply : {S M : Type 0} {R : S → M → Type 0} {r : Run S} {q : Run M} → Alike R r q → AlikeIn (InEach R) r q
 simply (simple.going a) = going a
 simply simple.ended = ended
 
@@ -25,13 +29,15 @@ pub data Meets {S M : Type 0} (g : World → M → Run M) (R : World → S → M
   meets : {m : M} → Catches g R r (g o m) → Meets g R r o m
   first : {m m' : M} → g o m ≡ Going o m' → Meets g R r o m' → Meets g R r o m
 
-module _ {S M : Type 0} (g : World → M → Run M) (R Q : World → S → M → Type 0) (map : (o : World) (s : S) (m : M) → R o s m → Q o s m) (r : Run S) where
-  alike_as : (r : Run S) (q : Run M) → AlikeIn R r q → AlikeIn Q r q
-  alike_as _ _ (going {o = o} {s = s} {m = m} a) = going (map o s m a)
-  alike_as _ _ ended = ended
+-- what is so of where the first comes to may be added to the relation
+module _ {S M : Type 0} (R Q : World → S → M → Type 0) where
+  alike_as : (r : Run S) (q : Run M) → ((o : World) (s : S) (m : M) → r ≡ Going o s → R o s m → Q o s m) → AlikeIn R r q → AlikeIn Q r q
+  alike_as _ _ map (going {o = o} {s = s} {m = m} a) = going (map o s m refl a)
+  alike_as _ _ map ended = ended
 
+module _ {S M : Type 0} (g : World → M → Run M) (R Q : World → S → M → Type 0) (r : Run S) (map : (o : World) (s : S) (m : M) → r ≡ Going o s → R o s m → Q o s m) where
   catches_as : (q : Run M) → Catches g R r q → Catches g Q r q
-  catches_as q (caught a) = caught (alike_as r q a)
+  catches_as q (caught a) = caught (alike_as R Q r q map a)
   catches_as _ (lags {o' = o'} {m' = m'} e same more) = lags e same (catches_as (Going o' m') more)
 
   pub meets_as : (o : World) (m : M) → Meets g R r o m → Meets g Q r o m

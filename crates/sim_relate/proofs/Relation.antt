@@ -20,7 +20,7 @@ use Rattle.sim_code.specs.declared.code.CodeType.TheVariants as type
 use Rattle.sim_code.specs.declared.instr.Instr.{Instr}
 use Rattle.sim_code.specs.declared.instr.Instr.TheVariants as i
 use Rattle.sim_code.specs.Code.{BlockOf, CodeOf}
-use Rattle.sim_code.specs.Instances.{CellPlace, ElementPlace, ImagePlace, Instance, Memory, found_at, live}
+use Rattle.sim_code.specs.Instances.{CellPlace, ElementPlace, ImagePlace, Instance, Memory, at_level, found_at}
 use Rattle.sim_code.specs.Instances as instances
 use Rattle.sim_code.specs.Machine.{Frames, Machine, Value, Cells}
 use Rattle.sim_code.specs.Machine as machine
@@ -129,10 +129,14 @@ pub data Stands (s : Source) (m : Instances) : (instance text : ℕ) → Type 0 
   outermost : {j t : ℕ} {x : Instance (List Held)} → slice_get m.instances j ≡ Some x → x.text ≡ t → x.level ≡ level_of s t → x.encloser ≡ None → encloser s.tables t ≡ None → Stands s m j t
   inside : {j t e u : ℕ} {x : Instance (List Held)} → slice_get m.instances j ≡ Some x → x.text ≡ t → x.level ≡ level_of s t → x.encloser ≡ Some e → encloser s.tables t ≡ Some u → e < j → Stands s m e u → Stands s m j t
 
--- what code finds from an instance outward: the instance in which a declaration of a text lies
+-- what is seen from an instance outward: the instance in which a declaration of a text lies
 pub record Reaches (s : Source) (m : Instances) (from text instance : ℕ) : Type 0 where
   pub found : seen_at m (level_of s text) from ≡ Some instance
   pub stands : Stands s m instance text
+
+-- and code finds it
+abbrev pub Finds : Source → Instances → (from text : ℕ) → Type 0
+Finds s m from text = (j : ℕ) × Reaches s m from text j × (at_level m (level_of s text) from ≡ Some j)
 
 -- a link in hand
 pub record LinkIs (s : Source) (m : Instances) (text : ℕ) (v : Val) (x : Value) : Type 0 where
@@ -642,6 +646,15 @@ module _ (s : Source) (code : CodeOf) where
 
   abbrev pub StandingsAt : Instances → Frames → Type 0
   StandingsAt m fs = (j : ℕ) → Both (StandingAt m fs) (slice_get m.standings j) (slice_get fs.standings j)
+
+  -- What a step does to both stores, if it makes no instance: all is found as before, temps of some instances are as they were, and so is
+  -- how each instance stands.
+  pub record Changed (Of : ℕ → Type 0) (m : Instances) (fs : Frames) (m' : Instances) (fs' : Frames) : Type 0 where
+    pub store : StoreAt m' fs'
+    pub later : Later s m m'
+    pub keeps : Keeps s m fs fs' Of
+    pub standings : m'.standings ≡ m.standings
+    pub frame_standings : fs'.standings ≡ fs.standings
 
   pub record StateAt (c : Configuration) (x : Machine) : Type 0 where
     pub chain : ChainAt c.memory x.memory c.chain false x.chain

@@ -21,13 +21,14 @@ use Rattle.sim_code.specs.Rows.{mstep, pushed, row}
 use Rattle.sim_meaning.specs.Pending.{Activation, Configuration, Do, EndBlock, EndProcedure, EndProgram, Exec, Instances, Item, Op}
 use Rattle.sim_meaning.specs.Pending as meaning
 use Rattle.sim_meaning.specs.Texts.{text}
+use Rattle.sim_meaning.specs.Sane.{Sane, SaneOn}
 use Rattle.codegen_expr.specs.Sites.{Ahead, At, Is, cells_in}
 use Rattle.codegen.specs.CodeFor.{ReturnsAt}
-use Rattle.sim_relate.proofs.Relation.{ChainAt, ComesTo, Kind, NowAt, OpAt, ReturningIs, StandingsAt, placed, StateAt, StateNow, StoreAt, TurningIs, WorkAt, over, returning, site_at, straight, there, turning}
-use Rattle.sim_meaning.specs.Sane.{Other, Sane, SaneOn}
+use Rattle.sim_relate.proofs.Relation.{ChainAt, ComesTo, Kind, NowAt, OpAt, ReturningIs, StandingsAt, StateAt, StateNow, StoreAt, TurningIs, WorkAt, over, placed, returning, site_at, straight, there, turning}
 use Rattle.sim_relate.proofs.Hands.{stack_length}
-use Rattle.sim_relate.proofs.Here.{Here, There, act}
-use Rattle.sim_relate.proofs.Moved.{later_itself, moved, own_level, work_more, work_moved}
+use Rattle.sim_relate.proofs.Here.{Here, There, act, there_of}
+use Rattle.sim_relate.proofs.Living.{own_level}
+use Rattle.sim_relate.proofs.Moved.{moved, work_more, work_moved}
 use Rattle.sim_relate.proofs.Operators.{chosen, is_instr}
 use Rattle.sim_relate.proofs.Stores.{levels_same, placed_here, temp_written}
 
@@ -220,24 +221,24 @@ module _ (s : Source) (code : CodeOf) (l : Limits) where
     deep = sym (stack_length ks vals stack here.values)
 
     -- control has come to the first part
-    now_at : (used : ℕ) (w : List Item) (p : ℕ) → NowAt s code m fs Below inst t b used w p ks → StateNow s code (Stood w) (machine_at fs inst p stack b.room below)
-    now_at used w p a = record {
+    now_at : (fs' : Frames) → There s code m fs' inst t b ks vals stack → (used : ℕ) (w : List Item) (p : ℕ) → NowAt s code m fs' (λ v. ChainAt s code m fs' rest v below) inst t b used w p ks → StateNow s code (Stood w) (machine_at fs' inst p stack b.room below)
+    now_at fs' there' used w p a = record {
       chain = record {
         base = refl;
         home = refl;
         text = t;
         block = b;
-        found = here.found;
-        stands = here.stands;
+        found = there'.found;
+        stands = there'.stands;
         room = refl;
         kinds = ks;
-        values = here.values;
+        values = there'.values;
         fits = λ no. absurd (cc);
         used = used;
         goes = a;
       };
-      store = here.store;
-      parked = here.parked;
+      store = there'.store;
+      parked = there'.parked;
     }
 
     -- a turn goes to the statement
@@ -250,9 +251,9 @@ module _ (s : Source) (code : CodeOf) (l : Limits) where
         let again : suc a.temp ≤ suc a.temp = omega arith in
         let in_use : a.temp < suc a.temp = omega arith in
         let low' : length (cells_in s t (text s t)) ≤ suc a.temp = omega (arith, a.is_temp.behind) in
-        let there' = moved s code m m fs r.frames r.store (later_itself s m) (Other inst) r.keeps refl r.standings here.kept_alone here here.values in
+        let there' = moved s code r.changed here.kept_alone here here.values in
         let k1 = subst (λ z. WorkAt s code m fs Below inst t b u w q z) e k in
-        let k2 = work_moved s code m m fs r.frames r.store (later_itself s m) (Other inst) r.keeps refl r.standings here.kept_alone here here.alone below u (λ n le lt. r.others n (λ same. let no : ⊥ = omega (arith, same, lt, a.unused) in no)) w q ks k1 in
+        let k2 = work_moved s code r.changed here here.alone below u (λ n le lt. r.others n (λ same. let no : ⊥ = omega (arith, same, lt, a.unused) in no)) w q ks k1 in
         let k3 = work_more s code m r.frames (λ v. ChainAt s code m r.frames rest v below) inst t b u (suc a.temp) more w q ks k2 in
         let k4 = comes_back s code m r.frames (λ v. ChainAt s code m r.frames rest v below) inst t b (suc a.temp) w a.done q ks (record {
           temp = a.temp;
@@ -270,34 +271,14 @@ module _ (s : Source) (code : CodeOf) (l : Limits) where
           slow_more code l (λ o. int_step code l o fs inst p stack b.room below a.number a.turn.x a.turn.pushed.is one)
               (slow_more code l (λ o. store_step code l o fs inst a.turn.x stack b.room below (level_of s t) inst a.temp a.turn.y number r.frames a.turn.kept own r.is)
               (slow_more code l (λ o. back_step code l o r.frames inst a.turn.y stack b.room below a.start q a.ticked a.turn.jump a.turn.behind a.tick) (0, no_step))),
-          now_moved r.frames there' (suc a.temp) (Do (Exec x) ∷ w) a.start (suc a.temp, a.done, ks, again, low', (a.body, refl), k4),
+          now_at r.frames there' (suc a.temp) (Do (Exec x) ∷ w) a.start (suc a.temp, a.done, ks, again, low', (a.body, refl), k4),
         )
-      where
-        now_moved : (fs' : Frames) → There s code m fs' inst t b ks vals stack → (used : ℕ) (w : List Item) (p : ℕ) → NowAt s code m fs' (λ v. ChainAt s code m fs' rest v below) inst t b used w p ks → StateNow s code (Stood w) (machine_at fs' inst p stack b.room below)
-        now_moved fs' here' used w p a = record {
-          chain = record {
-            base = refl;
-            home = refl;
-            text = t;
-            block = b;
-            found = here'.found;
-            stands = here'.stands;
-            room = refl;
-            kinds = ks;
-            values = here'.values;
-            fits = λ no. absurd (cc);
-            used = used;
-            goes = a;
-          };
-          store = here'.store;
-          parked = here'.parked;
-        }
 
     -- an operator in its own place, or a turn
     begins : (used : ℕ) (w : List Item) (op : Op) (p : ℕ) (u q : ℕ) (behind : List Kind) → u ≤ used → length (cells_in s t (text s t)) ≤ u → OpAt s code m fs inst (site_at t b u) op p q ks behind → WorkAt s code m fs Below inst t b u w q behind → Settles (Stood (Do op ∷ w)) (machine_at fs inst p stack b.room below)
-    begins used w (Exec x) p u q behind le low (straight a, e) k = (_, (0, no_step), now_at used (Do (Exec x) ∷ w) p (u, q, behind, le, low, (a, e), k))
+    begins used w (Exec x) p u q behind le low (straight a, e) k = (_, (0, no_step), now_at fs (there_of s code here) used (Do (Exec x) ∷ w) p (u, q, behind, le, low, (a, e), k))
     begins used w (Exec x) p u q behind le low (turning a, e) k = turns used u w x p q behind le low a e k
-    begins used w op p u q behind le low a k = (_, (0, no_step), now_at used (Do op ∷ w) p (u, q, behind, le, low, a, k))
+    begins used w op p u q behind le low a k = (_, (0, no_step), now_at fs (there_of s code here) used (Do op ∷ w) p (u, q, behind, le, low, a, k))
 
     come : (used : ℕ) (q p : ℕ) → ComesTo s code fs inst t b used (length ks) q p → SlowTo code l (machine_at fs inst p stack b.room below) (machine_at fs inst q stack b.room below)
     come used q p a = come_path s code l fs inst t b stack below (length ks) deep own (λ c. placed_here s code m fs here.store inst c here.lives) used q p a
@@ -308,9 +289,9 @@ module _ (s : Source) (code : CodeOf) (l : Limits) where
     pub top_settles : (used : ℕ) (w : List Item) (p : ℕ) → WorkAt s code m fs Below inst t b used w p ks → Settles (Stood w) (machine_at fs inst p stack b.room below)
     top_settles used [] p a = absurd a
     top_settles used (Do op ∷ w) p a = first_come _ _ _ (come used a.0 p a.4) (begins used w op a.0 a.1 a.2 a.3 a.5 a.6 a.7 a.8)
-    top_settles used (EndBlock ∷ w) p a = first_come _ _ _ (come used a.0 p a.1) (_, (0, no_step), now_at used (EndBlock ∷ w) a.0 a.2)
-    top_settles used (EndProcedure v ∷ w) p a = first_come _ _ _ (come used a.0 p a.1) (_, (0, no_step), now_at used (EndProcedure v ∷ w) a.0 a.2)
-    top_settles used (EndProgram ∷ w) p a = first_come _ _ _ (come used a.0 p a.1) (_, (0, no_step), now_at used (EndProgram ∷ w) a.0 a.2)
+    top_settles used (EndBlock ∷ w) p a = first_come _ _ _ (come used a.0 p a.1) (_, (0, no_step), now_at fs (there_of s code here) used (EndBlock ∷ w) a.0 a.2)
+    top_settles used (EndProcedure v ∷ w) p a = first_come _ _ _ (come used a.0 p a.1) (_, (0, no_step), now_at fs (there_of s code here) used (EndProcedure v ∷ w) a.0 a.2)
+    top_settles used (EndProgram ∷ w) p a = first_come _ _ _ (come used a.0 p a.1) (_, (0, no_step), now_at fs (there_of s code here) used (EndProgram ∷ w) a.0 a.2)
 
   -- an activation that is as the relation says
   as_act : (y : machine.Activation) (inst room : ℕ) → y.thunk ≡ false → y.home ≡ inst → y.room ≡ room → y ≡ act inst y.pc y.stack room

@@ -2,11 +2,10 @@
 use Rattle.std.proofs.Common.{◌≡◌, ◌≤◌, ℕ, zero, suc, Bool, true, false, List, ◌∷◌, length, Option, Some, None, refl, sym, ap, ◌∙◌, subst}
 use Rattle.std.specs.Prelude.{pos}
 use Rattle.sim_base.specs.declared.limits.Limits.{Limits}
-use Rattle.sim_scope.specs.Source.{Source, block_around, line_at, level_of}
+use Rattle.sim_scope.specs.Source.{Source, block_around, line_at}
 use Rattle.sim_tree.specs.Syntax.{Also, Begin, Block, Element, Expression, NoDeclaration, NoMore, NoStatement, RightSide, Statement, Statements, With}
 use Rattle.sim_tree.specs.Syntax as syntax
 use Rattle.sim_code.specs.declared.instr.Instr.TheVariants as i
-use Rattle.sim_code.specs.Instances.{at_level}
 use Rattle.sim_code.specs.Code.{BlockOf, CodeOf}
 use Rattle.sim_code.specs.Outcome.{Going, Run, World}
 use Rattle.sim_code.specs.Events.{choosing, pop_truth, ticking}
@@ -26,14 +25,14 @@ use Rattle.codegen_expr.specs.CodeExpr.{ExprAt}
 use Rattle.codegen.specs.Agrees.{Agrees}
 use Rattle.codegen.specs.CodeLeft.{AssignAt, GoesAt, each_stored}
 use Rattle.codegen.specs.CodeStm.{BlockAt, CalledAt, DropsAt, EnterAt, StmAt, StmsAt}
-use Rattle.sim_relate.proofs.Relation.{Any, BeginsAt, ChainAt, HandAt, Kind, OpAt, Reaches, StateAt, WorkAt, anys, given, site_at, straight, TermAt, gives}
+use Rattle.sim_relate.proofs.Relation.{Any, BeginsAt, ChainAt, Finds, HandAt, Kind, OpAt, StateAt, WorkAt, anys, given, site_at, straight, TermAt, gives}
 use Rattle.sim_relate.proofs.Closing.{call_named_at, close_at, call_dot_at}
 use Rattle.sim_relate.proofs.Hands.{hand_truth}
 use Rattle.sim_relate.proofs.Here.{Here, act, at_row, goes, kinds_as, there_of, with_values}
 use Rattle.sim_relate.proofs.Lefts.{goes_at, lefts_at}
+use Rattle.sim_relate.proofs.Living.{reach_found}
 use Rattle.sim_relate.proofs.Operators.{jumps_ahead, jumps_back, same_plain}
 use Rattle.sim_relate.proofs.Pending.{evals, pends}
-use Rattle.sim_relate.proofs.Reach.{reach_found}
 use Rattle.sim_scope.specs.Assignments.{last_value, left_sides}
 use Rattle.sim_relate.proofs.Shapes.{Leaves, dot_call_leaves, named_call_leaves}
 
@@ -56,7 +55,7 @@ module _ (s : Source) (code : CodeOf) (l : Limits) (agrees : Agrees s) (o : Worl
   pub pending : (x : List Item) (op : Op) (p p' : ℕ) (before behind : List Kind) → OpAt s code m fs inst (site_at t b u) op p p' before behind → Rests x p' behind → Rests (Do op ∷ x) p before
   pending x op p p' before behind a r = pends s code m fs (λ v. ChainAt s code m fs rest v below) inst t b u low x op p p' before behind a r
 
-  pub reaching : (v : ℕ) → Inside s.tables t v → (j : ℕ) × Reaches s m inst v j × (at_level m (level_of s v) inst ≡ Some j)
+  pub reaching : (v : ℕ) → Inside s.tables t v → Finds s m inst v
   reaching v ins = reach_found s m inst t v agrees here.stands here.lives ins
 
   -- an expression that is closed now

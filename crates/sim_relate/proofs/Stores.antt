@@ -8,102 +8,60 @@ use Rattle.sim_chains.specs.Components.{Standing}
 use Rattle.sim_scope.specs.Access.{encloser}
 use Rattle.sim_scope.specs.Source.{Source, level_of}
 use Rattle.sim_code.specs.Code.{BlockOf, CodeOf}
-use Rattle.sim_code.specs.Instances.{Instance, Memory, at_level, cells_in as cells_of_live, cells_put, ends_in, entered, found_at, given, given_in, is_given_at_end, is_live, is_live_in, kept_at, kept_further, kept_on, level_within, live, outward, unless_given, with_instance}
+use Rattle.sim_code.specs.Instances.{Instance, at_level, cells_in as cells_of_live, cells_put, ends_in, entered, found_at, given, given_in, is_given_at_end, is_live, is_live_in, kept_at, kept_further, kept_on, level_within, live, outward, with_instance}
 use Rattle.sim_code.specs.Machine.{Cells, Frames, Value, joined}
 use Rattle.sim_code.specs.Machine as machine
 use Rattle.sim_code.proofs.Lifts.{Both}
 use Rattle.sim_meaning.specs.Pending.{Activation, Held, Instances, Key, Val, held, held_set}
 use Rattle.sim_meaning.specs.Pending as meaning
 use Rattle.sim_meaning.specs.Texts.{text}
+use Rattle.sim_meaning.specs.Sane.{Lives, Other}
 use Rattle.codegen_expr.specs.CodeExpr.{block_number}
 use Rattle.codegen_expr.specs.Sites.{HasCell, cells_in, place_of, slot_of}
-use Rattle.sim_relate.proofs.Heads.{Heads, Same, both_found, both_heads, entered_same, given_both, given_same, heads_refl, is_live_at, kept_same, later_heads, lives_in, set_self}
-use Rattle.sim_relate.proofs.Lists.{append_at, append_before, append_both, both_as, set_both, set_other, set_same}
-use Rattle.sim_relate.proofs.Reach.{if_true, is_there, live_there, lives_now}
-use Rattle.sim_relate.proofs.Relation.{CellsAt, Every, InstanceAt, Keeps, Later, Stands, StoreAt, ValAt, inside, key_of, outermost, placed, placed_in, value_of}
-use Rattle.sim_meaning.specs.Sane.{Lives, Other, lives_alone, lives_inside}
+use Rattle.sim_relate.proofs.Heads.{Heads, Same, both_found, both_heads, entered_same, given_both, given_same, heads_refl, is_live_at, kept_same, later_all, later_heads, later_itself, set_self}
+use Rattle.sim_relate.proofs.Lists.{append_at, append_both, both_as, set_both, set_other, set_same}
+use Rattle.sim_relate.proofs.Living.{lives_now}
+use Rattle.sim_relate.proofs.Reach.{if_true, is_there, same_some}
+use Rattle.sim_relate.proofs.Relation.{CellsAt, Changed, Every, InstanceAt, Keeps, Later, Stands, StoreAt, ValAt, inside, key_of, outermost, placed, placed_in, value_of}
 use Rattle.sim_relate.proofs.Slots.{cells_fit, cells_read, cells_write, keys_length, keys_place, less_true, temp_write}
 
--- ---- cells of frames after a write of one frame
+-- ---- frames after a value is put into a cell of one of them
 
-module _ (fs : Frames) (j : ℕ) (y : Instance Cells) (lives : live fs j ≡ Some y) (cells : Cells) where
-  abbrev pub frames_with : Frames
-  frames_with = with_instance fs j (record y { cells = cells })
+module _ (fs : Frames) (j : ℕ) (y : Instance Cells) (lives : live fs j ≡ Some y) (c : ℕ) (v : Value) where
+  abbrev frame_put : Instance Cells
+  frame_put = record y { cells = slice_set y.cells c (Some v) }
 
-  pub live_here : live frames_with j ≡ Some (let z : Instance Cells = record y { cells = cells } in z)
-  live_here =
-      let a = is_live_at (slice_get fs.instances j) y lives in
-      lives_in (slice_get frames_with.instances j) (record y { cells = cells }) (set_same fs.instances j y (record y { cells = cells }) a.there) a.stays
+  abbrev frames_put : Frames
+  frames_put = with_instance fs j frame_put
 
-  pub cell_here : (c : ℕ) → machine.cell frames_with j c ≡ joined (slice_get cells c)
-  cell_here c = ap (λ z. machine.value_in (cells_of_live z) c) live_here
-
-  pub cell_elsewhere : (k c : ℕ) → k ≢ j → machine.cell frames_with k c ≡ machine.cell fs k c
-  cell_elsewhere k c ne = ap (λ z. machine.value_in (cells_of_live (unless_given z)) c) (set_other fs.instances j k (record y { cells = cells }) ne)
-
--- a value is put into a cell that is there
-module _ (fs : Frames) (j : ℕ) (y : Instance Cells) (lives : live fs j ≡ Some y) (c : ℕ) (v : Value) (fits : c < length y.cells) where
-  abbrev pub cells_with : Cells
-  cells_with = slice_set y.cells c (Some v)
-
-  pub frame_set : machine.cell_set fs j c v ≡ Some (frames_with fs j y lives cells_with)
-  frame_set =
+  frame_set : c < length y.cells → machine.cell_set fs j c v ≡ Some frames_put
+  frame_set fits =
       ap (λ z. cells_put fs j z (machine.put_in (cells_of_live z) c v)) lives ∙
-      ap (cells_put fs j (Some y)) (if_true (nat_lt c (length y.cells)) (Some cells_with) None (less_true c (length y.cells) fits))
+      ap (cells_put fs j (Some y)) (if_true (nat_lt c (length y.cells)) (Some (slice_set y.cells c (Some v))) None (less_true c (length y.cells) fits))
 
-  joined_other : (d : ℕ) → d ≢ c → joined (slice_get cells_with d) ≡ joined (slice_get y.cells d)
-  joined_other d ne = ap joined (set_other y.cells c d (Some v) ne)
-
-  old_cell : (d : ℕ) → machine.cell fs j d ≡ joined (slice_get y.cells d)
-  old_cell d = ap (λ z. machine.value_in (cells_of_live z) d) lives
-
-  pub frame_other : (k d : ℕ) → (k ≡ j → d ≢ c) → machine.cell (frames_with fs j y lives cells_with) k d ≡ machine.cell fs k d
-  frame_other k d apart =
-      ⊎_elim
-      (λ same.
-      ap (λ z. machine.cell (frames_with fs j y lives cells_with) z d) same ∙ cell_here fs j y lives cells_with d ∙ joined_other d (apart same) ∙ sym (old_cell d) ∙ ap (λ z. machine.cell fs z d) (sym same))
-      (λ other. cell_elsewhere fs j y lives cells_with k d other)
-      (cases_eq k j)
-
-  there_is_one : (cells : Cells) → c < length cells → (old : Option Value) × (slice_get cells c ≡ Some old)
-  there_is_one cells lt = go c cells lt
-    where
-      go : (c : ℕ) (cells : Cells) → c < length cells → (old : Option Value) × (slice_get cells c ≡ Some old)
-      go c [] lt = absurd (omega arith)
-      go zero (x ∷ cells) lt = (x, refl)
-      go (suc c) (x ∷ cells) lt = go c cells (omega arith)
-
-  pub frame_holds : machine.cell (frames_with fs j y lives cells_with) j c ≡ Some v
-  frame_holds = let x = there_is_one y.cells fits in cell_here fs j y lives cells_with c ∙ ap joined (set_same y.cells c x.0 (Some v) x.1)
-
--- what lies in a frame then, given back or not
-module _ (fs : Frames) (j : ℕ) (y : Instance Cells) (there : slice_get fs.instances j ≡ Some y) (c : ℕ) (v : Value) where
-  abbrev pub frames_put : Frames
-  frames_put = with_instance fs j (record y { cells = slice_set y.cells c (Some v) })
+  frame_there : slice_get fs.instances j ≡ Some y
+  frame_there = (is_live_at (slice_get fs.instances j) y lives).there
 
   put_here : (d : ℕ) → placed frames_put j d ≡ joined (slice_get (slice_set y.cells c (Some v)) d)
-  put_here d = ap (λ z. placed_in z d) (set_same fs.instances j y (record y { cells = slice_set y.cells c (Some v) }) there)
+  put_here d = ap (λ z. placed_in z d) (set_same fs.instances j y frame_put frame_there)
 
-  pub placed_other : (k d : ℕ) → (k ≡ j → d ≢ c) → placed frames_put k d ≡ placed fs k d
+  placed_other : (k d : ℕ) → (k ≡ j → d ≢ c) → placed frames_put k d ≡ placed fs k d
   placed_other k d apart =
       ⊎_elim
       (λ same.
-      ap (λ z. placed frames_put z d) same ∙ put_here d ∙ ap joined (set_other y.cells c d (Some v) (apart same)) ∙ sym (ap (λ z. placed_in z d) there) ∙ ap (λ z. placed fs z d) (sym same))
-      (λ other. ap (λ z. placed_in z d) (set_other fs.instances j k (record y { cells = slice_set y.cells c (Some v) }) other))
+      ap (λ z. placed frames_put z d) same ∙ put_here d ∙ ap joined (set_other y.cells c d (Some v) (apart same)) ∙ sym (ap (λ z. placed_in z d) frame_there) ∙ ap (λ z. placed fs z d) (sym same))
+      (λ other. ap (λ z. placed_in z d) (set_other fs.instances j k frame_put other))
       (cases_eq k j)
 
-  cell_there : (cells : Cells) (c : ℕ) → c < length cells → (old : Option Value) × (slice_get cells c ≡ Some old)
-  cell_there [] c lt = absurd (omega arith)
+  cell_there : (cells : Cells) (d : ℕ) → d < length cells → (old : Option Value) × (slice_get cells d ≡ Some old)
+  cell_there [] d lt = absurd (omega arith)
   cell_there (x ∷ cells) zero lt = (x, refl)
-  cell_there (x ∷ cells) (suc c) lt = cell_there cells c (omega arith)
+  cell_there (x ∷ cells) (suc d) lt = cell_there cells d (omega arith)
 
-  pub placed_holds : c < length y.cells → placed frames_put j c ≡ Some v
+  placed_holds : c < length y.cells → placed frames_put j c ≡ Some v
   placed_holds fits = let x = cell_there y.cells c fits in put_here c ∙ ap joined (set_same y.cells c x.0 (Some v) x.1)
 
 -- ---- both stores
-
-pub later_all : (s : Source) (m m' : Instances) → ((k : ℕ) → Both Heads (slice_get m.instances k) (slice_get m'.instances k)) → Later s m m'
-later_all s m m' all = later_heads s m m' (λ k x e. both_found Heads (slice_get m.instances k) (slice_get m'.instances k) x e (all k))
 
 module _ (s : Source) (code : CodeOf) where
   pub instance_kept : {x : Instance (List Held)} {y : Instance Cells} → InstanceAt s code x y → InstanceAt s code (record x { kept = true }) (record y { kept = true })
@@ -129,13 +87,10 @@ module _ (s : Source) (code : CodeOf) where
       pub of_text : now.text ≡ t
       pub keys : map key_of now.cells ≡ map key_of (cells_in s t (text s t))
 
-    same_one : {A : Type 0} (o : Option A) (p q : A) → o ≡ Some p → o ≡ Some q → p ≡ q
-    same_one o p q e f = cc
-
     pub framed : {j t : ℕ} → Stands s m j t → (now : Instance (List Held)) → live m j ≡ Some now → Framed j t
     framed {j} {t} st now lives =
         let x = is_there s m st in
-        let same : x.now ≡ now = same_one (slice_get m.instances j) x.now now x.lives (live_there (slice_get m.instances j) now lives) in
+        let same : x.now ≡ now = same_some (slice_get m.instances j) x.now now x.is (is_live_at (slice_get m.instances j) now lives).there in
         let y = both_found (InstanceAt s code) (live m j) (live fs j) now lives (live_pair j) in
         let of_text : now.text ≡ t = sym (ap (λ z. z.text) same) ∙ x.text in
         record { now = now; lives = lives; frame = y.it; frame_lives = y.is; pair = y.related; of_text = of_text; keys = subst (λ k. map key_of now.cells ≡ map key_of (cells_in s k (text s k))) of_text (y.related).keys }
@@ -169,29 +124,21 @@ module _ (s : Source) (code : CodeOf) where
         read_pair (Some x) (Some y) ex ey p = cell_live_read j t key (framed st x ex) has
 
     -- writing a cell
-    pub record Wrote (j t : ℕ) (key : Key) (v : Val) (y : Value) : Type 0 where
-      pub now : Instances
-      pub frames : Frames
-      pub is : meaning.cell_set m j key v ≡ Some now
-      pub is_frames : machine.cell_set fs j (slot_of s t key) y ≡ Some frames
-      pub store : StoreAt s code now frames
-      pub count : length now.instances ≡ length m.instances
-      pub later : Later s m now
-      pub keeps : Keeps s m fs frames Every
-      pub standings : now.standings ≡ m.standings
-      pub standings' : frames.standings ≡ fs.standings
+    record Wrote (j t : ℕ) (key : Key) (v : Val) (y : Value) : Type 0 where
+      now : Instances
+      frames : Frames
+      is : meaning.cell_set m j key v ≡ Some now
+      is_frames : machine.cell_set fs j (slot_of s t key) y ≡ Some frames
+      changed : Changed s code Every m fs now frames
 
     one_text : {j t u : ℕ} → Stands s m j t → Stands s m j u → u ≡ t
     one_text {j} p q =
         let x = is_there s m p in
         let y = is_there s m q in
-        let same : x.now ≡ y.now = some_same (slice_get m.instances j) x.now y.now x.lives y.lives in
+        let same : x.now ≡ y.now = same_some (slice_get m.instances j) x.now y.now x.is y.is in
         sym y.text ∙ sym (ap (λ z. z.text) same) ∙ x.text
-      where
-        some_same : {A : Type 0} (o : Option A) (p q : A) → o ≡ Some p → o ≡ Some q → p ≡ q
-        some_same o p q e f = cc
 
-    pub store_write : (j t : ℕ) (key : Key) (v : Val) (y : Value) → Stands s m j t → Framed j t → HasCell s t key → ValAt v y → Wrote j t key v y
+    store_write : (j t : ℕ) (key : Key) (v : Val) (y : Value) → Stands s m j t → Framed j t → HasCell s t key → ValAt v y → Wrote j t key v y
     store_write j t key v y st f has w =
         let slot = slot_of s t key in
         let place = slot_here j t key f in
@@ -203,7 +150,7 @@ module _ (s : Source) (code : CodeOf) where
         let lt : slot < length cs = omega (arith, fits, has, n) in
         let x = cells_write ValAt key v y hs cs p.cells w (fits_here j t key f has) in
         let new : Instance (List Held) = record f.now { cells = x.now } in
-        let new' : Instance Cells = record f.frame { cells = slice_set cs slot (Some y) } in
+        let new' : Instance Cells = frame_put fs j f.frame f.frame_lives slot y in
         let pair : InstanceAt s code new new' = record {
           number = p.number;
           level = p.level;
@@ -219,34 +166,34 @@ module _ (s : Source) (code : CodeOf) where
         let heads : Heads f.now new = record { text = refl; level = refl; encloser = refl } in
         record {
           now = with_instance m j new;
-          frames = with_instance fs j new';
+          frames = frames_put fs j f.frame f.frame_lives slot y;
           is = ap (λ z. cells_put m j z (meaning.put_in (cells_of_live z) key v)) f.lives ∙ ap (cells_put m j (Some f.now)) x.is;
           is_frames = frame_set fs j f.frame f.frame_lives slot y lt;
-          store = store_put a j new new' pair;
-          count = length-set m.instances j new;
-          standings = refl;
-          standings' = refl;
-          later = later_all s m (with_instance m j new) (λ k. set_self Heads heads_refl m.instances j f.now new there.there heads k);
-          keeps = record {
-            temps = λ k u c _ stands le.
-                placed_other fs j f.frame (is_live_at (slice_get fs.instances j) f.frame f.frame_lives).there slot y k c
-                (λ same.
-                let here : Stands s m j u = subst (λ z. Stands s m z u) same stands in
-                let texts : u ≡ t = one_text st here in
-                let behind : length (cells_in s t (text s t)) ≤ c = subst (λ z. length (cells_in s z (text s z)) ≤ c) texts le in
-                λ e. (let no : ⊥ = omega (arith, behind, has, e) in no));
+          changed = record {
+            store = store_put a j new new' pair;
+            standings = refl;
+            frame_standings = refl;
+            later = later_all s m (with_instance m j new) (λ k. set_self Heads heads_refl m.instances j f.now new there.there heads k);
+            keeps = record {
+              temps = λ k u c _ stands le.
+                  placed_other fs j f.frame f.frame_lives slot y k c
+                  (λ same.
+                  let here : Stands s m j u = subst (λ z. Stands s m z u) same stands in
+                  let texts : u ≡ t = one_text st here in
+                  let behind : length (cells_in s t (text s t)) ≤ c = subst (λ z. length (cells_in s z (text s z)) ≤ c) texts le in
+                  λ e. (let no : ⊥ = omega (arith, behind, has, e) in no));
+            };
           };
         }
 
-    -- writing a temp
-    pub record WroteTemp (j temp : ℕ) (y : Value) : Type 0 where
-      pub frames : Frames
-      pub is : machine.cell_set fs j temp y ≡ Some frames
-      pub store : StoreAt s code m frames
-      pub holds : placed frames j temp ≡ Some y
-      pub others : (k c : ℕ) → (k ≡ j → c ≢ temp) → placed frames k c ≡ placed fs k c
-      pub standings : frames.standings ≡ fs.standings
+    -- what lies in the frame of an instance that lives is in its cells
+    pub placed_here : (j c : ℕ) → Lives m j → machine.cell fs j c ≡ placed fs j c
+    placed_here j c lives =
+        let now = lives_now m j lives in
+        let y = both_found (InstanceAt s code) (live m j) (live fs j) now.0 now.1 (live_pair j) in
+        ap (λ z. placed_in z c) (y.is ∙ sym (is_live_at (slice_get fs.instances j) y.it y.is).there)
 
+    -- writing a temp
     set_right : (P : Instance (List Held) → Instance Cells → Type 0) (xs : List (Instance (List Held))) (ys : List (Instance Cells)) (j : ℕ) (x : Instance (List Held)) (y : Instance Cells) → ((k : ℕ) → Both P (slice_get xs k) (slice_get ys k)) → slice_get xs j ≡ Some x → P x y → (k : ℕ) → Both P (slice_get xs k) (slice_get (slice_set ys j y) k)
     set_right P [] [] j x y all e p k = tt
     set_right P [] (b ∷ ys) j x y all e p k = absurd (all 0)
@@ -256,7 +203,15 @@ module _ (s : Source) (code : CodeOf) where
     set_right P (b ∷ xs) (c ∷ ys) (suc j) x y all e p zero = all 0
     set_right P (b ∷ xs) (c ∷ ys) (suc j) x y all e p (suc k) = set_right P xs ys j x y (λ k. all (suc k)) e p k
 
-    pub store_temp : (j t temp : ℕ) (y : Value) (b : BlockOf) → Framed j t → slice_get code.blocks (block_number s t) ≡ Some b → length (cells_in s t (text s t)) ≤ temp → temp < length b.types → WroteTemp j temp y
+    -- the frames of all other instances keep theirs
+    record WroteTemp (j temp : ℕ) (y : Value) : Type 0 where
+      frames : Frames
+      is : machine.cell_set fs j temp y ≡ Some frames
+      changed : Changed s code (Other j) m fs m frames
+      holds : placed frames j temp ≡ Some y
+      others : (c : ℕ) → c ≢ temp → placed frames j c ≡ placed fs j c
+
+    store_temp : (j t temp : ℕ) (y : Value) (b : BlockOf) → Framed j t → slice_get code.blocks (block_number s t) ≡ Some b → length (cells_in s t (text s t)) ≤ temp → temp < length b.types → WroteTemp j temp y
     store_temp j t temp y b f found behind within =
         let n = count_here j t f in
         let p = f.pair in
@@ -264,7 +219,7 @@ module _ (s : Source) (code : CodeOf) where
         let size : length cs ≡ length b.types = p.size b (ap (λ k. slice_get code.blocks (block_number s k)) f.of_text ∙ found) in
         let lt : temp < length cs = omega (arith, within, size) in
         let past : length f.now.cells ≤ temp = omega (arith, behind, n) in
-        let new : Instance Cells = record f.frame { cells = slice_set cs temp (Some y) } in
+        let new : Instance Cells = frame_put fs j f.frame f.frame_lives temp y in
         let pair : InstanceAt s code f.now new = record {
           number = p.number;
           level = p.level;
@@ -277,13 +232,19 @@ module _ (s : Source) (code : CodeOf) where
           size = λ b e. length-set cs temp (Some y) ∙ p.size b e;
         } in
         let there = is_live_at (slice_get m.instances j) f.now f.lives in
+        let others = placed_other fs j f.frame f.frame_lives temp y in
         record {
-          frames = with_instance fs j new;
+          frames = frames_put fs j f.frame f.frame_lives temp y;
           is = frame_set fs j f.frame f.frame_lives temp y lt;
-          store = record { as_many = a.as_many ∙ sym (length-set fs.instances j new); at = set_right (InstanceAt s code) m.instances fs.instances j f.now new a.at there.there pair };
-          holds = placed_holds fs j f.frame (is_live_at (slice_get fs.instances j) f.frame f.frame_lives).there temp y lt;
-          others = placed_other fs j f.frame (is_live_at (slice_get fs.instances j) f.frame f.frame_lives).there temp y;
-          standings = refl;
+          changed = record {
+            store = record { as_many = a.as_many ∙ sym (length-set fs.instances j new); at = set_right (InstanceAt s code) m.instances fs.instances j f.now new a.at there.there pair };
+            later = later_itself s m;
+            keeps = record { temps = λ k u c other st le. others k c (λ same. absurd (other same)) };
+            standings = refl;
+            frame_standings = refl;
+          };
+          holds = placed_holds fs j f.frame f.frame_lives temp y lt;
+          others = λ c apart. others j c (λ _. apart);
         }
 
     -- ---- flags
@@ -378,18 +339,18 @@ module _ (s : Source) (m : Instances) where
   same_cell (Some x) None c b = absurd b
   same_cell (Some x) (Some y) c b = ap (λ z. joined (slice_get z c)) b.cells
 
-  pub keeps_same : (fs fs' : Frames) (Of : ℕ → Type 0) → ((k : ℕ) → Of k → Both Same (slice_get fs.instances k) (slice_get fs'.instances k)) → Keeps s m fs fs' Of
-  keeps_same fs fs' Of all = record { temps = λ j t c is st le. same_cell (slice_get fs.instances j) (slice_get fs'.instances j) c (all j is) }
+  keeps_same : (fs fs' : Frames) → ((k : ℕ) → Both Same (slice_get fs.instances k) (slice_get fs'.instances k)) → Keeps s m fs fs' Every
+  keeps_same fs fs' all = record { temps = λ j t c of st le. same_cell (slice_get fs.instances j) (slice_get fs'.instances j) c (all j) }
 
   -- an instance of the meaning has its number within the list
   pub keeps_entered : (fs : Frames) → length m.instances ≡ length fs.instances → (y : Instance Cells) (q : Standing machine.Activation) → Keeps s m fs (entered fs y q) Every
-  keeps_entered fs n y q = record { temps = λ j t c is st le. let x = is_there s m st in let lt = slice_get_within m.instances j x.now x.lives in same_cell (slice_get fs.instances j) (slice_get (entered fs y q).instances j) c (entered_same fs y q j (omega (arith, lt, n))) }
+  keeps_entered fs n y q = record { temps = λ j t c of st le. let x = is_there s m st in let lt = slice_get_within m.instances j x.now x.is in same_cell (slice_get fs.instances j) (slice_get (entered fs y q).instances j) c (entered_same fs y q j (omega (arith, lt, n))) }
 
   pub keeps_given : (fs : Frames) (i : ℕ) → Keeps s m fs (given fs i) Every
-  keeps_given fs i = keeps_same fs (given fs i) Every (λ k is. given_same fs i k)
+  keeps_given fs i = keeps_same fs (given fs i) (λ k. given_same fs i k)
 
   pub keeps_kept : (fs : Frames) (below : List machine.Activation) → Keeps s m fs (kept_on machine.owner below fs) Every
-  keeps_kept fs below = keeps_same fs (kept_on machine.owner below fs) Every (λ k is. kept_same machine.owner k below fs)
+  keeps_kept fs below = keeps_same fs (kept_on machine.owner below fs) (λ k. kept_same machine.owner k below fs)
 
   -- ---- a new instance
 
@@ -399,29 +360,14 @@ module _ (s : Source) (m : Instances) where
   pub new_inside : (t e u : ℕ) (x : Instance (List Held)) (p : Standing Activation) → x.text ≡ t → x.level ≡ level_of s t → x.encloser ≡ Some e → encloser s.tables t ≡ Some u → Stands s m e u → Stands s (entered m x p) (length m.instances) t
   new_inside t e u x p text level out around st =
       let y = is_there s m st in
-      inside (append_at m.instances x) text level out around (slice_get_within m.instances e y.now y.lives) ((later_entered x p).stands e u st)
-
--- ---- what lives then
-
-module _ {C A : Type 0} (m : Memory C A) (x : Instance C) (p : Standing A) where
-  pub new_lives : x.given_back ≡ false → live (entered m x p) (length m.instances) ≡ Some x
-  new_lives e = lives_in (slice_get (entered m x p).instances (length m.instances)) x (append_at m.instances x) e
-
-  still_lives : (j : ℕ) (y : Instance C) → live m j ≡ Some y → live (entered m x p) j ≡ Some y
-  still_lives j y e =
-      let a = is_live_at (slice_get m.instances j) y e in
-      lives_in (slice_get (entered m x p).instances j) y (append_before m.instances x j (slice_get_within m.instances j y a.there) ∙ a.there) a.stays
-
-  pub lives_entered : (j : ℕ) → Lives m j → Lives (entered m x p) j
-  lives_entered j (lives_alone {x = y} e alone) = lives_alone (still_lives j y e) alone
-  lives_entered j (lives_inside {e = o} {x = y} e out more) = lives_inside (still_lives j y e) out (lives_entered o more)
-
-  pub new_lives_inside : x.given_back ≡ false → (e : ℕ) → x.encloser ≡ Some e → Lives m e → Lives (entered m x p) (length m.instances)
-  new_lives_inside g e out lives = lives_inside (new_lives g) out (lives_entered e lives)
+      inside (append_at m.instances x) text level out around (slice_get_within m.instances e y.now y.is) ((later_entered x p).stands e u st)
 
 -- ---- both stores read and written
 
 module _ (s : Source) (code : CodeOf) where
+  pub unchanged : (m : Instances) (fs : Frames) → StoreAt s code m fs → Changed s code Every m fs m fs
+  unchanged m fs a = record { store = a; later = later_itself s m; keeps = record { temps = λ j t c of st le. refl }; standings = refl; frame_standings = refl }
+
   found_alike : (level j : ℕ) (look look' : ℕ → Option ℕ) → ((k : ℕ) → look' k ≡ look k) → (x : Option (Instance (List Held))) (y : Option (Instance Cells)) → Both (InstanceAt s code) x y → found_at level look' j y ≡ found_at level look j x
   found_alike level j look look' e None None b = refl
   found_alike level j look look' e None (Some y) b = absurd b
@@ -444,59 +390,40 @@ module _ (s : Source) (code : CodeOf) where
   pub cell_read : (m : Instances) (fs : Frames) (j u : ℕ) (key : Key) → StoreAt s code m fs → Stands s m j u → HasCell s u key → Both ValAt (meaning.cell m j key) (machine.cell fs j (slot_of s u key))
   cell_read m fs j u key a st has = cell_here_read s code m fs a j u key st has
 
-  pub record Written (m : Instances) (fs : Frames) (m' : Instances) (fs' : Frames) : Type 0 where
-    pub store : StoreAt s code m' fs'
-    pub as_many : length m'.instances ≡ length m.instances
-    pub later : Later s m m'
-    pub keeps : Keeps s m fs fs' Every
-    pub standings : m'.standings ≡ m.standings
-    pub standings' : fs'.standings ≡ fs.standings
-
-  pub cell_write : (m : Instances) (fs : Frames) (j u : ℕ) (key : Key) (v : Val) (x : Value) → StoreAt s code m fs → Stands s m j u → HasCell s u key → ValAt v x → Both (Written m fs) (meaning.cell_set m j key v) (machine.cell_set fs j (slot_of s u key) x)
+  pub cell_write : (m : Instances) (fs : Frames) (j u : ℕ) (key : Key) (v : Val) (x : Value) → StoreAt s code m fs → Stands s m j u → HasCell s u key → ValAt v x → Both (Changed s code Every m fs) (meaning.cell_set m j key v) (machine.cell_set fs j (slot_of s u key) x)
   cell_write m fs j u key v x a st has w = write_pair (live m j) (live fs j) refl refl (live_pair s code m fs a j)
     where
-      write_pair : (y : Option (Instance (List Held))) (z : Option (Instance Cells)) → live m j ≡ y → live fs j ≡ z → Both (InstanceAt s code) y z → Both (Written m fs) (meaning.cell_set m j key v) (machine.cell_set fs j (slot_of s u key) x)
+      write_pair : (y : Option (Instance (List Held))) (z : Option (Instance Cells)) → live m j ≡ y → live fs j ≡ z → Both (InstanceAt s code) y z → Both (Changed s code Every m fs) (meaning.cell_set m j key v) (machine.cell_set fs j (slot_of s u key) x)
       write_pair None None ey ez p =
-          both_as (Written m fs) None (meaning.cell_set m j key v) None (machine.cell_set fs j (slot_of s u key) x)
+          both_as (Changed s code Every m fs) None (meaning.cell_set m j key v) None (machine.cell_set fs j (slot_of s u key) x)
           (ap (λ z. cells_put m j z (meaning.put_in (cells_of_live z) key v)) ey) (ap (λ z. cells_put fs j z (machine.put_in (cells_of_live z) (slot_of s u key) x)) ez) tt
       write_pair None (Some z) ey ez p = absurd p
       write_pair (Some y) None ey ez p = absurd p
       write_pair (Some y) (Some z) ey ez p =
           let r = store_write s code m fs a j u key v x st (framed s code m fs a st y ey) has w in
-          both_as (Written m fs) (Some r.now) (meaning.cell_set m j key v) (Some r.frames) (machine.cell_set fs j (slot_of s u key) x) r.is r.is_frames
-          (record { store = r.store; as_many = r.count; later = r.later; keeps = r.keeps; standings = r.standings; standings' = r.standings' })
+          both_as (Changed s code Every m fs) (Some r.now) (meaning.cell_set m j key v) (Some r.frames) (machine.cell_set fs j (slot_of s u key) x) r.is r.is_frames r.changed
 
-  -- what lies in the frame of an instance that lives is there
-  pub placed_here : (m : Instances) (fs : Frames) → StoreAt s code m fs → (inst c : ℕ) → Lives m inst → machine.cell fs inst c ≡ placed fs inst c
-  placed_here m fs a inst c lives =
-      let now = lives_now m inst lives in
-      let y = both_found (InstanceAt s code) (live m inst) (live fs inst) now.0 now.1 (live_pair s code m fs a inst) in
-      ap (λ z. placed_in z c) (y.is ∙ sym (live_there (slice_get fs.instances inst) y.it y.is))
-
-  -- a temp of an instance that lives: the frames of all others keep theirs
+  -- A temp of an instance that lives is written. What lies there then is read as well.
   pub record TempWritten (m : Instances) (fs : Frames) (inst temp : ℕ) (x : Value) : Type 0 where
     pub frames : Frames
     pub is : machine.cell_set fs inst temp x ≡ Some frames
-    pub store : StoreAt s code m frames
+    pub changed : Changed s code (Other inst) m fs m frames
     pub holds : placed frames inst temp ≡ Some x
     pub others : (c : ℕ) → c ≢ temp → placed frames inst c ≡ placed fs inst c
-    pub keeps : Keeps s m fs frames (Other inst)
     pub reads : machine.cell frames inst temp ≡ Some x
-    pub others_read : (c : ℕ) → c ≢ temp → machine.cell frames inst c ≡ machine.cell fs inst c
-    pub standings : frames.standings ≡ fs.standings
+    pub reads_others : (c : ℕ) → c ≢ temp → machine.cell frames inst c ≡ machine.cell fs inst c
 
   pub temp_written : (m : Instances) (fs : Frames) (inst t : ℕ) (b : BlockOf) (temp : ℕ) (x : Value) → StoreAt s code m fs → Stands s m inst t → Lives m inst → slice_get code.blocks (block_number s t) ≡ Some b → length (cells_in s t (text s t)) ≤ temp → temp < length b.types → TempWritten m fs inst temp x
   temp_written m fs inst t b temp x a st lives found behind within =
       let now = lives_now m inst lives in
       let r = store_temp s code m fs a inst t temp x b (framed s code m fs a st now.0 now.1) found behind within in
+      let reads = placed_here s code m r.frames (r.changed).store inst in
       record {
         frames = r.frames;
         is = r.is;
-        store = r.store;
+        changed = r.changed;
         holds = r.holds;
-        others = λ c ne. r.others inst c (λ same. ne);
-        keeps = record { temps = λ k u c other stands le. r.others k c (λ same. absurd (other same)) };
-        reads = placed_here m r.frames r.store inst temp lives ∙ r.holds;
-        others_read = λ c ne. placed_here m r.frames r.store inst c lives ∙ r.others inst c (λ same. ne) ∙ sym (placed_here m fs a inst c lives);
-        standings = r.standings;
+        others = r.others;
+        reads = reads temp lives ∙ r.holds;
+        reads_others = λ c apart. reads c lives ∙ r.others c apart ∙ sym (placed_here s code m fs a inst c lives);
       }
