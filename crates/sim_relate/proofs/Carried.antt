@@ -205,7 +205,7 @@ module _ (s : Source) (code : CodeOf) (m m' : Instances) (fs fs' : Frames) (e : 
   both_later (Some x) None o a = absurd a
   both_later (Some x) (Some y) o a = standing_later x y (o x refl) a
 
--- what a step leaves where it is
+-- the chains behind a step that makes no instance
 module _ (s : Source) (code : CodeOf) {Of : ℕ → Type 0} {m m' : Instances} {fs fs' : Frames} (x : Changed s code Of m fs m' fs') where
   pub chain_changed : (chain : List Activation) → AllOf Of chain → (v : Bool) (below : List machine.Activation) → ChainAt s code m fs chain v below → ChainAt s code m' fs' chain v below
   chain_changed chain all v below c = chain_later s code m m' fs fs' x.later Of x.keeps chain all v below c
@@ -226,7 +226,7 @@ module _ (s : Source) (code : CodeOf) {Of : ℕ → Type 0} {m m' : Instances} {
     frame_standings = y.frame_standings ∙ x.frame_standings;
   }
 
--- of every instance
+-- each chain is one of any instances
 pub all_every : (chain : List Activation) → AllOf Every chain
 all_every [] = tt
 all_every (a ∷ rest) = (tt, all_every rest)

@@ -1,5 +1,5 @@
 -- What entries of all kinds have in common.
-use Rattle.std.proofs.Common.{◌≡◌, ◌<◌, ◌+◌, ℕ, zero, suc, Bool, true, false, List, [], ◌∷◌, ◌++◌, length, map, Option, Some, None, refl, sym, ap, ◌∙◌, subst, arith}
+use Rattle.std.proofs.Common.{◌≡◌, ◌<◌, ◌+◌, ℕ, Bool, true, false, List, [], ◌∷◌, ◌++◌, length, map, Option, Some, None, refl, sym, ap, ◌∙◌, subst, arith}
 use Rattle.std.proofs.lemmas.List.{length-map}
 use Rattle.std.proofs.lemmas.Option.{slice_get_within}
 use Rattle.std.specs.Prelude.{if◌then◌else◌, pos, slice_get}
@@ -30,16 +30,11 @@ use Rattle.sim_relate.proofs.Carried.{all_every, both_later, chain_later, kept_e
 use Rattle.sim_relate.proofs.Ends.{chosen, left_out}
 use Rattle.sim_relate.proofs.Relation.{CellsAt, ChainAt, Every, InstanceAt, Kind, StandingAt, StandingsAt, StateAt, StoreAt, Stands, ValAt, WorkAt, key_of, none_at, plain_at, value_of}
 use Rattle.sim_relate.proofs.Slots.{first_all, first_cells_at}
-use Rattle.sim_relate.proofs.Lists.{append_both}
+use Rattle.sim_relate.proofs.Lists.{append_both, there_get}
 use Rattle.sim_relate.proofs.Reach.{same_some}
 use Rattle.sim_relate.proofs.Stores.{SameOwners, keeps_entered, later_entered, store_entered}
 
 -- ---- texts and blocks that are there
-
-pub there_get : {A : Type 0} (xs : List A) (j : ℕ) → j < length xs → (x : A) × (slice_get xs j ≡ Some x)
-there_get [] j lt = absurd (omega arith)
-there_get (x ∷ xs) zero lt = (x, refl)
-there_get (x ∷ xs) (suc j) lt = there_get xs j (omega arith)
 
 around_some : (o : Option ScopeOf) (u : ℕ) → around o ≡ Some u → (x : ScopeOf) × (o ≡ Some x)
 around_some None u e = absurd (cc)

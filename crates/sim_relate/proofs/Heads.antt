@@ -143,7 +143,7 @@ module _ (s : Source) (m m' : Instances) (heads : (k : ℕ) (x : Instance (List 
 pub later_all : (s : Source) (m m' : Instances) → ((k : ℕ) → Both Heads (slice_get m.instances k) (slice_get m'.instances k)) → Later s m m'
 later_all s m m' all = later_heads s m m' (λ k x e. both_found Heads (slice_get m.instances k) (slice_get m'.instances k) x e (all k))
 
--- nothing has changed
+-- nothing is later than the store itself
 pub later_itself : (s : Source) (m : Instances) → Later s m m
 later_itself s m = record { stands = λ j t st. st; same = λ level j t st. refl }
 
@@ -188,7 +188,7 @@ module _ {C A : Type 0} (owner : A → Option ℕ) (k : ℕ) where
   kept_same [] m = both_refl Same same_refl (slice_get m.instances k)
   kept_same (a ∷ chain) m = kept_one (kept_on owner chain) (kept_same chain) m (owner a)
 
--- how they stand is not touched
+-- instances that are kept stand as they did
 module _ {C A : Type 0} (owner : A → Option ℕ) where
   abbrev SameStandings : (Memory C A → Memory C A) → Type 0
   SameStandings go = (m : Memory C A) → (go m).standings ≡ m.standings

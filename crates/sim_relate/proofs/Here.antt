@@ -31,7 +31,7 @@ pub record There (s : Source) (code : CodeOf) (m : Instances) (fs : Frames) (ins
   pub found : slice_get code.blocks (block_number s t) ≡ Some b
   pub values : StackAt (HandAt s m) ks vals stack
 
--- The same of the instance that operates: it lives, and works on no other place.
+-- The same of the instance that operates: it lives with its enclosers, and stands at no other place of the chains.
 pub record Here (s : Source) (code : CodeOf) (m : Instances) (fs : Frames) (inst : ℕ) (rest : List Activation) (t : ℕ) (b : BlockOf) (ks : List Kind) (vals : List Val) (stack : List Value) : Type 0 where
   pub store : StoreAt s code m fs
   pub parked : StandingsAt s code m fs

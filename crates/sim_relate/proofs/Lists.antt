@@ -5,6 +5,11 @@ use Rattle.sim_code.proofs.Lifts.{Both}
 
 -- ---- one list
 
+pub there_get : {A : Type 0} (xs : List A) (j : ℕ) → j < length xs → (x : A) × (slice_get xs j ≡ Some x)
+there_get [] j lt = absurd (omega arith)
+there_get (x ∷ xs) zero lt = (x, refl)
+there_get (x ∷ xs) (suc j) lt = there_get xs j (omega arith)
+
 pub set_same : {A : Type 0} (xs : List A) (i : ℕ) (old v : A) → slice_get xs i ≡ Some old → slice_get (slice_set xs i v) i ≡ Some v
 set_same [] i old v h = absurd (cc)
 set_same (x ∷ xs) zero old v h = refl

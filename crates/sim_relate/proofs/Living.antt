@@ -41,7 +41,7 @@ reached s m from text j lives r = level_as_seen m (level_of s text) from lives �
 pub reach_found : (s : Source) (m : Instances) (from t u : ℕ) → Agrees s → Stands s m from t → Lives m from → Inside s.tables t u → Finds s m from u
 reach_found s m from t u agrees st lives within = let r = reach s m from t u agrees st within in (r.0, r.1, reached s m from u r.0 lives r.1)
 
--- it is the one of its own level
+-- an instance that lives is found at its own level
 pub own_level : (s : Source) (m : Instances) (j t : ℕ) → Stands s m j t → Lives m j → at_level m (level_of s t) j ≡ Some j
 unfolding seen_at
 own_level s m j t st lives =

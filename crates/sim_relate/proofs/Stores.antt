@@ -19,7 +19,7 @@ use Rattle.sim_meaning.specs.Sane.{Lives, Other}
 use Rattle.codegen_expr.specs.CodeExpr.{block_number}
 use Rattle.codegen_expr.specs.Sites.{HasCell, cells_in, place_of, slot_of}
 use Rattle.sim_relate.proofs.Heads.{Heads, Same, both_found, both_heads, entered_same, given_both, given_same, heads_refl, is_live_at, kept_same, later_all, later_heads, later_itself, set_self}
-use Rattle.sim_relate.proofs.Lists.{append_at, append_both, both_as, set_both, set_other, set_same}
+use Rattle.sim_relate.proofs.Lists.{append_at, append_both, both_as, set_both, set_other, set_same, there_get}
 use Rattle.sim_relate.proofs.Living.{lives_now}
 use Rattle.sim_relate.proofs.Reach.{if_true, is_there, same_some}
 use Rattle.sim_relate.proofs.Relation.{CellsAt, Changed, Every, InstanceAt, Keeps, Later, Stands, StoreAt, ValAt, inside, key_of, outermost, placed, placed_in, value_of}
@@ -53,13 +53,8 @@ module _ (fs : Frames) (j : ℕ) (y : Instance Cells) (lives : live fs j ≡ Som
       (λ other. ap (λ z. placed_in z d) (set_other fs.instances j k frame_put other))
       (cases_eq k j)
 
-  cell_there : (cells : Cells) (d : ℕ) → d < length cells → (old : Option Value) × (slice_get cells d ≡ Some old)
-  cell_there [] d lt = absurd (omega arith)
-  cell_there (x ∷ cells) zero lt = (x, refl)
-  cell_there (x ∷ cells) (suc d) lt = cell_there cells d (omega arith)
-
   placed_holds : c < length y.cells → placed frames_put j c ≡ Some v
-  placed_holds fits = let x = cell_there y.cells c fits in put_here c ∙ ap joined (set_same y.cells c x.0 (Some v) x.1)
+  placed_holds fits = let x = there_get y.cells c fits in put_here c ∙ ap joined (set_same y.cells c x.0 (Some v) x.1)
 
 -- ---- both stores
 
@@ -403,7 +398,7 @@ module _ (s : Source) (code : CodeOf) where
           let r = store_write s code m fs a j u key v x st (framed s code m fs a st y ey) has w in
           both_as (Changed s code Every m fs) (Some r.now) (meaning.cell_set m j key v) (Some r.frames) (machine.cell_set fs j (slot_of s u key) x) r.is r.is_frames r.changed
 
-  -- A temp of an instance that lives is written. What lies there then is read as well.
+  -- A temp of an instance that lives is written: what lies there then is what is read.
   pub record TempWritten (m : Instances) (fs : Frames) (inst temp : ℕ) (x : Value) : Type 0 where
     pub frames : Frames
     pub is : machine.cell_set fs inst temp x ≡ Some frames
