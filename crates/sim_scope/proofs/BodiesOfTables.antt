@@ -28,14 +28,14 @@ use Rattle.sim_scope.specs.declared.types.StandardClass.{StandardClass}
 use Rattle.sim_scope.specs.declared.types.StandardClass.TheVariants as class
 use Rattle.sim_scope.specs.declared.types.StandardPrefix.{StandardPrefix}
 use Rattle.sim_scope.specs.declared.types.StandardPrefix.TheVariants as prefix
-use Rattle.sim_scope.specs.Bodies.{Around, Bodies, Body, OfBlock, OfClass, OfConnection, OfPrefixed, OfProcedure, Part, arms_bodies, block_bodies, bodies_of, classes_declared, declaration_bodies, declarations_bodies, level_inside, no_body, one, prefix_bodies, prefixed_bodies, program_around, program_bodies, standard_bodies, standard_body, statement_bodies, statements_bodies, both}
+use Rattle.sim_scope.specs.Bodies.{Around, Bodies, Body, OfBlock, OfClass, OfConnection, OfPrefixed, OfProcedure, Part, arms_bodies, block_bodies, bodies_of, classes_declared, declaration_bodies, declarations_bodies, no_body, one, prefix_bodies, prefixed_bodies, program_around, program_bodies, standard_bodies, standard_body, statement_bodies, statements_bodies, both}
 use Rattle.sim_scope.specs.BodyExample.{WorkedBodies}
-use Rattle.sim_scope.specs.Building.{Brings, BuildingOf, Closes, Declares, DeclaresClass, DeclaresProcedure, Mark, Opens, Prefixes, block_around, brings, brings_at, brings_new, broken_if, changed, changed_row, class_row, closed, closed_at, deeper, level_in, marked, name_of, owner_of, prefixed_by, with_brought, Provides}
+use Rattle.sim_scope.specs.Building.{Brings, BuildingOf, Closes, Declares, DeclaresClass, DeclaresProcedure, Mark, Opens, Prefixes, block_around, brings, brings_at, brings_new, broken_if, changed, changed_row, class_row, closed, closed_at, level_in, marked, name_of, owner_of, prefixed_by, with_brought, Provides}
 use Rattle.sim_scope.specs.Declare.{array_marks, brings_class, brought_marks, class_marks, class_prefix_marks, declared_by, declaring, empty, first_of_class, first_of_procedure, headed_marks, heading_marks, inner_marks, interface_marks, is_written, marks_of_standard, mode_part_marks, moded_marks, parameter_marks, prefix_marks, prefixed_marks, procedure_marks, program_marks, protected_marks, protection_marks, provides_attribute, qualified_marks, qualified_result, result_named, segment_marks, specification_marks, specified_marks, standard_marks, type_named, variable_marks, virtual_marks, virtual_name_marks}
 use Rattle.sim_scope.specs.Laws.{Shape, outline, shape_of}
 use Rattle.sim_scope.specs.Runs.{each, run}
 use Rattle.sim_scope.specs.Standard.{class_owning, is_provided, standard_prefix}
-use Rattle.sim_scope.specs.Tables.{BlockOf}
+use Rattle.sim_scope.specs.Tables.{BlockOf, deeper}
 use Rattle.sim_scope.specs.Walk.{begin_of, arms_events, block_events, declaration_events, declarations_events, program_events, statement_events, statements_events, whole_events}
 use Rattle.sim_scope.proofs.Kept.{more_here, set_here}
 use Rattle.sim_scope.proofs.Quiet.{AllQuiet, Stays, all_stay, map_set, quiet_both, quiet_each}
@@ -122,15 +122,6 @@ record Fresh (ss : List Shape) (x : Shape) (more : List Shape) (names : List (Li
   at : slice_get b.tables.blocks (length ss) ≡ Some row
   brought : row.brought_names ≡ names
 
-level_of_kind : (k : BlockKind) (level : ℕ) → deeper k level ≡ level_inside k level
-level_of_kind kind.Connection level = refl
-level_of_kind kind.Program level = refl
-level_of_kind kind.SubBlock level = refl
-level_of_kind kind.Procedure level = refl
-level_of_kind kind.Class level = refl
-level_of_kind kind.Prefixed level = refl
-level_of_kind (kind.StandardClass which) level = refl
-
 abbrev new_row : BuildingOf → BlockKind → (first : ℕ) → BlockOf
 new_row b k first = record {
   kind = k;
@@ -169,13 +160,13 @@ opened_current : (b : BuildingOf) (k : BlockKind) (text first : ℕ) → (marked
 unfolding marked
 opened_current b k text first = current_of_broken _ _ text r.TooManyLevels
 
-row_shape : (b : BuildingOf) (k : BlockKind) (o : Around) (first : ℕ) (x : Shape) → b.current ≡ Some o.number → RowOf b.tables.blocks o.number x → x.level ≡ o.level → shape_of (new_row b k first) ≡ shape k (Some o.number) (level_inside k o.level) first first None
+row_shape : (b : BuildingOf) (k : BlockKind) (o : Around) (first : ℕ) (x : Shape) → b.current ≡ Some o.number → RowOf b.tables.blocks o.number x → x.level ≡ o.level → shape_of (new_row b k first) ≡ shape k (Some o.number) (deeper k o.level) first first None
 row_shape b k o first x is it same =
-    let l : level_in k (block_around b.tables b.current) ≡ level_inside k o.level =
-    ap (λ z. level_in k (block_around b.tables z)) is ∙ ap (level_in k) it.at ∙ level_of_kind k it.row.level ∙ ap (level_inside k) (ap (λ (z : Shape). z.level) it.alike ∙ same) in
+    let l : level_in k (block_around b.tables b.current) ≡ deeper k o.level =
+    ap (λ z. level_in k (block_around b.tables z)) is ∙ ap (level_in k) it.at ∙ ap (deeper k) (ap (λ (z : Shape). z.level) it.alike ∙ same) in
     ap (λ z. shape k z (level_in k (block_around b.tables b.current)) first first None) is ∙ ap (λ z. shape k (Some o.number) z first first None) l
 
-opens_fresh : (o : Around) (k : BlockKind) (text first : ℕ) (b : BuildingOf) (ss : List Shape) → Stays ss (Some o.number) b → HasLevel ss o → Fresh ss (shape k (Some o.number) (level_inside k o.level) first first None) [] [] (marked b (Opens k text first))
+opens_fresh : (o : Around) (k : BlockKind) (text first : ℕ) (b : BuildingOf) (ss : List Shape) → Stays ss (Some o.number) b → HasLevel ss o → Fresh ss (shape k (Some o.number) (deeper k o.level) first first None) [] [] (marked b (Opens k text first))
 opens_fresh o k text first b ss a h =
     let n : length b.tables.blocks ≡ length ss = sym (length-map b.tables.blocks shape_of) ∙ ap length a.shapes in
     let it : RowOf b.tables.blocks o.number h.shape = row_of_shape b.tables.blocks o.number h.shape (ap (λ z. slice_get z o.number) a.shapes ∙ h.at) in record {
@@ -215,12 +206,12 @@ run_two : (b : BuildingOf) (m : Mark) (es : List Mark) (l : Mark) → run marked
 unfolding run
 run_two b m es l = run-append marked (marked b m) es (l ∷ [])
 
-adds_one : (k : BlockKind) (o : Around) (text first end : ℕ) (prefix : Option Identifier) (part : Part) (es : List Mark) (inside : Around → Bodies) → Fills k (Some o.number) (level_inside k o.level) first prefix es inside
+adds_one : (k : BlockKind) (o : Around) (text first end : ℕ) (prefix : Option Identifier) (part : Part) (es : List Mark) (inside : Around → Bodies) → Fills k (Some o.number) (deeper k o.level) first prefix es inside
     → Adds o (Opens k text first ∷ (es ++ Closes end ∷ [])) (one k o first end prefix part inside)
 unfolding Adds
 adds_one k o text first end prefix part es inside f b ss a h =
     subst (Stays (ss ++ map outline (one k o first end prefix part inside (length ss))) (Some o.number)) (sym (run_two b (Opens k text first) es (Closes end)))
-    (closes_stays ss (map outline (inside (record { number = length ss; level = level_inside k o.level }) (length ss + 1))) (shape k (Some o.number) (level_inside k o.level) first first prefix) end
+    (closes_stays ss (map outline (inside (record { number = length ss; level = deeper k o.level }) (length ss + 1))) (shape k (Some o.number) (deeper k o.level) first first prefix) end
     (run marked (marked b (Opens k text first)) es) (f (marked b (Opens k text first)) ss (opens_fresh o k text first b ss a h)))
 
 -- inside a block that has begun
@@ -361,9 +352,9 @@ quiet_variable : (t : TypeName) (v : Variable) → AllQuiet (variable_marks t v)
 unfolding variable_marks
 quiet_variable t v = go v.value
   where
-    go : (o : Option Constant) → AllQuiet (elim o [ None ↦ Declares v.name (entry.Variable (type_named t)) ∷ qualified_marks t | Some c ↦ Declares v.name (entry.Constant (type_named t)) ∷ [] ])
+    go : (o : Option Constant) → AllQuiet (elim o [ None ↦ Declares v.name (entry.Variable (type_named t)) ∷ qualified_marks t | Some c ↦ Declares v.name (entry.Constant (type_named t)) ∷ qualified_marks t ])
     go None = (tt, quiet_qualified t)
-    go (Some c) = (tt, tt)
+    go (Some c) = (tt, quiet_qualified t)
 
 quiet_array : (t : TypeName) (n : ℕ) (x : Identifier) → AllQuiet (array_marks t n x)
 unfolding array_marks

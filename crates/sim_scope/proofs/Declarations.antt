@@ -229,18 +229,19 @@ qualify_none b r is = subst (λ z. Runs marked b b (qualified_result z)) (sym is
 
 -- Identifiers.
 variable-marks : (t : TypeName) (x : Variable) (o : Option Constant) → x.value ≡ o
-    → (elim o [ None ↦ Declares x.name (entry.Variable (type_named t)) ∷ qualified_marks t | Some k ↦ Declares x.name (entry.Constant (type_named t)) ∷ [] ]) ≡ variable_marks t x
+    → (elim o [ None ↦ Declares x.name (entry.Variable (type_named t)) ∷ qualified_marks t | Some k ↦ Declares x.name (entry.Constant (type_named t)) ∷ qualified_marks t ]) ≡ variable_marks t x
 unfolding variable_marks
-variable-marks t x o e = ap (λ (z : Option Constant). (elim z [ None ↦ Declares x.name (entry.Variable (type_named t)) ∷ qualified_marks t | Some k ↦ Declares x.name (entry.Constant (type_named t)) ∷ [] ])) (sym e)
+variable-marks t x o e = ap (λ (z : Option Constant). (elim z [ None ↦ Declares x.name (entry.Variable (type_named t)) ∷ qualified_marks t | Some k ↦ Declares x.name (entry.Constant (type_named t)) ∷ qualified_marks t ])) (sym e)
 
 pub declare_variable : (b m c : BuildingOf) (t : TypeName) (x : Variable) (ty : SimType) → x.value ≡ None → ty ≡ type_named t → m ≡ marked b (Declares x.name (entry.Variable ty)) → Runs marked m c (qualified_marks t)
     → Runs marked b c (variable_marks t x)
 declare_variable b m c t x ty none same h g =
     runs_as marked b c _ _ (variable-marks t x None none) (runs_first marked b m c _ _ (h ∙ ap (λ z. marked b (Declares x.name (entry.Variable z))) same) g)
 
-pub declare_constant : (b c : BuildingOf) (t : TypeName) (x : Variable) (v : Constant) (ty : SimType) → x.value ≡ Some v → ty ≡ type_named t → c ≡ marked b (Declares x.name (entry.Constant ty)) → Runs marked b c (variable_marks t x)
-declare_constant b c t x v ty some same h =
-    runs_as marked b c _ _ (variable-marks t x (Some v) some) (runs_one marked b c _ (h ∙ ap (λ z. marked b (Declares x.name (entry.Constant z))) same))
+pub declare_constant : (b m c : BuildingOf) (t : TypeName) (x : Variable) (v : Constant) (ty : SimType) → x.value ≡ Some v → ty ≡ type_named t → m ≡ marked b (Declares x.name (entry.Constant ty)) → Runs marked m c (qualified_marks t)
+    → Runs marked b c (variable_marks t x)
+declare_constant b m c t x v ty some same h g =
+    runs_as marked b c _ _ (variable-marks t x (Some v) some) (runs_first marked b m c _ _ (h ∙ ap (λ z. marked b (Declares x.name (entry.Constant z))) same) g)
 
 pub declare_array : (b m c : BuildingOf) (t : TypeName) (n : ℕ) (x : Identifier) (ty : SimType) → ty ≡ type_named t → m ≡ marked b (Declares x (entry.Array ty n)) → Runs marked m c (qualified_marks t) → Runs marked b c (array_marks t n x)
 unfolding array_marks

@@ -5,6 +5,8 @@ use Rattle.sim_base.specs.declared.rule.Rule.{Rule}
 use Rattle.sim_base.specs.declared.rule.Rule.TheVariants as r
 use Rattle.sim_scope.specs.declared.outcome.Actual.{Actual}
 use Rattle.sim_scope.specs.declared.outcome.Actuals.{Actuals}
+use Rattle.sim_scope.specs.declared.outcome.Barred.{Barred}
+use Rattle.sim_scope.specs.declared.outcome.Barred.TheVariants as bar
 use Rattle.sim_scope.specs.declared.outcome.Outcome.{Outcome}
 use Rattle.sim_scope.specs.declared.outcome.Outcome.TheVariants as is
 use Rattle.sim_scope.specs.declared.outcome.Parameter.{Parameter}
@@ -20,8 +22,8 @@ use Rattle.sim_scope.specs.declared.types.FormalKind.TheVariants as kind
 use Rattle.sim_scope.specs.declared.types.Mode.TheVariants as mode
 use Rattle.sim_scope.specs.declared.types.SimType.{SimType}
 use Rattle.sim_scope.specs.declared.types.SimType.TheVariants as t
-use Rattle.sim_scope.specs.Found.{fault, lesser_of}
-use Rattle.sim_scope.specs.Judged.{Judged, gives, next}
+use Rattle.sim_scope.specs.Found.{Broken, fault, lesser_of}
+use Rattle.sim_scope.specs.Judged.{Judged, gives, next, telling}
 use Rattle.sim_scope.specs.Operators.{is_same, misfit_of}
 use Rattle.sim_scope.specs.Levels.{is_in_chain}
 use Rattle.sim_scope.specs.Outcomes.{is_stream, type_in, valued}
@@ -130,39 +132,43 @@ result_in _ = None
 abbrev pub procedure_fits : Tables → (first : ℕ) → Formal → Option SimType → Actual
 procedure_fits s first f result = if result_matches s f.ty result then fitting else misfitting first r.WrongType
 
+-- S23 is told whether or not the other actuals have types
+abbrev pub left_out : (first : ℕ) → Judged Actual
+left_out first = telling (Broken first r.StandardNameLeftOut) (misfitting first r.StandardNameLeftOut)
+
 -- S23: in a call of a formal procedure or a virtual, a standard name alone has a value without actuals
 abbrev pub has_value_alone : Signature → Bool
 has_value_alone s = (elim s.first [ Some a ↦ false | None ↦ elim s.result [ None ↦ false | Some b ↦ true ] ])
 
-abbrev pub unspecified_standard : (first : ℕ) → Signature → Actual
-unspecified_standard first s = if has_value_alone s then fitting else misfitting first r.StandardNameLeftOut
+abbrev pub unspecified_standard : (first : ℕ) → Signature → Judged Actual
+unspecified_standard first s = if has_value_alone s then gives fitting else left_out first
 
 -- S23: nor is an attribute of a standard class passed as a procedure
-abbrev pub passed_procedure : Tables → (first : ℕ) → Formal → Option Entry → Actual
-passed_procedure s first f (Some (entry.Attribute name parameter result)) = misfitting first r.StandardNameLeftOut
-passed_procedure s first f e = procedure_fits s first f (result_in e)
+abbrev pub passed_procedure : Tables → (first : ℕ) → Formal → Option Entry → Judged Actual
+passed_procedure s first f (Some (entry.Attribute name parameter result)) = left_out first
+passed_procedure s first f e = gives (procedure_fits s first f (result_in e))
 
-abbrev pub attribute_alone : (first : ℕ) → (parameter result : Option SimType) → Actual
-attribute_alone first None (Some ty) = fitting
-attribute_alone first parameter result = misfitting first r.StandardNameLeftOut
+abbrev pub attribute_alone : (first : ℕ) → (parameter result : Option SimType) → Judged Actual
+attribute_alone first None (Some ty) = gives fitting
+attribute_alone first parameter result = left_out first
 
-abbrev pub unspecified_procedure : (first : ℕ) → Option Entry → Actual
+abbrev pub unspecified_procedure : (first : ℕ) → Option Entry → Judged Actual
 unspecified_procedure first (Some (entry.Attribute name parameter result)) = attribute_alone first parameter result
-unspecified_procedure first e = fitting
+unspecified_procedure first e = gives fitting
 
 abbrev pub procedure_actual : Tables → (first : ℕ) → Parameter → Outcome → DeclNo → Judged Actual
 procedure_actual s first (parameter.Formal f) o d =
-    (elim f.kind [ kind.Simple ↦ as_value s first (parameter.Formal f) o | kind.Array ↦ gives (misfitting first r.WrongType) | kind.Procedure ↦ gives (passed_procedure s first f (entry_of s d)) ])
+    (elim f.kind [ kind.Simple ↦ as_value s first (parameter.Formal f) o | kind.Array ↦ gives (misfitting first r.WrongType) | kind.Procedure ↦ passed_procedure s first f (entry_of s d) ])
 procedure_actual s first parameter.Subscript o d = as_value s first parameter.Subscript o
-procedure_actual s first parameter.Unspecified o d = gives (unspecified_procedure first (entry_of s d))
+procedure_actual s first parameter.Unspecified o d = unspecified_procedure first (entry_of s d)
 procedure_actual s first parameter.Unknown o d = gives fitting
 
 -- S23: no standard name is passed as a procedure
 abbrev pub standard_actual : Tables → (first : ℕ) → Parameter → Outcome → Signature → Judged Actual
 standard_actual s first (parameter.Formal f) o signature =
-    (elim f.kind [ kind.Simple ↦ as_value s first (parameter.Formal f) o | kind.Array ↦ gives (misfitting first r.WrongType) | kind.Procedure ↦ gives (misfitting first r.StandardNameLeftOut) ])
+    (elim f.kind [ kind.Simple ↦ as_value s first (parameter.Formal f) o | kind.Array ↦ gives (misfitting first r.WrongType) | kind.Procedure ↦ left_out first ])
 standard_actual s first parameter.Subscript o signature = as_value s first parameter.Subscript o
-standard_actual s first parameter.Unspecified o signature = gives (unspecified_standard first signature)
+standard_actual s first parameter.Unspecified o signature = unspecified_standard first signature
 standard_actual s first parameter.Unknown o signature = gives fitting
 
 -- an array is no subscript
@@ -171,6 +177,16 @@ array_actual s first parameter.Subscript o element = as_value s first parameter.
 array_actual s first (parameter.Formal f) o element = gives (array_fits first f element)
 array_actual s first _ o element = gives fitting
 
+-- An identifier that may not stand there: what other rules say of it, but it has no type, and is not compared.
+abbrev pub barred_alone : Tables → (first : ℕ) → Parameter → Barred → Judged Actual
+barred_alone s first p (bar.Array element) = array_actual s first p (is.Barred (bar.Array element)) element
+barred_alone s first p bar.Class = as_value s first p (is.Barred bar.Class)
+barred_alone s first p (bar.Procedure d token) = procedure_actual s first p (is.Barred (bar.Procedure d token)) d
+barred_alone s first p (bar.Standard name token) = standard_actual s first p (is.Barred (bar.Standard name token)) (signature name)
+
+abbrev pub barred_actual : Tables → (first : ℕ) → Parameter → Barred → Judged Actual
+barred_actual s first p b = next (barred_alone s first p b) (λ x. gives untyped)
+
 -- An actual, with its first token. An array, a procedure and a standard name may stand alone; all else is a value.
 unfoldable pub actual : Tables → (first : ℕ) → Parameter → Outcome → Judged Actual
 actual s first p (is.Array element) = array_actual s first p (is.Array element) element
@@ -178,6 +194,7 @@ actual s first p (is.Procedure d token own) = procedure_actual s first p (is.Pro
 actual s first p (is.Standard name token) =
     if is_stream name then as_value s first p (is.Standard name token)
     else standard_actual s first p (is.Standard name token) (signature name)
+actual s first p (is.Barred b) = barred_actual s first p b
 actual s first p o = as_value s first p o
 
 -- All of them: how many, whether each is something, and the least misfit, which counts only then.

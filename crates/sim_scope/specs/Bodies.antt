@@ -10,6 +10,7 @@ use Rattle.sim_scope.specs.declared.types.StandardClass.{StandardClass}
 use Rattle.sim_scope.specs.declared.types.StandardPrefix.{StandardPrefix}
 use Rattle.sim_scope.specs.declared.types.StandardPrefix.TheVariants as prefix
 use Rattle.sim_scope.specs.Standard.{classes_of_sets, classes_of_simulation, standard_prefix}
+use Rattle.sim_scope.specs.Tables.{deeper}
 
 -- What a body is made of. A class whose body is `begin .. end` has the declarations and statements of that block.
 pub data Part : Type 0 where
@@ -37,11 +38,6 @@ pub record Around : Type 0 where
   pub number : ℕ
   pub level : ℕ
 
--- the level of a body inside one of this level: a connection is no level of its own
-abbrev pub level_inside : BlockKind → (level : ℕ) → ℕ
-level_inside kind.Connection level = level
-level_inside _ level = level + 1
-
 -- The bodies of a piece of program, given the number of the first of them.
 abbrev pub Bodies : Type 0
 Bodies = (next : ℕ) → List Body
@@ -56,8 +52,8 @@ both f g next = f next ++ g (next + length (f next))
 -- a body, and then those inside
 abbrev pub one : BlockKind → Around → (first end : ℕ) → Option Identifier → Part → (Around → Bodies) → Bodies
 one k o first end prefix part inside next =
-    record { kind = k; encloser = Some o.number; level = level_inside k o.level; first = first; end = end; prefix = prefix; part = part }
-    ∷ inside (record { number = next; level = level_inside k o.level }) (next + 1)
+    record { kind = k; encloser = Some o.number; level = deeper k o.level; first = first; end = end; prefix = prefix; part = part }
+    ∷ inside (record { number = next; level = deeper k o.level }) (next + 1)
 
 -- What the body of a class declares, and its statements: those of its `begin .. end`, or the one statement that it is.
 abbrev pub body_declarations : Statement → Declarations

@@ -27,7 +27,7 @@ use Rattle.sim_scope.specs.declared.types.WrittenMode.{WrittenMode}
 use Rattle.sim_scope.specs.Found.{fault, lesser}
 use Rattle.sim_scope.specs.Scopes.{declared_in, entry_of, lookup}
 use Rattle.sim_scope.specs.Standard.{attribute_name, class_typed, parameter_of, plain_type, result_of}
-use Rattle.sim_scope.specs.Tables.{BlockOf, Tables}
+use Rattle.sim_scope.specs.Tables.{BlockOf, Tables, deeper}
 
 -- the tables so far; how many identifiers the program itself declares; the innermost block that is open; the declaration of the identifier
 -- that was declared or specified last; the least broken rule
@@ -80,16 +80,6 @@ broken_if false b token rule = b
 -- the tokens before this one that have no place yet stand in the current block
 abbrev pub placed : Tables → Option ℕ → (token : ℕ) → Tables
 placed s current token = record s { places = s.places ++ replicate (token - length s.places) current }
-
--- the level of a block inside one of this level: a connection is no level of its own
-abbrev pub deeper : BlockKind → (level : ℕ) → ℕ
-deeper kind.Connection level = level
-deeper kind.Program level = level + 1
-deeper kind.SubBlock level = level + 1
-deeper kind.Procedure level = level + 1
-deeper kind.Class level = level + 1
-deeper kind.Prefixed level = level + 1
-deeper (kind.StandardClass which) level = level + 1
 
 abbrev pub level_in : BlockKind → Option BlockOf → ℕ
 level_in k None = 1

@@ -81,7 +81,7 @@ qualified_result (Some type) = qualified_marks type
 -- a variable, or a constant where a value is given
 unfoldable pub variable_marks : TypeName → Variable → List Mark
 variable_marks type v =
-    (elim v.value [ None ↦ Declares v.name (entry.Variable (type_named type)) ∷ qualified_marks type | Some c ↦ Declares v.name (entry.Constant (type_named type)) ∷ [] ])
+    (elim v.value [ None ↦ Declares v.name (entry.Variable (type_named type)) ∷ qualified_marks type | Some c ↦ Declares v.name (entry.Constant (type_named type)) ∷ qualified_marks type ])
 
 unfoldable pub array_marks : TypeName → (dimensions : ℕ) → Identifier → List Mark
 array_marks type dimensions x = Declares x (entry.Array (type_named type) dimensions) ∷ qualified_marks type

@@ -41,7 +41,7 @@ FindsNot s e f g o is x = Judges f g o (judge s e (negated is (syntax_of x)))
 
 -- what is taken of an object
 abbrev pub taken : Tables → Extent → (first : ℕ) → Outcome → Selection → Judged Outcome
-taken s e first o (Take i x args) = next (attribute s e x first o) (λ d. next (actuals s e d no_actuals args) (used s i x d))
+taken s e first o (Take i x args) = next (attribute s e x first o) (λ d. next (actuals s e d.denotes no_actuals args) (used s i x d))
 taken s e first o (Cast i class) = next (side s first o) (λ x. next (class_named s e class) (qualified s i x class))
 
 abbrev pub selections : Tables → Extent → (first : ℕ) → Outcome → List Selection → Judged Outcome
@@ -53,7 +53,7 @@ FindsTaken s e f g o first left x = Judges f g o (taken s e first.0 left (select
 
 unfoldable pub FindsNamed : Tables → Extent → Findings → Findings → Outcome → Identifier → List Expr → Type 0
 FindsNamed s e f g o x es =
-    Judges f g o (next (bound s e x) (λ d. next (actuals s e d no_actuals (expressions (map syntax_of es))) (used s x.token.0 x d)))
+    Judges f g o (next (bound s e x) (λ d. next (actuals s e d.denotes no_actuals (expressions (map syntax_of es))) (used s x.token.0 x d)))
 
 unfoldable pub FindsActuals : Tables → Extent → Findings → Findings → Option Denotation → Actuals → Actuals → List Expr → Type 0
 FindsActuals s e f g d a b es = Judges f g b (actuals s e d a (expressions (map syntax_of es)))

@@ -26,14 +26,14 @@ unfoldable mutual
   judge s e (Not i a) = next (next (judge s e a) (side s (first_of a))) (one t.Boolean i)
   judge s e (Signed sign i a) = next (next (judge s e a) (side s (first_of a))) (one t.Integer i)
   judge s e (Constant literal i) = has i (literal_type literal)
-  judge s e (Named x args) = next (bound s e x) (λ d. next (actuals s e d no_actuals args) (used s x.token.0 x d))
+  judge s e (Named x args) = next (bound s e x) (λ o. next (actuals s e o.denotes no_actuals args) (used s x.token.0 x o))
   judge s e (Dot i a x args) =
-      next (next (judge s e a) (attribute s e x (first_of a))) (λ d. next (actuals s e d no_actuals args) (used s i x d))
+      next (next (judge s e a) (attribute s e x (first_of a))) (λ o. next (actuals s e o.denotes no_actuals args) (used s i x o))
   judge s e (Parentheses i a) = next (judge s e a) (in_parentheses s (first_of a))
   judge s e (Member m i a class) = next (next (judge s e a) (side s (first_of a))) (λ x. next (class_named s e class) (member s i x class))
   judge s e (Qua i a class) = next (next (judge s e a) (side s (first_of a))) (λ x. next (class_named s e class) (qualified s i x class))
   judge s e (This i class) = next (class_named s e class) (this_object s e i class)
-  judge s e (New i class args) = next (class_named s e class) (λ d. next (actuals s e d no_actuals args) (new_object s i class d))
+  judge s e (New i class args) = next (class_named s e class) (λ o. next (actuals s e o.denotes no_actuals args) (new_object s i class o))
 
   -- the actuals of what an identifier denotes
   pub actuals : Tables → Extent → Option Denotation → Actuals → Expressions → Judged Actuals

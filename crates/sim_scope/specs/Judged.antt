@@ -1,6 +1,7 @@
 -- A judgement: what a piece of a program is, and what it contributes.
-use Rattle.std.specs.Prelude.{◌≡◌, List, [], ◌∷◌, ◌++◌}
-use Rattle.sim_scope.specs.Found.{Event, Findings, after}
+use Rattle.std.specs.Prelude.{◌≡◌, ℕ, Bool, true, false, List, [], ◌∷◌, ◌++◌}
+use Rattle.sim_base.specs.declared.rule.Rule.{Rule}
+use Rattle.sim_scope.specs.Found.{Event, Broken, Findings, after}
 
 pub record Judged (A : Type 0) : Type 0 where
   pub value : A
@@ -13,6 +14,11 @@ gives x = record { value = x; events = [] }
 -- a piece that contributes one thing
 unfoldable pub telling : {A : Type 0} → Event → A → Judged A
 telling event x = record { value = x; events = event ∷ [] }
+
+-- a rule at a token, which is broken there where this is so
+unfoldable pub bars : Bool → (token : ℕ) → Rule → Judged Bool
+bars true token rule = telling (Broken token rule) true
+bars false token rule = gives false
 
 -- a piece, and then one that depends on what the first is
 unfoldable pub next : {A B : Type 0} → Judged A → (A → Judged B) → Judged B

@@ -66,9 +66,10 @@ has_standard s block = is_standard (standard_in (slice_get s.blocks block))
 unfoldable pub is_simulation_block : Tables → (block : ℕ) → Bool
 is_simulation_block s block = is_simulation (standard_in (slice_get s.blocks block))
 
--- a class is only for prefixing where `simset` or `simulation` is in its prefix chain
+-- A class is only for prefixing where `simulation` is in its prefix chain. One with `simset` alone is as every other class; since its chain
+-- declares classes, no attribute of it stands behind a dot, and it is not connected.
 unfoldable pub is_for_prefixing : Tables → (block : ℕ) → Bool
-is_for_prefixing s block = some_level s (has_standard s) block
+is_for_prefixing s block = some_level s (is_simulation_block s) block
 
 abbrev pub level_beyond : (ℕ → Option ℕ) → Option ℕ → Option ℕ
 level_beyond search None = None

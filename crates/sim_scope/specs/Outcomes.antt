@@ -3,6 +3,8 @@ use Rattle.std.specs.Prelude.{ℕ, Bool, true, false, nat_eq, if◌then◌else�
 use Rattle.sim_base.specs.declared.rule.Rule.{Rule}
 use Rattle.sim_base.specs.declared.rule.Rule.TheVariants as r
 use Rattle.sim_tree.specs.declared.operator.Operator.{Operator}
+use Rattle.sim_scope.specs.declared.outcome.Barred.{Barred}
+use Rattle.sim_scope.specs.declared.outcome.Barred.TheVariants as bar
 use Rattle.sim_scope.specs.declared.outcome.Fit.{Fit}
 use Rattle.sim_scope.specs.declared.outcome.Fit.TheVariants as fit
 use Rattle.sim_scope.specs.declared.outcome.Outcome.{Outcome}
@@ -61,10 +63,20 @@ signature_called token s = (elim s.first [ None ↦ gives (call_of s.result) | S
 abbrev pub standard_called : (token : ℕ) → StandardName → Judged Outcome
 standard_called token name = if is_stream name then breaks token r.StandardNameLeftOut else signature_called token (signature name)
 
+-- the call of an identifier that may not stand there has no type
+abbrev pub without_type : Outcome → Judged Outcome
+without_type o = gives is.Refused
+
+abbrev pub barred_called : Tables → Barred → Judged Outcome
+barred_called s (bar.Procedure d token) = next (procedure_called token.0 (length (formals_of s d)) (entry_of s d)) without_type
+barred_called s (bar.Standard name token) = next (standard_called token.0 name) without_type
+barred_called s b = gives (is.Barred b)
+
 -- A procedure identifier and a standard name alone are calls, where they are not passed on and not assigned to.
 unfoldable pub called : Tables → Outcome → Judged Outcome
 called s (is.Procedure d token own) = procedure_called token.0 (length (formals_of s d)) (entry_of s d)
 called s (is.Standard name token) = standard_called token.0 name
+called s (is.Barred b) = barred_called s b
 called s o = gives o
 
 -- Values.
@@ -79,6 +91,8 @@ value_of first (is.Variable ty) = gives (is.Value ty)
 value_of first (is.Constant ty) = gives (is.Value ty)
 value_of first (is.Array ty) = breaks first r.WrongKind
 value_of first is.Class = breaks first r.WrongKind
+value_of first (is.Barred (bar.Array ty)) = breaks first r.WrongKind
+value_of first (is.Barred bar.Class) = breaks first r.WrongKind
 value_of first _ = gives is.Refused
 
 -- what an expression is where a value is needed; its first token is given

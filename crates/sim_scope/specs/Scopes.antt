@@ -13,7 +13,7 @@ use Rattle.sim_scope.specs.declared.types.Entry.{Entry}
 use Rattle.sim_scope.specs.declared.types.Entry.TheVariants as entry
 use Rattle.sim_scope.specs.declared.types.Formal.{Formal}
 use Rattle.sim_scope.specs.declared.types.SimType.{SimType}
-use Rattle.sim_scope.specs.Access.{accessible, block_at, encloser, is_kind, some_around}
+use Rattle.sim_scope.specs.Access.{accessible, block_at, encloser, some_around}
 use Rattle.sim_scope.specs.Along.{first_along}
 use Rattle.sim_scope.specs.Levels.{base, level_beyond}
 use Rattle.sim_scope.specs.Standard.{standard_name}
@@ -66,7 +66,8 @@ shown_of s (suc more) from block name = option_or (level_shows s from block name
 unfoldable pub shown : Tables → Option ℕ → (block : ℕ) → List ℕ → Option DeclNo
 shown s from block name = shown_of s (length s.blocks) from block name
 
--- `detach` is an attribute of each class, prefixed block and connection, behind those that their levels declare.
+-- `detach` is an attribute of each class and prefixed block, behind those that their levels declare. A connection shows that of the class that is
+-- connected: one without a class, as `inspect none do`, shows none.
 unfoldable pub is_detach : List ℕ → Bool
 is_detach name = bytes_eq name (codes "detach")
 
@@ -76,9 +77,20 @@ has_detach kind.Prefixed = true
 has_detach kind.Connection = true
 has_detach _ = false
 
+abbrev pub is_connected : BlockKind → (class : Option ℕ) → Bool
+is_connected kind.Connection None = false
+is_connected _ class = true
+
+abbrev pub detach_in : Option BlockOf → Bool
+detach_in None = false
+detach_in (Some row) = has_detach row.kind && is_connected row.kind row.base
+
+unfoldable pub shows_detach : Tables → (block : ℕ) → Bool
+shows_detach s block = detach_in (slice_get s.blocks block)
+
 -- whether the search for a name ends with a block
 unfoldable pub ends_search : Tables → (block : ℕ) → List ℕ → Bool
-ends_search s block name = is_detach name && is_kind has_detach s block
+ends_search s block name = is_detach name && shows_detach s block
 
 -- the block in which the search goes on
 unfoldable pub outward : Tables → (block : ℕ) → List ℕ → Option ℕ
@@ -94,7 +106,7 @@ unfoldable pub declaration_from : Tables → Option ℕ → Option ℕ → List 
 declaration_from s from None name = None
 declaration_from s from (Some block) name = searched s from (length s.blocks) block name
 
--- Where a name is found: in the innermost block around a token that shows it, or that has `detach`, if it is that name.
+-- Where a name is found: in the innermost block around a token that shows it, or that shows `detach`, if it is that name.
 abbrev pub is_shown : Option DeclNo → Bool
 is_shown None = false
 is_shown (Some d) = true
@@ -154,9 +166,9 @@ declared_or_standard s (Some d) k = Some (denotation.Declared (represented s d))
 declared_or_standard s None (Some k) = Some (denotation.Standard k)
 declared_or_standard s None None = None
 
--- the standard name that is seen at a token; `detach` is seen in classes, prefixed blocks and connections alone
+-- the standard name that is seen at a token; `detach` is seen in classes, prefixed blocks and connections of a class alone
 unfoldable pub standard_at : Tables → (token : ℕ) → List ℕ → Option StandardName
-standard_at s token name = if is_detach name && not (some_around s (is_kind has_detach s) token) then None else standard_name name
+standard_at s token name = if is_detach name && not (some_around s (shows_detach s) token) then None else standard_name name
 
 -- what a name denotes at a token: what the innermost block declares that declares it, else a standard name
 unfoldable pub binding : Tables → (token : ℕ) → List ℕ → Option Denotation

@@ -13,9 +13,11 @@ use Rattle.sim_tree.specs.declared.stmt.TypeName.{TypeName}
 use Rattle.sim_tree.specs.declared.stmt.TypeName.TheVariants as type_name
 use Rattle.sim_tree.specs.declared.stmt.Variable.{Variable}
 use Rattle.sim_tree.specs.Syntax.{Expression, Expressions, Prefix, Schedule, Now, At, Delay, Before, After, RightSide, Element, Once, Step, While, BoundPair, Arrayed, first_of}
+use Rattle.sim_scope.specs.declared.outcome.Barred.TheVariants as bar
 use Rattle.sim_scope.specs.declared.outcome.Extent.{Extent}
 use Rattle.sim_scope.specs.declared.outcome.Extent.TheVariants.{Statement, Bound}
 use Rattle.sim_scope.specs.declared.outcome.Actuals.{Actuals}
+use Rattle.sim_scope.specs.declared.outcome.Occurrence.{Occurrence}
 use Rattle.sim_scope.specs.declared.outcome.Outcome.{Outcome}
 use Rattle.sim_scope.specs.declared.outcome.Outcome.TheVariants as is
 use Rattle.sim_scope.specs.declared.outcome.Side.{Side}
@@ -43,7 +45,7 @@ use Rattle.sim_scope.specs.Judged.{Judged, gives, next, telling}
 use Rattle.sim_scope.specs.Levels.{class_block, has_classes, level_beyond, owner_of_level, simulation_level_of}
 use Rattle.sim_scope.specs.Operators.{is_reference, is_same, misfit_of}
 use Rattle.sim_scope.specs.Outcomes.{called}
-use Rattle.sim_scope.specs.References.{block_of_class, chained_with, class_named, formal_count, is_only_prefix}
+use Rattle.sim_scope.specs.References.{block_of_class, class_fits, class_named, formal_count}
 use Rattle.sim_scope.specs.Runs.{each}
 use Rattle.sim_scope.specs.Scopes.{binding, entry_of, found_in}
 use Rattle.sim_scope.specs.Tables.{BlockOf, Tables}
@@ -65,6 +67,8 @@ abbrev pub call_alone : (first : ℕ) → Outcome → Judged Nothing
 call_alone first is.Refused = fine
 call_alone first is.NoValue = fine
 call_alone first (is.Called ty) = fine
+call_alone first (is.Barred (bar.Procedure d token)) = fine
+call_alone first (is.Barred (bar.Standard name token)) = fine
 call_alone first _ = wrong first r.WrongKind
 
 unfoldable pub stands : Tables → (first : ℕ) → Outcome → Judged Nothing
@@ -106,7 +110,7 @@ simple s sign token (Some (denotation.Standard name)) = not_simple token
 simple s sign token (Some (denotation.Declared d)) = entry_controlled sign token (entry_of s d)
 
 unfoldable pub controlled : Tables → Assignment → Identifier → Judged (Option SimType)
-controlled s sign x = next (bound s Statement x) (simple s sign x.token.0)
+controlled s sign x = next (bound s Statement x) (λ o. simple s sign x.token.0 o.denotes)
 
 -- S13, S16: a value of the type of the controlled variable
 abbrev pub told_unless : (first : ℕ) → Option Rule → Judged Nothing
@@ -253,7 +257,8 @@ unfoldable pub class_prefix_events : Tables → Option Identifier → (token : �
 class_prefix_events s None token = []
 class_prefix_events s (Some prefix) token = (prefix_used prefix.token.0 (prefix_at s token)).events
 
--- Connections. S13: a reference is connected. S17: its class, or that of an arm, has no class at any level; this is judged at `inspect`.
+-- Connections. S13: a reference is connected. S17: its class, or that of an arm, has no class at any level; this is judged at `inspect`, and of
+-- an arm whatever is inspected.
 abbrev pub class_connected : Tables → (token : ℕ) → Option ℕ → Judged Nothing
 class_connected s token None = fine
 class_connected s token (Some block) = if has_classes s block then wrong token r.ClassWithClasses else fine
@@ -270,20 +275,13 @@ connected_by s token x = type_connected s token x x.ty
 unfoldable pub inspect_events : Tables → (token : ℕ) → Expression → List Event
 inspect_events s token object = (next (judge_side s Statement object) (connected_by s token)).events
 
+abbrev pub arm_connected : Tables → (token : ℕ) → Option Denotation → Judged Nothing
+arm_connected s token None = fine
+arm_connected s token (Some class) = class_connected s token (block_of_class s class)
+
 -- S16: the class of an arm lies on one chain with the object. S21: it is not only for prefixing.
-abbrev pub arm_class_fits : Tables → (class_token : ℕ) → Denotation → SimType → Judged Nothing
-arm_class_fits s class_token class ty =
-    if chained_with s class ty then (if is_only_prefix s class then wrong class_token r.OnlyForPrefixing else fine) else wrong class_token r.DifferentChains
-
-abbrev pub arm_of_type : Tables → (token class_token : ℕ) → Option SimType → Option Denotation → Judged Nothing
-arm_of_type s token class_token (Some ty) (Some class) =
-    if is_reference ty
-    then next (arm_class_fits s class_token class ty) (λ n. class_connected s token (block_of_class s class))
-    else fine
-arm_of_type s token class_token ty class = fine
-
-unfoldable pub arm_fits : Tables → (token : ℕ) → Side → Identifier → Option Denotation → Judged Nothing
-arm_fits s token x name class = arm_of_type s token name.token.0 x.ty class
+unfoldable pub arm_fits : Tables → (token : ℕ) → Side → Identifier → Occurrence → Judged Nothing
+arm_fits s token x name o = next (class_fits s name.token.0 o.denotes x.ty) (λ b. arm_connected s token o.denotes)
 
 abbrev pub reference_needed : Side → Option SimType → Judged Nothing
 reference_needed x None = fine

@@ -1,11 +1,12 @@
 -- Block tables, as plain data. A token is its number; blocks and declarations are numbered in text order.
-use Rattle.std.specs.Prelude.{ℕ, Bool, List, Option, Some, None, slice_get, slice_set}
+use Rattle.std.specs.Prelude.{ℕ, ◌+◌, Bool, List, Option, Some, None, slice_get, slice_set}
 use Rattle.sim_base.specs.declared.numbering.DeclNo.{DeclNo}
 use Rattle.sim_tree.specs.declared.expr.Identifier.{Identifier}
 use Rattle.sim_scope.specs.declared.scopes.Declaration.{Declaration}
 use Rattle.sim_scope.specs.declared.scopes.Protection.{Protection}
 use Rattle.sim_scope.specs.declared.scopes.Qualification.{Qualification}
 use Rattle.sim_scope.specs.declared.types.BlockKind.{BlockKind}
+use Rattle.sim_scope.specs.declared.types.BlockKind.TheVariants as kind
 use Rattle.sim_scope.specs.declared.types.Entry.{Entry}
 use Rattle.sim_scope.specs.declared.types.StandardPrefix.{StandardPrefix}
 
@@ -41,6 +42,11 @@ pub record BlockOf : Type 0 where
   -- the attributes that it protects, and those that it hides
   pub protected : List (List ℕ)
   pub hidden : List (List ℕ)
+
+-- the level of a block inside one of this level: a connection is no level of its own
+abbrev pub deeper : BlockKind → (level : ℕ) → ℕ
+deeper kind.Connection level = level
+deeper _ level = level + 1
 
 pub record Tables : Type 0 where
   pub blocks : List BlockOf

@@ -4,7 +4,7 @@ ghost use Rattle.std.specs.Prelude.{◌≡◌, ◌&&◌, ℕ, Bool, Option, leng
 ghost use Rattle.sim_scope.specs.Access.{accessible, block_at, encloser, has_text_of_levels, hides, is_connection, is_kind, is_open, kind_in, names_hidden, opens, protector, protects, some_around};
 ghost use Rattle.sim_scope.specs.Along.{Gives, first_along};
 ghost use Rattle.sim_scope.specs.Levels.{is_standard_class, some_level};
-ghost use Rattle.sim_scope.specs.Scopes.{has_detach};
+ghost use Rattle.sim_scope.specs.Scopes.{shows_detach};
 
 use crate::along::{first_along, some_along};
 use crate::levels::{base, first_level, has_level, some_level};
@@ -95,16 +95,19 @@ pub fn is_class_text(scopes: &Scopes, block: u32) -> bool
     }
 }
 
-/// Whether `detach` is an attribute of a block: of a class, a prefixed block and a connection.
-#[tactic(auto, unfolding(crate::specs::Access::is_kind))]
+/// Whether `detach` is an attribute of a block: of a class, a prefixed block, and a connection of a class.
+#[tactic(auto, unfolding(crate::specs::Scopes::shows_detach))]
 pub fn has_detach_at(scopes: &Scopes, block: u32) -> bool
-    ensures { result ≡ is_kind has_detach scopes.now block }
+    ensures { result ≡ shows_detach scopes.now block }
 {
-    match kind_of(scopes, block) {
-        Some(BlockKind::Class) => true,
-        Some(BlockKind::Prefixed) => true,
-        Some(BlockKind::Connection) => true,
-        _ => false,
+    match scopes.blocks().get(block as usize) {
+        Some(row) => match row.kind() {
+            BlockKind::Class => true,
+            BlockKind::Prefixed => true,
+            BlockKind::Connection => row.base().is_some(),
+            _ => false,
+        },
+        None => false,
     }
 }
 

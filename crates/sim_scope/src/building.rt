@@ -1,6 +1,7 @@
 //! Block tables, built from a program that is read from left to right.
 ghost use Rattle.std.specs.Prelude.{◌≡◌, ◌++◌, ◌-◌, replicate, length, slice_get, IfOk, OnOk, option_copied};
-ghost use Rattle.sim_scope.specs.Building.{Breaks, Closes, Declares, DeclaresClass, DeclaresProcedure, Inner, Opens, added, block_around, broken_if, changed, closed_at, declared_again, declared_at, declared_twice, deeper, holding_class, in_class, inner_at, is_class, is_match, level_in, marked, match_known, matching, owner_of, placed};
+ghost use Rattle.sim_scope.specs.Tables.{deeper};
+ghost use Rattle.sim_scope.specs.Building.{Breaks, Closes, Declares, DeclaresClass, DeclaresProcedure, Inner, Opens, added, block_around, broken_if, changed, closed_at, declared_again, declared_at, declared_twice, holding_class, in_class, inner_at, is_class, is_match, level_in, marked, match_known, matching, owner_of, placed};
 ghost use Rattle.sim_scope.specs.Declare.{empty};
 ghost use Rattle.sim_scope.specs.Found.{lesser};
 ghost use Rattle.sim_scope.specs.Scopes.{entry_of};

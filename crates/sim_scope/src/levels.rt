@@ -95,10 +95,17 @@ pub fn is_simulation_block(scopes: &Scopes, block: u32) -> bool
     }
 }
 
-/// Whether a class is only for prefixing.
+/// Whether a class is only for prefixing: it has `simulation` in its prefix chain.
 #[tactic(auto, unfolding(crate::specs::Levels::is_for_prefixing))]
 pub fn is_for_prefixing(scopes: &Scopes, block: u32) -> bool
     ensures { result ≡ is_for_prefixing scopes.now block }
+{
+    some_level(scopes, block, |b| is_simulation_block(scopes, b))
+}
+
+/// Whether one of the levels has `simset` or `simulation` for its prefix.
+pub fn has_standard_prefix(scopes: &Scopes, block: u32) -> bool
+    ensures { result ≡ some_level scopes.now (has_standard scopes.now) block }
 {
     some_level(scopes, block, |b| has_standard(scopes, b))
 }

@@ -35,11 +35,13 @@ pub use formals::{class_formal, class_formals_count, formals_at};
 pub use found::{Fault, Found, lesser, precedes};
 pub use levels::{
     base, class_block, first_level, has_classes, has_level, has_simulation, has_standard,
-    has_standard_class, holds_class, is_for_prefixing, is_in_chain, is_simulation_block,
-    on_one_chain, owner_of_level, shared_class, simulation_level, some_level,
+    has_standard_class, has_standard_prefix, holds_class, is_for_prefixing, is_in_chain,
+    is_simulation_block, on_one_chain, owner_of_level, shared_class, simulation_level, some_level,
 };
 pub use names::Names;
-pub use outcome::{Actual, Actuals, Extent, Fit, LeftSides, Outcome, Parameter, Side};
+pub use outcome::{
+    Actual, Actuals, Barred, Extent, Fit, LeftSides, Occurrence, Outcome, Parameter, Side,
+};
 pub use refusal::StaticRefusal;
 pub use scopes::{Block, Declaration, Denotation, Protection, Qualification, Scopes};
 pub use search::{

@@ -1,6 +1,7 @@
 //! What an expression is, and what is known while it is judged.
 
 use crate::found::Fault;
+use crate::scopes::Denotation;
 use crate::standard::StandardName;
 use crate::types::{Formal, SimType};
 use sim_base::{DeclNo, TokenNo};
@@ -24,11 +25,11 @@ pub enum Outcome {
     Constant(SimType),
     /// An array identifier alone.
     Array(SimType),
-    /// A procedure identifier alone, its token, and whether it stands in the text of that very procedure.
+    /// A procedure identifier alone, its token, and the procedure whose result it is as a left side, if it stands in the text of that one.
     Procedure {
         declaration: DeclNo,
         token: TokenNo,
-        own: bool,
+        own: Option<DeclNo>,
     },
     /// A standard name alone, and its token.
     Standard {
@@ -37,6 +38,31 @@ pub enum Outcome {
     },
     /// A class identifier alone.
     Class,
+    /// An identifier alone that may not stand there. It has no type; but other rules may hold at its token too.
+    Barred(Barred),
+}
+
+/// What an identifier alone denotes that may not stand there.
+#[derive(Clone, Copy)]
+pub enum Barred {
+    /// An array, with elements of a type.
+    Array(SimType),
+    /// A class.
+    Class,
+    /// A procedure.
+    Procedure { declaration: DeclNo, token: TokenNo },
+    /// A standard name.
+    Standard { name: StandardName, token: TokenNo },
+}
+
+/// What an identifier denotes where it stands, and whether a rule bars it from standing there. Each rule that holds at its token is told by
+/// itself, and the first of the table is the answer; so what is barred is judged on.
+#[derive(Clone, Copy)]
+pub struct Occurrence {
+    /// What it denotes, if anything.
+    pub denotes: Option<Denotation>,
+    /// Whether it may not stand there.
+    pub barred: bool,
 }
 
 /// An operand: its first token, and the type of its value, if it has one.

@@ -118,7 +118,10 @@ fn variable(
 {
     let ty = type_named(type_name);
     match &variable.value {
-        Some(_) => tables.declare(alloc, &variable.name, Entry::Constant(ty)),
+        Some(_) => {
+            tables.declare(alloc, &variable.name, Entry::Constant(ty))?;
+            qualify(alloc, tables, type_name)
+        }
         None => {
             tables.declare(alloc, &variable.name, Entry::Variable(ty))?;
             qualify(alloc, tables, type_name)

@@ -1,7 +1,7 @@
 //! What an identifier denotes.
 ghost use Rattle.std.specs.Prelude.{◌≡◌, Some, length};
-ghost use Rattle.sim_scope.specs.Access.{is_kind, some_around as around_spec};
-ghost use Rattle.sim_scope.specs.Scopes.{beyond, binding, brought_by, declaration_from, declared_or_standard, entry_is, entry_of, found_in, has_detach, if_found, is_detach, is_passed_over, is_procedure_entry, is_virtual, level_shows, lookup, outward, represented, searched, seen, seen_from, shown, standard_at, virtual_among, virtual_of};
+ghost use Rattle.sim_scope.specs.Access.{some_around as around_spec};
+ghost use Rattle.sim_scope.specs.Scopes.{beyond, binding, brought_by, declaration_from, declared_or_standard, entry_is, entry_of, found_in, if_found, is_detach, is_passed_over, is_procedure_entry, is_virtual, level_shows, lookup, outward, represented, searched, seen, seen_from, shown, shows_detach, standard_at, virtual_among, virtual_of};
 
 use crate::access::{accessible, block_at, encloser, first_around, has_detach_at, some_around};
 use crate::along::first_along;
@@ -123,7 +123,7 @@ fn if_found(scopes: &Scopes, token: TokenNo, name: &[u8], block: u32) -> Option<
     }
 }
 
-/// The block in which a name is found: the innermost one around a token that shows it, or that has `detach`, if it is that name.
+/// The block in which a name is found: the innermost one around a token that shows it, or that shows `detach`, if it is that name.
 #[tactic(auto, unfolding(crate::specs::Scopes::found_in))]
 pub fn found_in(scopes: &Scopes, token: TokenNo, name: &[u8]) -> Option<u32>
     ensures { result ≡ found_in scopes.now token.0 name.now }
@@ -227,12 +227,12 @@ pub fn declared_or_standard(
 
 /// Whether one of the blocks around a token has `detach` for an attribute.
 fn has_detach_around(scopes: &Scopes, token: TokenNo) -> bool
-    ensures { result ≡ around_spec scopes.now (is_kind has_detach scopes.now) token.0 }
+    ensures { result ≡ around_spec scopes.now (shows_detach scopes.now) token.0 }
 {
     some_around(scopes, token, |b| has_detach_at(scopes, b))
 }
 
-/// The standard name that is seen at a token. `detach` is seen in classes, prefixed blocks and connections alone.
+/// The standard name that is seen at a token. `detach` is seen in classes, prefixed blocks and connections of a class alone.
 #[tactic(auto, unfolding(crate::specs::Scopes::standard_at))]
 pub fn standard_at(scopes: &Scopes, token: TokenNo, name: &[u8]) -> Option<StandardName>
     ensures { result ≡ standard_at scopes.now token.0 name.now }
