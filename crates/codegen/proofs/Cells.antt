@@ -22,7 +22,7 @@ use Rattle.sim_tree.specs.declared.expr.Expr.{Expr}
 use Rattle.sim_tree.specs.Syntax.{NoMore}
 use Rattle.sim_meaning.specs.Entries.{cells_from, with_cell}
 use Rattle.sim_meaning.specs.Pending.{Declared, Held, Key, Result, same_key}
-use Rattle.sim_meaning.specs.Texts.{BlockText, ClassText, ConnectionText, PrefixedText, ProcedureText, Text, text}
+use Rattle.sim_meaning.specs.Texts.{BlockText, ProcedureText, Text, text}
 use Rattle.codegen_expr.specs.declared.spot.Spot.{Spot}
 use Rattle.codegen_expr.specs.Built.{KeyBuilt, is_around, is_there, place_from, slot_in}
 use Rattle.codegen_expr.specs.Known.{has_result}
@@ -78,9 +78,7 @@ result_cell s k None h = absurd (cc)
 result_cell s k (Some (BlockText begin ds ss)) h = absurd (cc)
 result_cell s k (Some (ProcedureText None x a)) h = absurd (cc)
 result_cell s k (Some (ProcedureText (Some type) x a)) h = (refl, refl)
-result_cell s k (Some (ClassText prefix x a)) h = absurd (cc)
-result_cell s k (Some (PrefixedText class args ds ss)) h = absurd (cc)
-result_cell s k (Some ConnectionText) h = absurd (cc)
+result_cell s k (Some _) h = absurd (cc)
 
 result_none : (s : Source) (k : ℕ) (x : Option Text) → has_result x ≡ false → place_from 0 Result (cells_in s k x) ≡ None
 unfolding Rattle.sim_meaning.specs.Entries.first_cells
@@ -88,9 +86,7 @@ result_none s k None h = refl
 result_none s k (Some (BlockText begin ds ss)) h = no_result s _ 0
 result_none s k (Some (ProcedureText None x a)) h = no_result s _ 0
 result_none s k (Some (ProcedureText (Some type) x a)) h = absurd (cc)
-result_none s k (Some (ClassText prefix x a)) h = refl
-result_none s k (Some (PrefixedText class args ds ss)) h = refl
-result_none s k (Some ConnectionText) h = refl
+result_none s k (Some _) h = refl
 
 -- ---- operands
 

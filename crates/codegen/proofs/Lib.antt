@@ -15,5 +15,4 @@ pub mod Turns
 pub mod Heads
 pub mod Declared
 pub mod Walked
-pub mod Tests
 pub mod Whole

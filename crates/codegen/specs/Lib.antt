@@ -14,4 +14,3 @@ pub mod EmitLists
 pub mod ForElements
 pub mod EmitShared
 pub mod EmitProgram
-pub mod EmitCode

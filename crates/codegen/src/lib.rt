@@ -13,4 +13,4 @@ mod several;
 mod statement;
 mod texts;
 
-pub use program::{Uncompiled, compile};
+pub use program::compile;

@@ -1,5 +1,5 @@
 -- The texts of statements, blocks and declarations, construct by construct.
-use Rattle.std.proofs.Common.{◌≡◌, ◌≢◌, ◌<◌, ◌≤◌, ◌+◌, ℕ, List, [], ◌∷◌, ◌++◌, Option, Some, None, refl, sym, ap, ◌∙◌, map, drop, length, subst, arith, append-nil, append_assoc}
+use Rattle.std.proofs.Common.{◌≡◌, ◌≢◌, ◌<◌, ◌≤◌, ◌+◌, ℕ, zero, suc, List, [], ◌∷◌, ◌++◌, Option, Some, None, refl, sym, ap, ◌∙◌, map, drop, length, subst, arith, append-nil, append_assoc}
 use Rattle.std.proofs.lemmas.List.{drop_more, drop_all}
 use Rattle.std.specs.Prelude.{slice_index_or, option_map}
 use Rattle.std.specs.Borrow.{Bor}
@@ -27,15 +27,20 @@ use Rattle.sim_tree.specs.declared.stmt.Timing.{Timing}
 use Rattle.sim_tree.specs.declared.stmt.TypeName.{TypeName}
 use Rattle.sim_tree.specs.declared.stmt.Variable.{Variable}
 use Rattle.sim_tree.specs.declared.stmt.When.{When}
-use Rattle.sim_tree.specs.Syntax.{Begin, Declaration, Prefix, Statement, Statements, With, declarations, statements}
+use Rattle.sim_tree.specs.Syntax.{Also, Begin, Compound, Declaration, DeclareClass, Heading, Interface, NoDeclaration, NoStatement, Statement, Statements, With, declarations, statements}
 use Rattle.sim_tree.specs.Syntax.{Block as BlockSyntax}
-use Rattle.sim_tree.specs.SyntaxOfProgram.{arms, branch_syntax, heading_syntax, prefix_syntax, program_syntax, statement_syntax, declaration_syntax, block_syntax, arm_syntax}
+use Rattle.sim_tree.specs.Syntax as syntax
+use Rattle.sim_tree.specs.SyntaxOfProgram.{arms, branch_syntax, class_syntax, heading_syntax, interface_syntax, prefix_syntax, program_syntax, statement_syntax, declaration_syntax, block_syntax, arm_syntax}
 use Rattle.sim_tree.proofs.ProgramSyntaxLemmas.{syntax-Empty, syntax-Block, syntax-PrefixedBlock, syntax-Inner, syntax-Call, syntax-Assignment, syntax-If, syntax-While, syntax-For, syntax-ForReference, syntax-Inspect, syntax-InspectWhen, syntax-Activation, syntax-Variables, syntax-Arrays, syntax-Procedure, syntax-Class, syntax-block, syntax-procedure, syntax-class, syntax-when}
+use Rattle.sim_scope.specs.declared.types.StandardClass.{StandardClass}
+use Rattle.sim_scope.specs.declared.types.StandardPrefix.{StandardPrefix}
+use Rattle.sim_scope.specs.Bodies.{classes_declared}
 use Rattle.sim_scope.specs.Runs.{each}
-use Rattle.sim_meaning.specs.Texts.{BlockText, ClassText, ConnectionText, PrefixedText, ProcedureText, Text, arms_texts, block_texts, declaration_texts, declarations_texts, prefixed_texts, program_texts, statement_texts, statements_texts}
+use Rattle.sim_scope.specs.Standard.{standard_prefix}
+use Rattle.sim_meaning.specs.Texts.{BlockText, ClassText, ConnectionText, ProcedureText, StandardText, Text, arms_texts, block_texts, declaration_texts, declarations_texts, prefix_texts, prefixed_texts, program_texts, standard_texts, statement_texts, statements_texts}
 use Rattle.program_texts.specs.declared.tree.TextTree.{TextTree}
 use Rattle.program_texts.specs.declared.tree.TextTree.TheVariants as tree
-use Rattle.program_texts.specs.TextTrees.{AreTexts, Lists, block_text, inside_texts, of_arm, of_block, of_branch, of_declaration, of_inside, of_statement, outer_of, outer_text, prefixed_text, text_in}
+use Rattle.program_texts.specs.TextTrees.{AreTexts, Lists, block_text, class_text, heading_of, inside_texts, of_arm, of_block, of_branch, of_class, of_class_head, of_class_statement, of_declaration, of_inside, of_prefixed, of_standard, of_statement, prefixed_text, text_in}
 
 map-append : {A B : Type 0} (f : A → B) (xs ys : List A) → map f (xs ++ ys) ≡ map f xs ++ map f ys
 map-append f [] ys = refl
@@ -77,6 +82,17 @@ pub owes_end : {A : Type 0} (f : A → List Text) (a b : List TextTree) (xs : Li
 unfolding Owes
 owes_end f a b xs i owes le = owes b (lists_as b b [] (each f (drop i xs)) (ap (each f) (sym (drop_all i xs le))) (lists_none b))
 
+-- an element of a list, whatever stands in its place where there is none
+pub index_any : {A : Type 0} (xs : List A) (i : ℕ) (d : A) → i < length xs → slice_index_or xs i d ≡ slice_index_or xs i (slice_index_or xs i d)
+index_any [] i d le = absurd (omega (arith, le))
+index_any (x ∷ xs) zero d le = refl
+index_any (x ∷ xs) (suc i) d le = rest xs i d (slice_index_or xs i d) (omega (arith, le))
+  where
+    rest : {A : Type 0} (xs : List A) (i : ℕ) (d e : A) → i < length xs → slice_index_or xs i d ≡ slice_index_or xs i e
+    rest [] i d e le = absurd (omega (arith, le))
+    rest (x ∷ xs) zero d e le = refl
+    rest (x ∷ xs) (suc i) d e le = rest xs i d e (omega (arith, le))
+
 -- ---- statements
 
 texts_at : (x : Stmt) (z : Statement) → statement_syntax x ≡ z → statement_texts z ≡ of_statement x
@@ -110,17 +126,9 @@ pub list_block : (a b : List TextTree) (x : Stmt) (k : Block) → x ≡ s.Block 
 unfolding of_block
 list_block a b x k is h = lists_as a b (block_texts (block_syntax k)) (of_statement x) (texts_at x _ (ap statement_syntax is ∙ syntax-Block k)) h
 
-prefixed_at : (p : BlockPrefix) (k : Block) → prefixed_texts (prefix_syntax p).class (prefix_syntax p).arguments (block_syntax k) ≡ prefixed_text (prefix_syntax p) (block_syntax k) ∷ inside_texts (block_syntax k)
-prefixed_at p k = cases (block_syntax k)
-  where
-    cases : (z : BlockSyntax) → prefixed_texts (prefix_syntax p).class (prefix_syntax p).arguments z ≡ prefixed_text (prefix_syntax p) z ∷ inside_texts z
-    cases (Begin i ds ss e) = refl
-
-pub list_prefixed : (a b c : List TextTree) (x : Stmt) (p : Bor BlockPrefix) (k : Bor Block) → x ≡ s.PrefixedBlock p.now k.now → b ≡ a ++ (tree.Prefixed p k ∷ []) → Lists b c (of_inside k.now) → Lists a c (of_statement x)
-unfolding of_inside
-list_prefixed a b c x p k is e h =
-    lists_as a c _ _ (sym (prefixed_at p.now k.now) ∙ texts_at x _ (ap statement_syntax is ∙ syntax-PrefixedBlock p.now k.now))
-    (lists_both a b c (prefixed_text (prefix_syntax p.now) (block_syntax k.now) ∷ []) (inside_texts (block_syntax k.now)) (lists_one a b (tree.Prefixed p k) e) h)
+pub list_prefixed : (a b : List TextTree) (x : Stmt) (p : BlockPrefix) (k : Block) → x ≡ s.PrefixedBlock p k → Lists a b (of_prefixed p k) → Lists a b (of_statement x)
+unfolding of_prefixed
+list_prefixed a b x p k is h = lists_as a b _ _ (texts_at x _ (ap statement_syntax is ∙ syntax-PrefixedBlock p k)) h
 
 pub list_if : (a m b : List TextTree) (x y : Stmt) (i : TokenNo) (e : Expr) (q : Box Stmt Global) (o : Option (Box Stmt Global)) → x ≡ s.If i e q o → y ≡ q.value → Lists a m (of_statement y) → Lists m b (of_branch o) → Lists a b (of_statement x)
 list_if a m b x y i e q o is same f g = lists_as a b _ _ (texts_at x _ (ap statement_syntax is ∙ syntax-If i e q o)) (lists_both a m b _ _ (as_syntax a m y q.value same f) (as_branch m b o g))
@@ -207,6 +215,35 @@ list_whole a b c k ds there some' one h =
         some_block (block_syntax k.now) k.now.token.0 k.now.end.0 (declaration_syntax x) (map declaration_syntax xs) (statements (map statement_syntax k.now.statements.items))
         (syntax-block k.now.token k.now.declarations k.now.statements k.now.end ∙ ap (λ z. Begin k.now.token.0 (declarations (map declaration_syntax z)) (statements (map statement_syntax k.now.statements.items)) k.now.end.0) e)
 
+-- ---- prefixes
+
+pub list_classes : (a b : List TextTree) (ws : List StandardClass) (o : Option StandardPrefix) (name bytes : List ℕ) → ws ≡ classes_declared o → o ≡ standard_prefix bytes → bytes ≡ name → Lists a b (each of_standard ws) → Lists a b (standard_texts name)
+unfolding standard_texts of_standard
+list_classes a b ws o name bytes are is same h = lists_as a b (each of_standard ws) (standard_texts name) (all ws ∙ ap (map StandardText) (are ∙ ap classes_declared (is ∙ ap standard_prefix same))) h
+  where
+    all : (ws : List StandardClass) → each of_standard ws ≡ map StandardText ws
+    all [] = refl
+    all (w ∷ ws) = ap (λ z. StandardText w ∷ z) (all ws)
+
+pub list_standard : (a b : List TextTree) (w : StandardClass) → b ≡ a ++ (tree.Standard w ∷ []) → Lists a b (of_standard w)
+unfolding of_standard
+list_standard a b w e = lists_one a b (tree.Standard w) e
+
+pub list_class_prefix : (a b : List TextTree) (o : Option Identifier) (x : Identifier) → o ≡ Some x → Lists a b (standard_texts x.name) → Lists a b (prefix_texts o)
+list_class_prefix a b o x is h = lists_as a b (standard_texts x.name) (prefix_texts o) (ap prefix_texts (sym is)) h
+
+pub list_no_prefix : (a : List TextTree) (o : Option Identifier) → o ≡ None → Lists a a (prefix_texts o)
+list_no_prefix a o is = lists_as a a [] (prefix_texts o) (ap prefix_texts (sym is)) (lists_none a)
+
+pub list_with_prefix : (a b c e : List TextTree) (p : Bor BlockPrefix) (k : Bor Block) → b ≡ a ++ (tree.Prefixed p k ∷ []) → Lists b c (standard_texts p.now.class.name) → Lists c e (of_inside k.now) → Lists a e (of_prefixed p.now k.now)
+unfolding of_prefixed of_inside
+list_with_prefix a b c e p k one f g =
+    lists_as a e _ _ (sym (cases (block_syntax k.now)))
+    (lists_both a b e (prefixed_text (prefix_syntax p.now) (block_syntax k.now) ∷ []) (standard_texts p.now.class.name ++ inside_texts (block_syntax k.now)) (lists_one a b (tree.Prefixed p k) one) (lists_both b c e _ _ f g))
+  where
+    cases : (z : BlockSyntax) → prefixed_texts (prefix_syntax p.now).class (prefix_syntax p.now).arguments z ≡ prefixed_text (prefix_syntax p.now) z ∷ (standard_texts p.now.class.name ++ inside_texts z)
+    cases (Begin i ds ss e) = refl
+
 -- ---- declarations
 
 declares_at : (x : Decl) (z : Declaration) → declaration_syntax x ≡ z → declaration_texts z ≡ of_declaration x
@@ -224,21 +261,117 @@ list_procedure a b c x r i q y is one same f =
     lists_as a c _ _ (declares_at x _ (ap declaration_syntax is ∙ syntax-Procedure r.now i q.now ∙ syntax-procedure q.now.name q.now.parameters q.now.modes q.now.specifications q.now.body q.now.end r.now i.0))
     (lists_both a b c (text_in (tree.Procedure r q) ∷ []) _ (lists_one a b (tree.Procedure r q) one) (as_syntax b c y q.now.body.value same f))
 
-pub list_class : (a b c : List TextTree) (x : Decl) (r : Bor (Option Identifier)) (i : TokenNo) (q : Bor Class) (y : Stmt) → x ≡ d.Class r.now i q.now → b ≡ a ++ (tree.Class r q ∷ []) → y ≡ q.now.body.value → Lists b c (of_statement y) → Lists a c (of_declaration x)
-list_class a b c x r i q y is one same f =
-    lists_as a c _ _ (declares_at x _ (ap declaration_syntax is ∙ syntax-Class r.now i q.now ∙ syntax-class q.now.name q.now.parameters q.now.modes q.now.specifications q.now.protections q.now.virtuals q.now.body q.now.end r.now i.0))
-    (lists_both a b c (text_in (tree.Class r q) ∷ []) _ (lists_one a b (tree.Class r q) one) (as_syntax b c y q.now.body.value same f))
+-- a class is the same whatever its tokens and its interface
+class_at : (c : Class) (r : Option Identifier) (i : ℕ) → class_syntax c r i ≡ DeclareClass r i (heading_of c) (interface_syntax c.protections.items c.virtuals.items) (statement_syntax c.body.value) c.end.0
+class_at c r i = syntax-class c.name c.parameters c.modes c.specifications c.protections c.virtuals c.body c.end r i
+
+any_token : (r : Option Identifier) (i j : ℕ) (h : Heading) (f : Interface) (a : Statement) (e : ℕ) → declaration_texts (DeclareClass r i h f a e) ≡ declaration_texts (DeclareClass r j h f a e)
+any_token r i j h f (Compound (Begin token ds ss end)) e = refl
+any_token r i j h f _ e = refl
+
+pub list_class : (a b : List TextTree) (x : Decl) (r : Option Identifier) (i : TokenNo) (q : Class) → x ≡ d.Class r i q → Lists a b (of_class r q) → Lists a b (of_declaration x)
+unfolding of_class
+list_class a b x r i q is h =
+    lists_as a b (of_class r q) (of_declaration x)
+    (ap declaration_texts (class_at q r 0) ∙ any_token r 0 i.0 (heading_of q) (interface_syntax q.protections.items q.virtuals.items) (statement_syntax q.body.value) q.end.0 ∙ declares_at x _ (ap declaration_syntax is ∙ syntax-Class r i q ∙ class_at q r i.0)) h
+
+-- what the texts of a class are, by its body
+abbrev TextsBy : Option Identifier → Class → Statement → List Text
+TextsBy r q z = declaration_texts (DeclareClass r 0 (heading_of q) (interface_syntax q.protections.items q.virtuals.items) z q.end.0)
+
+class_as : (a b : List TextTree) (r : Option Identifier) (q : Class) (y : Stmt) (z : Statement) → y ≡ q.body.value → statement_syntax y ≡ z → Lists a b (TextsBy r q z) → Lists a b (of_class r q)
+unfolding of_class
+class_as a b r q y z same is h = lists_as a b (TextsBy r q z) (declaration_texts (class_syntax q r 0)) (ap (TextsBy r q) (sym is ∙ ap statement_syntax same) ∙ ap declaration_texts (sym (class_at q r 0))) h
+
+pub list_class_of_block : (a b c : List TextTree) (r : Option Identifier) (q : Class) (y : Stmt) (k : Block) → y ≡ q.body.value → y ≡ s.Block k → Lists a b (of_class_head r q k) → Lists b c (of_inside k) → Lists a c (of_class r q)
+unfolding of_class_head of_inside
+list_class_of_block a b c r q y k same is f g =
+    class_as a c r q y (Compound (block_syntax k)) same (ap statement_syntax is ∙ syntax-Block k)
+    (lists_as a c ((class_text r (heading_of q) (block_syntax k) ∷ prefix_texts r) ++ inside_texts (block_syntax k)) (TextsBy r q (Compound (block_syntax k))) (cases (block_syntax k)) (lists_both a b c (class_text r (heading_of q) (block_syntax k) ∷ prefix_texts r) (inside_texts (block_syntax k)) f g))
+  where
+    cases : (z : BlockSyntax) → (class_text r (heading_of q) z ∷ prefix_texts r) ++ inside_texts z ≡ TextsBy r q (Compound z)
+    cases (Begin i ds ss e) = refl
+
+-- a statement that is no block
+abbrev Other : Stmt → Type 0
+Other y = (z : BlockSyntax) → statement_syntax y ≡ Compound z → ⊥
+
+other_class : (a b : List TextTree) (r : Option Identifier) (q : Class) (y : Stmt) → y ≡ q.body.value → Other y → Lists a b (of_class_statement r q) → Lists a b (of_class r q)
+unfolding of_class of_class_statement
+other_class a b r q y same other h =
+    lists_as a b _ (declaration_texts (class_syntax q r 0))
+    (sym (cases (statement_syntax q.body.value) (subst (λ w. (z : BlockSyntax) → statement_syntax w ≡ Compound z → ⊥) same other)) ∙ ap declaration_texts (sym (class_at q r 0))) h
+  where
+    cases : (z : Statement) → ((k : BlockSyntax) → z ≡ Compound k → ⊥) → TextsBy r q z ≡ ClassText r (heading_of q) NoDeclaration (Also z NoStatement) ∷ (prefix_texts r ++ statement_texts z)
+    cases (Compound k) never = absurd (never k refl)
+    cases _ never = refl
+
+module _ (a b : List TextTree) (r : Option Identifier) (q : Class) (y : Stmt) (same : y ≡ q.body.value) where
+  pub class_empty : (i : TokenNo) → y ≡ s.Empty i → Lists a b (of_class_statement r q) → Lists a b (of_class r q)
+  class_empty i is h = other_class a b r q y same (λ z e. (let f : syntax.Empty i.0 ≡ Compound z = sym (ap statement_syntax is ∙ syntax-Empty i) ∙ e in cc)) h
+
+  pub class_prefixed : (p : BlockPrefix) (k : Block) → y ≡ s.PrefixedBlock p k → Lists a b (of_class_statement r q) → Lists a b (of_class r q)
+  class_prefixed p k is h = other_class a b r q y same (λ z e. (let f = sym (ap statement_syntax is ∙ syntax-PrefixedBlock p k) ∙ e in cc)) h
+
+  pub class_inner : (i : TokenNo) → y ≡ s.Inner i → Lists a b (of_class_statement r q) → Lists a b (of_class r q)
+  class_inner i is h = other_class a b r q y same (λ z e. (let f = sym (ap statement_syntax is ∙ syntax-Inner i) ∙ e in cc)) h
+
+  pub class_call : (e : Expr) → y ≡ s.Call e → Lists a b (of_class_statement r q) → Lists a b (of_class r q)
+  class_call x is h = other_class a b r q y same (λ z e. (let f = sym (ap statement_syntax is ∙ syntax-Call x) ∙ e in cc)) h
+
+  pub class_assignment : (x : Expr) (l : Vec Assigned Global) → y ≡ s.Assignment x l → Lists a b (of_class_statement r q) → Lists a b (of_class r q)
+  class_assignment x l is h = other_class a b r q y same (λ z e. (let f = sym (ap statement_syntax is ∙ syntax-Assignment x l) ∙ e in cc)) h
+
+  pub class_if : (i : TokenNo) (x : Expr) (t : Box Stmt Global) (o : Option (Box Stmt Global)) → y ≡ s.If i x t o → Lists a b (of_class_statement r q) → Lists a b (of_class r q)
+  class_if i x t o is h = other_class a b r q y same (λ z e. (let f = sym (ap statement_syntax is ∙ syntax-If i x t o) ∙ e in cc)) h
+
+  pub class_while : (i : TokenNo) (x : Expr) (t : Box Stmt Global) → y ≡ s.While i x t → Lists a b (of_class_statement r q) → Lists a b (of_class r q)
+  class_while i x t is h = other_class a b r q y same (λ z e. (let f = sym (ap statement_syntax is ∙ syntax-While i x t) ∙ e in cc)) h
+
+  pub class_for : (i : TokenNo) (v : Identifier) (t : TokenNo) (l : Vec ForElement Global) (o : Box Stmt Global) → y ≡ s.For i v t l o → Lists a b (of_class_statement r q) → Lists a b (of_class r q)
+  class_for i v t l o is h = other_class a b r q y same (λ z e. (let f = sym (ap statement_syntax is ∙ syntax-For i v t l o) ∙ e in cc)) h
+
+  pub class_for_reference : (i : TokenNo) (v : Identifier) (t : TokenNo) (l : Vec ReferenceElement Global) (o : Box Stmt Global) → y ≡ s.ForReference i v t l o → Lists a b (of_class_statement r q) → Lists a b (of_class r q)
+  class_for_reference i v t l o is h = other_class a b r q y same (λ z e. (let f = sym (ap statement_syntax is ∙ syntax-ForReference i v t l o) ∙ e in cc)) h
+
+  pub class_inspect : (i : TokenNo) (x : Expr) (j : TokenNo) (t : Box Stmt Global) (k : TokenNo) (o : Option (Box Stmt Global)) → y ≡ s.Inspect i x j t k o → Lists a b (of_class_statement r q) → Lists a b (of_class r q)
+  class_inspect i x j t k o is h = other_class a b r q y same (λ z e. (let f = sym (ap statement_syntax is ∙ syntax-Inspect i x j t k o) ∙ e in cc)) h
+
+  pub class_inspect_when : (i : TokenNo) (x : Expr) (v : Vec When Global) (o : Option (Box Stmt Global)) → y ≡ s.InspectWhen i x v o → Lists a b (of_class_statement r q) → Lists a b (of_class r q)
+  class_inspect_when i x v o is h = other_class a b r q y same (λ z e. (let f = sym (ap statement_syntax is ∙ syntax-InspectWhen i x v o) ∙ e in cc)) h
+
+  pub class_activation : (i : TokenNo) (w : Activation) (x : Expr) (t : Option Timing) → y ≡ s.Activation i w x t → Lists a b (of_class_statement r q) → Lists a b (of_class r q)
+  class_activation i w x t is h = other_class a b r q y same (λ z e. (let f = sym (ap statement_syntax is ∙ syntax-Activation i w x t) ∙ e in cc)) h
+
+pub list_class_head : (a b c : List TextTree) (r : Bor (Option Identifier)) (q : Bor Class) (k : Bor Block) → b ≡ a ++ (tree.Class r q k ∷ []) → Lists b c (prefix_texts r.now) → Lists a c (of_class_head r.now q.now k.now)
+unfolding of_class_head
+list_class_head a b c r q k one f = lists_both a b c (class_text r.now (heading_of q.now) (block_syntax k.now) ∷ []) (prefix_texts r.now) (lists_one a b (tree.Class r q k) one) f
+
+pub list_class_statement : (a b c e : List TextTree) (r : Bor (Option Identifier)) (q : Bor Class) (y : Stmt) → b ≡ a ++ (tree.ClassOfStatement r q ∷ []) → Lists b c (prefix_texts r.now) → y ≡ q.now.body.value → Lists c e (of_statement y) → Lists a e (of_class_statement r.now q.now)
+unfolding of_class_statement
+list_class_statement a b c e r q y one f same g =
+    lists_both a b e (text_in (tree.ClassOfStatement r q) ∷ []) (prefix_texts r.now ++ statement_texts (statement_syntax q.now.body.value)) (lists_one a b (tree.ClassOfStatement r q) one)
+    (lists_both b c e (prefix_texts r.now) (statement_texts (statement_syntax q.now.body.value)) f (as_syntax c e y q.now.body.value same g))
 
 -- ---- programs
 
-program_at : (o : Option Prefix) (z : BlockSyntax) → program_texts o z ≡ outer_of o z ∷ inside_texts z
-program_at None (Begin i ds ss e) = refl
-program_at (Some p) (Begin i ds ss e) = refl
-
-pub list_program : (a b c : List TextTree) (p : Program) (x : TextTree) (k : Block) → text_in x ≡ outer_text (program_syntax p) → a ≡ [] → b ≡ a ++ (x ∷ []) → k ≡ p.block → Lists b c (of_inside k) → AreTexts p c
+pub list_program : (a b c : List TextTree) (p : Program) (k : Bor Block) → p.prefix ≡ None → k.now ≡ p.block → a ≡ [] → b ≡ a ++ (tree.Block k ∷ []) → Lists b c (of_inside k.now) → AreTexts p c
 unfolding AreTexts Lists program_syntax of_inside
-list_program a b c p x k is ea one same h =
-    let all : Lists a c (text_in x ∷ inside_texts (block_syntax k)) = lists_both a b c (text_in x ∷ []) (inside_texts (block_syntax k)) (lists_one a b x one) h in
-    all ∙ ap (λ z. map text_in z ++ (text_in x ∷ inside_texts (block_syntax k))) ea ∙ ap (λ z. text_in x ∷ inside_texts (block_syntax z)) same ∙ ap (λ z. z ∷ inside_texts (block_syntax p.block)) is ∙ sym (program_at (option_map prefix_syntax p.prefix) (block_syntax p.block))
+list_program a b c p k none same ea one h =
+    let all : Lists a c (block_text (block_syntax k.now) ∷ inside_texts (block_syntax k.now)) = lists_both a b c (block_text (block_syntax k.now) ∷ []) (inside_texts (block_syntax k.now)) (lists_one a b (tree.Block k) one) h in
+    all ∙ ap (λ z. map text_in z ++ (block_text (block_syntax k.now) ∷ inside_texts (block_syntax k.now))) ea ∙ cases (block_syntax k.now)
+    ∙ ap (λ z. program_texts None (block_syntax z)) same ∙ ap (λ z. program_texts (option_map prefix_syntax z) (block_syntax p.block)) (sym none)
+  where
+    cases : (z : BlockSyntax) → block_text z ∷ inside_texts z ≡ program_texts None z
+    cases (Begin i ds ss e) = refl
 
-pub ruleset lists = (list_empty, list_inner, list_call, list_assignment, list_activation, list_block, list_prefixed, list_if, list_while, list_for, list_for_reference, list_inspect, list_inspect_when, list_some, list_no_branch, list_arm, list_inside, list_compound, list_whole, list_variables, list_arrays, list_procedure, list_class, list_program, owes_all, owes_next, owes_end)
+pub list_prefixed_program : (a b : List TextTree) (p : Program) (q : BlockPrefix) (k : Block) → p.prefix ≡ Some q → k ≡ p.block → a ≡ [] → Lists a b (of_prefixed q k) → AreTexts p b
+unfolding AreTexts Lists program_syntax of_prefixed
+list_prefixed_program a b p q k some' same ea h =
+    h ∙ ap (λ z. map text_in z ++ prefixed_texts (prefix_syntax q).class (prefix_syntax q).arguments (block_syntax k)) ea ∙ cases (block_syntax k)
+    ∙ ap (λ z. program_texts (Some (prefix_syntax q)) (block_syntax z)) same ∙ ap (λ z. program_texts (option_map prefix_syntax z) (block_syntax p.block)) (sym some')
+  where
+    cases : (z : BlockSyntax) → prefixed_texts (prefix_syntax q).class (prefix_syntax q).arguments z ≡ program_texts (Some (prefix_syntax q)) z
+    cases (Begin i ds ss e) = refl
+
+pub ruleset lists = (list_empty, list_inner, list_call, list_assignment, list_activation, list_block, list_prefixed, list_if, list_while, list_for, list_for_reference, list_inspect, list_inspect_when, list_some, list_no_branch, list_arm, list_inside, list_compound, list_whole, list_variables, list_arrays, list_classes, list_standard, list_class_prefix, list_no_prefix, list_with_prefix, list_procedure, list_class, list_class_of_block, class_empty, class_prefixed, class_inner, class_call, class_assignment, class_if, class_while, class_for, class_for_reference, class_inspect, class_inspect_when, class_activation, list_class_head, list_class_statement, list_program, list_prefixed_program, owes_all, owes_next, owes_end)

@@ -1,12 +1,81 @@
 //! The texts of a program in their order.
 ghost use Rattle.std.specs.Prelude.{◌≡◌, IfOk, OnOk};
-ghost use Rattle.program_texts.specs.TextTrees.{AreTexts, Lists, of_arm, of_block, of_branch, of_declaration, of_inside, of_statement, outer_text, text_in};
-ghost use Rattle.sim_tree.specs.SyntaxOfProgram.{program_syntax};
+ghost use Rattle.program_texts.specs.TextTrees.{AreTexts, Lists, of_arm, of_block, of_branch, of_class, of_class_head, of_class_statement, of_declaration, of_inside, of_prefixed, of_statement};
+ghost use Rattle.sim_scope.specs.Bodies.{classes_declared};
 ghost use Rattle.sim_scope.specs.Runs.{each};
+ghost use Rattle.sim_meaning.specs.Texts.{prefix_texts, standard_texts};
 
 use crate::tree::TextTree;
-use sim_tree::{Block, Decl, Program, Stmt, When};
+use sim_scope::{StandardClass, StandardPrefix, standard_prefix};
+use sim_tree::{Block, BlockPrefix, Class, Decl, Identifier, Program, Stmt, When};
 use std::alloc::{AllocError, Global};
+
+/// The classes that `simset` declares.
+static CLASSES_OF_SETS: [StandardClass; 3] = [
+    StandardClass::Linkage,
+    StandardClass::Link,
+    StandardClass::Head,
+];
+
+/// The classes that `simulation` declares.
+static CLASSES_OF_SIMULATION: [StandardClass; 4] = [
+    StandardClass::Linkage,
+    StandardClass::Link,
+    StandardClass::Head,
+    StandardClass::Process,
+];
+
+/// The classes that a standard prefix declares.
+fn classes_declared(prefix: Option<StandardPrefix>) -> &'static [StandardClass]
+    ensures { result.now ≡ classes_declared prefix }
+{
+    match prefix {
+        Some(StandardPrefix::Simset) => &CLASSES_OF_SETS,
+        Some(StandardPrefix::Simulation) => &CLASSES_OF_SIMULATION,
+        None => &[],
+    }
+}
+
+/// The classes that are declared behind a class or block with a class of this identifier in front of it.
+#[tactic(auto, using(crate::proofs::Lists::lists))]
+fn standard(list: &mut Vec<TextTree>, class: &Identifier) -> Result<(), AllocError>
+    ensures { OnOk result (Lists list.old.items list.new.items (standard_texts class.now.name)) }
+{
+    let classes = classes_declared(standard_prefix(class.name.as_bytes()));
+    for item in classes {
+        list.push(TextTree::Standard(*item))?;
+    }
+    Ok(())
+}
+
+/// The same where there may be no class in front.
+#[tactic(auto, using(crate::proofs::Lists::lists))]
+fn class_prefix(list: &mut Vec<TextTree>, prefix: &Option<Identifier>) -> Result<(), AllocError>
+    ensures { OnOk result (Lists list.old.items list.new.items (prefix_texts prefix.now)) }
+{
+    match prefix {
+        Some(class) => standard(list, class),
+        None => Ok(()),
+    }
+}
+
+/// A class with the declarations and statements of this block, without what stands inside.
+#[tactic(auto, using(crate::proofs::Lists::lists))]
+fn class_of_block<'a>(
+    list: &mut Vec<TextTree<'a>>,
+    prefix: &'a Option<Identifier>,
+    class: &'a Class,
+    block: &'a Block,
+) -> Result<(), AllocError>
+    ensures { OnOk result (Lists list.old.items list.new.items (of_class_head prefix.now class.now block.now)) }
+{
+    list.push(TextTree::Class {
+        prefix,
+        class,
+        block,
+    })?;
+    class_prefix(list, prefix)
+}
 
 #[cycle(list)]
 #[tactic(auto, using(crate::proofs::Lists::lists))]
@@ -15,10 +84,7 @@ fn statement<'a>(list: &mut Vec<TextTree<'a>>, stmt: &'a Stmt) -> Result<(), All
 {
     match stmt {
         Stmt::Block { block } => self::block(list, block),
-        Stmt::PrefixedBlock { prefix, block } => {
-            list.push(TextTree::Prefixed { prefix, block })?;
-            inside(list, block)
-        }
+        Stmt::PrefixedBlock { prefix, block } => prefixed(list, prefix, block),
         Stmt::If {
             then_branch,
             else_branch,
@@ -102,6 +168,21 @@ fn block<'a>(list: &mut Vec<TextTree<'a>>, block: &'a Block) -> Result<(), Alloc
     inside(list, block)
 }
 
+/// A block with a prefix.
+#[cycle(list)]
+#[tactic(auto, using(crate::proofs::Lists::lists))]
+fn prefixed<'a>(
+    list: &mut Vec<TextTree<'a>>,
+    prefix: &'a BlockPrefix,
+    block: &'a Block,
+) -> Result<(), AllocError>
+    ensures { OnOk result (Lists list.old.items list.new.items (of_prefixed prefix.now block.now)) }
+{
+    list.push(TextTree::Prefixed { prefix, block })?;
+    standard(list, &prefix.class)?;
+    inside(list, block)
+}
+
 /// What stands inside a block.
 #[cycle(list)]
 #[tactic(auto, using(crate::proofs::Lists::lists))]
@@ -139,25 +220,53 @@ fn declaration<'a>(list: &mut Vec<TextTree<'a>>, decl: &'a Decl) -> Result<(), A
             list.push(TextTree::Procedure { result, procedure })?;
             statement(list, &procedure.body)
         }
-        Decl::Class { prefix, class, .. } => {
-            list.push(TextTree::Class { prefix, class })?;
-            statement(list, &class.body)
-        }
+        Decl::Class { prefix, class, .. } => self::class(list, prefix, class),
     }
 }
 
-/// The text of the program's block.
-#[tactic(auto, unfolding(sim_tree::specs::SyntaxOfProgram::program_syntax))]
-fn outermost<'a>(program: &'a Program) -> TextTree<'a>
-    ensures { text_in result ≡ outer_text (program_syntax program.now) }
+/// A class. The `begin .. end` that is its body is no text of its own.
+#[cycle(list)]
+#[tactic(auto, using(crate::proofs::Lists::lists))]
+fn class<'a>(
+    list: &mut Vec<TextTree<'a>>,
+    prefix: &'a Option<Identifier>,
+    class: &'a Class,
+) -> Result<(), AllocError>
+    ensures { OnOk result (Lists list.old.items list.new.items (of_class prefix.now class.now)) }
 {
-    match &program.prefix {
-        Some(prefix) => TextTree::Prefixed {
-            prefix,
-            block: &program.block,
-        },
-        None => TextTree::Block(&program.block),
+    match &*class.body {
+        Stmt::Block { block } => {
+            class_of_block(list, prefix, class, block)?;
+            inside(list, block)
+        }
+        Stmt::PrefixedBlock { .. } => class_of_statement(list, prefix, class),
+        Stmt::If { .. } => class_of_statement(list, prefix, class),
+        Stmt::While { .. } => class_of_statement(list, prefix, class),
+        Stmt::For { .. } => class_of_statement(list, prefix, class),
+        Stmt::ForReference { .. } => class_of_statement(list, prefix, class),
+        Stmt::Inspect { .. } => class_of_statement(list, prefix, class),
+        Stmt::InspectWhen { .. } => class_of_statement(list, prefix, class),
+        Stmt::Empty { .. } => class_of_statement(list, prefix, class),
+        Stmt::Inner { .. } => class_of_statement(list, prefix, class),
+        Stmt::Call { .. } => class_of_statement(list, prefix, class),
+        Stmt::Assignment { .. } => class_of_statement(list, prefix, class),
+        Stmt::Activation { .. } => class_of_statement(list, prefix, class),
     }
+}
+
+/// A class whose body is another statement.
+#[cycle(list)]
+#[tactic(auto, using(crate::proofs::Lists::lists))]
+fn class_of_statement<'a>(
+    list: &mut Vec<TextTree<'a>>,
+    prefix: &'a Option<Identifier>,
+    class: &'a Class,
+) -> Result<(), AllocError>
+    ensures { OnOk result (Lists list.old.items list.new.items (of_class_statement prefix.now class.now)) }
+{
+    list.push(TextTree::ClassOfStatement { prefix, class })?;
+    class_prefix(list, prefix)?;
+    statement(list, &class.body)
 }
 
 /// The texts of a program in their order: its block, and what stands inside.
@@ -166,7 +275,12 @@ pub fn texts_of<'a>(alloc: Global, program: &'a Program) -> Result<Vec<TextTree<
     ensures { IfOk result (λ texts. AreTexts program.now texts.items) }
 {
     let mut list = Vec::new(alloc);
-    list.push(outermost(program))?;
-    inside(&mut list, &program.block)?;
+    match &program.prefix {
+        Some(prefix) => prefixed(&mut list, prefix, &program.block)?,
+        None => {
+            list.push(TextTree::Block(&program.block))?;
+            inside(&mut list, &program.block)?;
+        }
+    }
     Ok(list)
 }

@@ -1,5 +1,6 @@
 //! A text of a program.
 
+use sim_scope::StandardClass;
 use sim_tree::{Block, BlockPrefix, Class, Identifier, Procedure, TypeName};
 
 /// A text of a program, as a part of its tree.
@@ -12,8 +13,14 @@ pub enum TextTree<'a> {
         result: &'a Option<TypeName>,
         procedure: &'a Procedure,
     },
-    /// A class with its prefix.
+    /// A class with its prefix, and the block whose declarations and statements are those of the class.
     Class {
+        prefix: &'a Option<Identifier>,
+        class: &'a Class,
+        block: &'a Block,
+    },
+    /// A class with its prefix, whose body is another statement than `begin .. end`.
+    ClassOfStatement {
         prefix: &'a Option<Identifier>,
         class: &'a Class,
     },
@@ -24,4 +31,6 @@ pub enum TextTree<'a> {
     },
     /// A connection.
     Connection,
+    /// A class that `simset` or `simulation` declares.
+    Standard(StandardClass),
 }

@@ -19,7 +19,7 @@ use Rattle.sim_scope.specs.Runs.{each}
 use Rattle.sim_scope.specs.Scopes.{entry_of}
 use Rattle.sim_scope.specs.Source.{Source}
 use Rattle.sim_values.specs.Plain.{Plain as Value}
-use Rattle.sim_meaning.specs.Texts.{BlockText, ClassText, ConnectionText, PrefixedText, ProcedureText, Text, among_declarations, among_variables, constant_in, constant_of, constant_value, row_constant, text, value_in}
+use Rattle.sim_meaning.specs.Texts.{BlockText, ProcedureText, Text, among_declarations, among_variables, constant_in, constant_of, constant_value, row_constant, text, value_in}
 use Rattle.sim_agree.specs.ConstantAt.{ConstantAt, Lists, OneOf, at_first, further, head, tail}
 use Rattle.sim_agree.specs.Plain.{Plain}
 use Rattle.sim_agree.proofs.Groups.{Has, here, own_array, own_marks, own_segment, own_variable, there}
@@ -194,6 +194,4 @@ constant_at s is plain order d ty e =
     go row at same (Some (BlockText i ds ss)) there_ (inr p) = absurd (let z : entry.Constant ty ≡ entry.Procedure (result_named p.result) p.number = sym same ∙ p.entry in cc)
     go row at same (Some (ProcedureText result h a)) there_ p = absurd (subst Parametric same p)
     go row at same None there_ p = absurd p
-    go row at same (Some (ClassText q h a)) there_ p = absurd p
-    go row at same (Some (PrefixedText q es ds ss)) there_ p = absurd p
-    go row at same (Some ConnectionText) there_ p = absurd p
+    go row at same (Some _) there_ p = absurd p

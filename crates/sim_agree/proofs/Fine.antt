@@ -29,7 +29,7 @@ use Rattle.sim_scope.specs.Source.{level_in as level_of_row}
 use Rattle.sim_scope.specs.Tables.{BlockOf}
 use Rattle.sim_scope.proofs.Kept.{kept_more, kept_set, more_here, more_other, set_here, set_other}
 use Rattle.sim_meaning.specs.Entries.{numbers_in}
-use Rattle.sim_meaning.specs.Texts.{BlockText, ClassText, ConnectionText, PrefixedText, ProcedureText, Text}
+use Rattle.sim_meaning.specs.Texts.{BlockText, ProcedureText, Text}
 use Rattle.sim_sound.specs.Typed.{Among}
 use Rattle.sim_agree.specs.Plain.{PlainResult}
 use Rattle.sim_agree.proofs.Groups.{Grouped, Has, Open, OwnEntry, PlainFormal, PlainKind, block, closes, declares, headed, here, item, moded, nothing, own_marks, parameter as parameter_mark, procedure, specified, there}
@@ -131,9 +131,7 @@ to_fixed (Some row) (Some (BlockText i ds ss)) k = k
 to_fixed (Some row) (Some (ProcedureText result h a)) k = k
 to_fixed None None k = k
 to_fixed (Some row) None k = absurd k
-to_fixed (Some row) (Some (ClassText p h a)) k = absurd k
-to_fixed (Some row) (Some (PrefixedText p es ds ss)) k = absurd k
-to_fixed (Some row) (Some ConnectionText) k = absurd k
+to_fixed (Some row) (Some _) k = absurd k
 to_fixed None (Some x) k = absurd k
 
 from_fixed : (o : Option BlockOf) (t : Option Text) → KindFixed (fixed o) t → KindIs o t
@@ -141,9 +139,7 @@ from_fixed (Some row) (Some (BlockText i ds ss)) k = k
 from_fixed (Some row) (Some (ProcedureText result h a)) k = k
 from_fixed None None k = k
 from_fixed (Some row) None k = absurd k
-from_fixed (Some row) (Some (ClassText p h a)) k = absurd k
-from_fixed (Some row) (Some (PrefixedText p es ds ss)) k = absurd k
-from_fixed (Some row) (Some ConnectionText) k = absurd k
+from_fixed (Some row) (Some _) k = absurd k
 from_fixed None (Some x) k = absurd k
 
 same_kind : (o p : Option BlockOf) (t : Option Text) → fixed o ≡ fixed p → KindIs p t → KindIs o t
@@ -160,9 +156,7 @@ module _ (bs cs : List BlockOf) (ts us : List Text) (keep : (n : ℕ) (x : Text)
   row_at (Some (BlockText i ds ss)) row (inr p) = inr (procedure_kept row p)
   row_at (Some (ProcedureText result h a)) row p = p
   row_at None row p = absurd p
-  row_at (Some (ClassText p h a)) row q = absurd q
-  row_at (Some (PrefixedText p es ds ss)) row q = absurd q
-  row_at (Some ConnectionText) row q = absurd q
+  row_at (Some _) row q = absurd q
 
   row_kept : (row : Declaration) → RowOf bs ts (slice_get ts row.block) row → RowOf cs us (slice_get us row.block) row
   row_kept row p = go (slice_get ts row.block) refl p
@@ -188,9 +182,7 @@ changed_row bs ts (Some (ProcedureText result h a)) old row c p = go c.entry
     go (inl e) = subst Parametric (sym e) p
     go (inr q) = q.2 (subst Parametric q.1 p)
 changed_row bs ts None old row c p = absurd p
-changed_row bs ts (Some (ClassText p h a)) old row c q = absurd q
-changed_row bs ts (Some (PrefixedText p es ds ss)) old row c q = absurd q
-changed_row bs ts (Some ConnectionText) old row c q = absurd q
+changed_row bs ts (Some _) old row c q = absurd q
 
 -- ---- steps
 

@@ -30,7 +30,7 @@ use Rattle.sim_scope.specs.Standard.{standard_name}
 use Rattle.sim_scope.specs.Tables.{BlockOf, Tables}
 use Rattle.sim_scope.proofs.Searches.{found_innermost}
 use Rattle.sim_meaning.specs.Entries.{formals_from, formals_of, numbers_in, numbers_of}
-use Rattle.sim_meaning.specs.Texts.{BlockText, ClassText, ConnectionText, PrefixedText, ProcedureText, Text, has_class_in, is_class_free, is_class_kind, program_texts, text}
+use Rattle.sim_meaning.specs.Texts.{BlockText, ProcedureText, Text, has_class_in, is_class_free, is_class_kind, program_texts, text}
 use Rattle.sim_sound.specs.Typed.{Among, Around, FormalsAre, Holds, NoFormal, NoFormals, ProcedureThere, first, formal_holds, further, itself, later, named_kind, result_kind}
 use Rattle.sim_agree.specs.Facts.{ProperEntry, ProperFormal, ProperResult, ProperType}
 use Rattle.sim_agree.specs.Plain.{Plain, PlainResult, PlainType}
@@ -148,9 +148,7 @@ module _ (s : Source) (is : s.tables ≡ (declared_by s.program).tables) (plain 
       go (kind.StandardClass which) p = absurd p
   not_class (Some row) (Some (ProcedureText result h a)) k = ap is_class_kind k
   not_class (Some row) None k = absurd k
-  not_class (Some row) (Some (ClassText p h a)) k = absurd k
-  not_class (Some row) (Some (PrefixedText p es ds ss)) k = absurd k
-  not_class (Some row) (Some ConnectionText) k = absurd k
+  not_class (Some row) (Some _) k = absurd k
 
   pub none_any : (f : BlockOf → Bool) (bs : List BlockOf) → ((t : ℕ) (row : BlockOf) → slice_get bs t ≡ Some row → f row ≡ false) → list_any f bs ≡ false
   none_any f [] h = refl
@@ -164,9 +162,7 @@ module _ (s : Source) (is : s.tables ≡ (declared_by s.program).tables) (plain 
       go (Some (BlockText i ds ss)) k = inl k
       go (Some (ProcedureText result h a)) k = inr k
       go None k = absurd k
-      go (Some (ClassText p h a)) k = absurd k
-      go (Some (PrefixedText p es ds ss)) k = absurd k
-      go (Some ConnectionText) k = absurd k
+      go (Some _) k = absurd k
 
   pub class_free : (k : ℕ) → is_class_free s k ≡ true
   unfolding is_class_free
@@ -219,9 +215,7 @@ module _ (s : Source) (is : s.tables ≡ (declared_by s.program).tables) (plain 
   procedure_of row result k (Some (BlockText i ds ss)) e (inl p) = absurd (subst OwnEntry e p.fits)
   procedure_of row result k (Some (ProcedureText res h a)) e p = absurd (subst Parametric e p)
   procedure_of row result k None e p = absurd p
-  procedure_of row result k (Some (ClassText q h a)) e p = absurd p
-  procedure_of row result k (Some (PrefixedText q es ds ss)) e p = absurd p
-  procedure_of row result k (Some ConnectionText) e p = absurd p
+  procedure_of row result k (Some _) e p = absurd p
 
   pub procedures : (d : DeclNo) (result : Option SimType) (k : ℕ) → entry_of s.tables d ≡ Some (entry.Procedure result k) → ProcedureThere s d result k
   unfolding text encloser
@@ -435,6 +429,4 @@ module _ (s : Source) (is : s.tables ≡ (declared_by s.program).tables) (plain 
       go row f (Some (BlockText i ds ss)) (inr p) = subst ProperEntry (sym p.entry) (of_result p.result p.plain)
       go row f (Some (ProcedureText result h a)) p = let q = parametric_formal row.entry p (specified_row d.0 row f) in subst ProperEntry (sym q.1) (proper_formal q.0.mode q.0.kind q.0.ty q.2 q.3)
       go row f None p = absurd p
-      go row f (Some (ClassText q h a)) p = absurd p
-      go row f (Some (PrefixedText q es ds ss)) p = absurd p
-      go row f (Some ConnectionText) p = absurd p
+      go row f (Some _) p = absurd p

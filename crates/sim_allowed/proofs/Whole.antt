@@ -28,7 +28,7 @@ use Rattle.sim_values.specs.declared.kind.Kind.{Kind}
 use Rattle.sim_values.specs.Plain.{Plain as Value, kind_of}
 use Rattle.sim_meaning.specs.Constants.{declaration_constants, declarations_constants, value_constants, variables_constants}
 use Rattle.sim_meaning.specs.Entries.{numbers_of}
-use Rattle.sim_meaning.specs.Texts.{BlockText, ClassText, ConnectionText, PrefixedText, ProcedureText, Text, constant_value, kind_named, kind_of_type, program_texts, text}
+use Rattle.sim_meaning.specs.Texts.{BlockText, ClassText, ConnectionText, PrefixedText, ProcedureText, StandardText, Text, constant_value, kind_named, kind_of_type, program_texts, text}
 use Rattle.sim_sound.specs.Typed.{Among, BlockTyped, NoFormal, NoFormals, SomeName, TextTyped, Typed, first, later}
 use Rattle.sim_agree.specs.ConstantAt.{Lists, OneOf, at_first, further, head, tail}
 use Rattle.sim_agree.specs.Facts.{ConstantIs, Tabled}
@@ -177,9 +177,10 @@ module _ (s : Source) (of : TablesOf s) (plain : Plain s.program) (filled : Fill
       let fine = fine_text k (ProcedureText result h a) at in
       let p = agrees.bodies k result h a at in
       record { formals = p.formals; body = statement_typed s tabled k (statement_sight s tabled k) a fine.0 p.body fine.1 fine.2 }
-  texts_typed k (ClassText prefix h a) at = absurd (fine_text k (ClassText prefix h a) at)
+  texts_typed k (ClassText prefix h ds ss) at = absurd (fine_text k (ClassText prefix h ds ss) at)
   texts_typed k (PrefixedText class arguments ds ss) at = absurd (fine_text k (PrefixedText class arguments ds ss) at)
   texts_typed k ConnectionText at = absurd (fine_text k ConnectionText at)
+  texts_typed k (StandardText which) at = absurd (fine_text k (StandardText which) at)
 
   pub said_typed : Typed s
   said_typed = record {

@@ -17,7 +17,7 @@ use Rattle.sim_values.specs.Plain.{Character, Integer, Plain, Truth}
 use Rattle.sim_meaning.specs.Constants.{TextConstant, constant_from, text_constant, text_constants}
 use Rattle.sim_meaning.specs.Entries.{first_cells, numbers_in, numbers_of}
 use Rattle.sim_meaning.specs.Pending.{Declared, Held, Key, Result, same_key}
-use Rattle.sim_meaning.specs.Texts.{BlockText, ClassText, ConnectionText, PrefixedText, ProcedureText, among_declarations, among_variables, constant_in, constant_of, constant_value, program_texts, row_constant, text, value_in}
+use Rattle.sim_meaning.specs.Texts.{BlockText, ClassText, PrefixedText, ProcedureText, among_declarations, among_variables, constant_in, constant_of, constant_value, program_texts, row_constant, text, value_in}
 use Rattle.sim_meaning.specs.Texts as texts
 use Rattle.sim_sound.specs.Typed.{Among, Around, Holds, TextTyped, Typed, entry_holds, further, itself}
 use Rattle.sim_sound.proofs.Changes.{equal_same}
@@ -96,10 +96,9 @@ declarations_plain s token (With (DeclareClass prefix i h interface a end) ds) v
 in_text : (s : Source) (x : Option texts.Text) (token : ℕ) (v : Plain) → constant_in s x token ≡ Some v → PlainBuilt v
 in_text s None token v e = absurd (cc)
 in_text s (Some (BlockText begin ds ss)) token v e = declarations_plain s token ds v e
+in_text s (Some (ClassText prefix h ds ss)) token v e = declarations_plain s token ds v e
 in_text s (Some (PrefixedText class arguments ds ss)) token v e = declarations_plain s token ds v e
-in_text s (Some (ProcedureText result h a)) token v e = absurd (cc)
-in_text s (Some (ClassText prefix h a)) token v e = absurd (cc)
-in_text s (Some ConnectionText) token v e = absurd (cc)
+in_text s (Some _) token v e = absurd (cc)
 
 row_plain : (s : Source) (r : Option Row) (v : Plain) → row_constant s r ≡ Some v → PlainBuilt v
 row_plain s None v e = absurd (cc)
@@ -133,9 +132,7 @@ module _ (s : Source) (ok : Typed s) (laid : Laid s) where
   key_in_text u d h (BlockText begin ds ss) typed e a = key_among s d h (numbers_of s u) e a
   key_in_text u d h (ProcedureText None g b) typed e a = key_among s d h (numbers_of s u) e a
   key_in_text u d h (ProcedureText (Some type) g b) typed e a = later_key (key_among s d h (numbers_of s u) e a)
-  key_in_text u d h (ClassText prefix g b) typed e a = absurd typed
-  key_in_text u d h (PrefixedText c es ds ss) typed e a = absurd typed
-  key_in_text u d h ConnectionText typed e a = absurd typed
+  key_in_text u d h _ typed e a = absurd typed
 
   slot_if : (u : ℕ) (key : Key) (x : texts.Text) → text s u ≡ Some x → KeyAmong key (map key_of (first_cells s u x)) → is_there (slot_in s u key) ≡ true
   unfolding slot_in

@@ -10,7 +10,7 @@ use Rattle.sim_tree.specs.Syntax as syntax
 use Rattle.sim_values.specs.declared.kind.Kind.{Kind}
 use Rattle.sim_values.specs.declared.kind.Kind.TheVariants as kind
 use Rattle.sim_meaning.specs.Entries.{numbers_of}
-use Rattle.sim_meaning.specs.Texts.{BlockText, ClassText, ConnectionText, PrefixedText, ProcedureText, Text, block_texts, declaration_texts, declarations_texts, declared_at, kind_named, program_texts, statement_texts, statements_texts, text}
+use Rattle.sim_meaning.specs.Texts.{BlockText, ProcedureText, Text, block_texts, declaration_texts, declarations_texts, declared_at, kind_named, program_texts, statement_texts, statements_texts, text}
 use Rattle.sim_agree.specs.Plain.{Each, Plain, PlainBlock, PlainBounds, PlainDeclaration, PlainDeclarations, PlainSegment, PlainStatement, PlainStatements}
 use Rattle.sim_sound.specs.Typed.{Among, ArrayOf, ArraysAre, ArraysTyped, BoundsAre, Sees, SegmentsAre, Simply, SomeName, TextTyped, Typed, arrays_in_segments, arrays_named, arrays_of_block, first, further, later, of_option}
 use Rattle.codegen_expr.specs.Built.{StandsIn}
@@ -131,9 +131,7 @@ module _ (s : Source) (ok : Typed s) (laid : Laid s) where
   text_built k (BlockText begin ds ss) e f a =
       (arrays_built s ok laid k (BlockText begin ds ss) e ds a.own f.0 a.arrays, statements_built s ok laid k (BlockText begin ds ss) e ss f.1 f.2 a.statements)
   text_built k (ProcedureText result h b) e f a = statement_built s ok laid k (ProcedureText result h b) e b f.0 f.1 a.body
-  text_built k (ClassText prefix h b) e f a = absurd f
-  text_built k (PrefixedText class es ds ss) e f a = absurd f
-  text_built k ConnectionText e f a = absurd f
+  text_built k _ e f a = absurd f
 
   texts_built : (k : ℕ) (xs : List Text) → ((i : ℕ) (x : Text) → slice_get xs i ≡ Some x → text s (k + i) ≡ Some x) → Each Fit xs → TextsBuilt s k xs
   texts_built k [] at f = tt

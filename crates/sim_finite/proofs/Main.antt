@@ -8,7 +8,7 @@ use Rattle.sim_code.specs.Instances.{no_instances}
 use Rattle.sim_meaning.specs.Constants.{constants_of}
 use Rattle.sim_meaning.specs.Meaning.{do_chain, do_item, do_work, opening, program_entered, step}
 use Rattle.sim_meaning.specs.Pending.{Activation, Configuration, Do, EndBlock, EndProcedure, EndProgram, Instances, Item, Result, Val, cell}
-use Rattle.sim_meaning.specs.Texts.{BlockText, ClassText, ConnectionText, PrefixedText, ProcedureText, Text, text}
+use Rattle.sim_meaning.specs.Texts.{BlockText, ProcedureText, Text, text}
 use Rattle.sim_finite.specs.Coming.{ComesToAnEnd}
 use Rattle.sim_finite.proofs.Lifts.{Goes, entering_goes, having_goes, none, stops, when_goes}
 use Rattle.sim_finite.proofs.Operators.{leaving_falls, op_falls}
@@ -35,9 +35,7 @@ module _ (s : Source) (l : Limits) (o : World) where
   program_falls m None = none (From 0) o
   program_falls m (Some (BlockText begin ds ss)) = entering_goes (From 0) l _ _ o _ (λ p more most. ticked (omega (arith, more)) most)
   program_falls m (Some (ProcedureText result h a)) = none (From 0) o
-  program_falls m (Some (ClassText prefix h a)) = none (From 0) o
-  program_falls m (Some (PrefixedText class arguments ds ss)) = none (From 0) o
-  program_falls m (Some ConnectionText) = none (From 0) o
+  program_falls m (Some _) = none (From 0) o
 
   chain_falls : (m : Instances) (chain : List Activation) → Goes (From (chain_weight chain)) (do_chain s l o m chain)
   chain_falls m [] = when_goes (From 0) (length m.instances == 0) o _ (program_falls m (text s 0))

@@ -24,7 +24,7 @@ use Rattle.sim_meaning.specs.Pending as pending
 use Rattle.sim_meaning.specs.Statements as statement
 use Rattle.sim_meaning.specs.Statements.{assigned, compound, elements, entered_at, exec, execs, first_branch, lefts, looping, raised, reading}
 use Rattle.sim_meaning.specs.Steps.{count, each, eval, go, put_back, putting, stored, value_at, with_value}
-use Rattle.sim_meaning.specs.Texts.{BlockText, ClassText, ConnectionText, PrefixedText, ProcedureText}
+use Rattle.sim_meaning.specs.Texts.{BlockText, ProcedureText}
 use Rattle.sim_meaning.specs.Texts as texts
 use Rattle.sim_finite.proofs.Closing.{close_small}
 use Rattle.sim_finite.proofs.Lifts.{Goes, assigning_goes, choosing_goes, computing_goes, copying_goes, entering_goes, finding_goes, having_goes, integers_goes, joining_goes, making_goes, many_goes, none, one_goes, performing_goes, popping_goes, step_goes, ticking_goes, truth_goes, two_goes, when_goes}
@@ -134,9 +134,7 @@ module _ (s : Source) (l : Limits) (o : World) (m : Instances) (i : ℕ) (w : Li
   block_falls k line None = none (From 1) o
   block_falls k line (Some (BlockText begin ds ss)) = entering_goes (From 1) l line _ o _ (λ p more most. ticked (omega (arith, more)) most)
   block_falls k line (Some (ProcedureText result h a)) = none (From 1) o
-  block_falls k line (Some (ClassText prefix h a)) = none (From 1) o
-  block_falls k line (Some (PrefixedText class arguments ds ss)) = none (From 1) o
-  block_falls k line (Some ConnectionText) = none (From 1) o
+  block_falls k line (Some _) = none (From 1) o
 
   procedure_falls : (vals : List Val) (k line : ℕ) (values : List Val) (j : ℕ) (x : Option texts.Text) → Falls 1 (procedure_entered s l o m i w vals rest k line values j x)
   procedure_falls vals k line values j None = none (From 1) o
@@ -144,9 +142,7 @@ module _ (s : Source) (l : Limits) (o : World) (m : Instances) (i : ℕ) (w : Li
   procedure_falls vals k line values j (Some (ProcedureText result h a)) =
       having_goes (From 1) (filled_behind result values (first_cells s k (ProcedureText result h a))) o _ (λ filled. entering_goes (From 1) l line (words_of_cells (first_cells s k (ProcedureText result h a))) o _ (λ p more most.
       let same = handed_ticks (length m.instances) (arrays_by_value (formals_of s k) values) p in ticked (omega (arith, more, same)) (omega (arith, most, same))))
-  procedure_falls vals k line values j (Some (ClassText prefix h a)) = none (From 1) o
-  procedure_falls vals k line values j (Some (PrefixedText class arguments ds ss)) = none (From 1) o
-  procedure_falls vals k line values j (Some ConnectionText) = none (From 1) o
+  procedure_falls vals k line values j (Some _) = none (From 1) o
 
   call_falls : (k n line : ℕ) → Falls 1 (called s l o m i w vals rest k n line)
   call_falls k n line =

@@ -22,7 +22,7 @@ use Rattle.sim_values.specs.Words.{instance_words}
 use Rattle.sim_code.specs.Outcome.{Going, Run, World}
 use Rattle.sim_code.specs.Instances.{Instance, entered, kept_on}
 use Rattle.sim_meaning.specs.Pending.{Activation, ArrayOp, ArrayValue, Cell, Configuration, CopyOp, Declared, Do, Eval, Held, Instances, Item, Of, Result, StoreOp, ToCell, Val, owner}
-use Rattle.sim_meaning.specs.Texts.{BlockText, ClassText, ConnectionText, PrefixedText, ProcedureText, Text, declared_at, is_class_free, kind_named, kind_of_type}
+use Rattle.sim_meaning.specs.Texts.{BlockText, ClassText, ConnectionText, PrefixedText, ProcedureText, StandardText, Text, declared_at, is_class_free, kind_named, kind_of_type}
 use Rattle.sim_meaning.specs.Closing.{close}
 
 -- ---- cells
@@ -61,9 +61,10 @@ with_result (Some type) hs = record { key = Result; value = of_kind (kind_named 
 unfoldable pub first_cells : Source → ℕ → Text → List Held
 first_cells s k (BlockText begin ds ss) = cells_from s (numbers_of s k)
 first_cells s k (ProcedureText result h a) = with_result result (cells_from s (numbers_of s k))
-first_cells s k (ClassText prefix h a) = []
+first_cells s k (ClassText prefix h ds ss) = []
 first_cells s k (PrefixedText class arguments ds ss) = []
 first_cells s k ConnectionText = []
+first_cells s k (StandardText which) = []
 
 abbrev pub words_of_cells : List Held → ℕ
 words_of_cells hs = instance_words (length hs) false

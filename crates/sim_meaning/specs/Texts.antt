@@ -1,6 +1,6 @@
--- The texts of a program: its block, its sub-blocks, procedures, classes, prefixed blocks and connections, each with its number, which is
--- its place in text order. The tables of scopes number the same blocks.
-use Rattle.std.specs.Prelude.{ℕ, ◌+◌, Bool, true, false, not, ◌&&◌, ◌==◌, nat_le, nat_lt, if◌then◌else◌, ℤ, neg_ℤ, List, [], ◌∷◌, ◌++◌, slice_get, Option, Some, None}
+-- The texts of a program: what its bodies are made of, in their order. A text's number is its place, so text k is that of body k, and of
+-- block k of the tables of scopes.
+use Rattle.std.specs.Prelude.{ℕ, ◌+◌, Bool, true, false, not, ◌&&◌, ◌==◌, nat_le, nat_lt, if◌then◌else◌, ℤ, neg_ℤ, List, [], ◌∷◌, ◌++◌, map, slice_get, Option, Some, None}
 use Rattle.std.specs.List.{list_any}
 use Rattle.sim_base.specs.declared.numbering.DeclNo.{DeclNo}
 use Rattle.sim_scope.specs.declared.scopes.Declaration.{Declaration as Row}
@@ -8,7 +8,10 @@ use Rattle.sim_scope.specs.declared.types.BlockKind.{BlockKind}
 use Rattle.sim_scope.specs.declared.types.BlockKind.TheVariants as kind_of_block
 use Rattle.sim_scope.specs.declared.types.SimType.{SimType}
 use Rattle.sim_scope.specs.declared.types.SimType.TheVariants as t
+use Rattle.sim_scope.specs.declared.types.StandardClass.{StandardClass}
+use Rattle.sim_scope.specs.Bodies.{Body, OfBlock, OfClass, OfConnection, OfPrefixed, OfProcedure, OfStandard, Part, classes_declared}
 use Rattle.sim_scope.specs.Source.{Source}
+use Rattle.sim_scope.specs.Standard.{standard_prefix}
 use Rattle.sim_scope.specs.Tables.{BlockOf}
 use Rattle.sim_tree.specs.declared.expr.Identifier.{Identifier}
 use Rattle.sim_tree.specs.declared.expr.LeadingSign.{LeadingSign}
@@ -19,7 +22,7 @@ use Rattle.sim_tree.specs.declared.stmt.Constant.TheVariants as constant
 use Rattle.sim_tree.specs.declared.stmt.TypeName.{TypeName}
 use Rattle.sim_tree.specs.declared.stmt.TypeName.TheVariants as type_name
 use Rattle.sim_tree.specs.declared.stmt.Variable.{Variable}
-use Rattle.sim_tree.specs.Syntax.{Arms, Begin, Block, Declaration, Declarations, DeclareClass, DeclareProcedure, Arrays, Variables, Expressions, Heading, NoArm, NoDeclaration, NoStatement, Also, Prefix, Program, Statement, Statements, When, With}
+use Rattle.sim_tree.specs.Syntax.{Arms, Begin, Block, Compound, Declaration, Declarations, DeclareClass, DeclareProcedure, Arrays, Variables, Expressions, Heading, NoArm, NoDeclaration, NoStatement, Also, Prefix, Program, Statement, Statements, When, With}
 use Rattle.sim_tree.specs.Syntax as syntax
 use Rattle.sim_values.specs.declared.kind.Kind.{Kind}
 use Rattle.sim_values.specs.declared.kind.Kind.TheVariants as kind
@@ -29,9 +32,20 @@ use Rattle.sim_meaning.specs.Constants.{text_constant}
 pub data Text : Type 0 where
   BlockText : (begin : ℕ) → Declarations → Statements → Text
   ProcedureText : (result : Option TypeName) → Heading → (body : Statement) → Text
-  ClassText : (prefix : Option Identifier) → Heading → (body : Statement) → Text
+  -- a class, with the declarations and the statements of its body
+  ClassText : (prefix : Option Identifier) → Heading → Declarations → Statements → Text
   PrefixedText : (class : Identifier) → Expressions → Declarations → Statements → Text
   ConnectionText : Text
+  -- a class that `simset` or `simulation` declares
+  StandardText : StandardClass → Text
+
+-- the classes that are declared directly behind a block or class with this name in front of it
+unfoldable pub standard_texts : (name : List ℕ) → List Text
+standard_texts name = map StandardText (classes_declared (standard_prefix name))
+
+abbrev pub prefix_texts : Option Identifier → List Text
+prefix_texts None = []
+prefix_texts (Some class) = standard_texts class.name
 
 abbrev mutual
   pub statement_texts : Statement → List Text
@@ -62,7 +76,7 @@ abbrev mutual
   block_texts (Begin token (With d ds) ss end) = BlockText token (With d ds) ss ∷ (declaration_texts d ++ (declarations_texts ds ++ statements_texts ss))
 
   pub prefixed_texts : Identifier → Expressions → Block → List Text
-  prefixed_texts class arguments (Begin token ds ss end) = PrefixedText class arguments ds ss ∷ (declarations_texts ds ++ statements_texts ss)
+  prefixed_texts class arguments (Begin token ds ss end) = PrefixedText class arguments ds ss ∷ (standard_texts class.name ++ (declarations_texts ds ++ statements_texts ss))
 
   pub declarations_texts : Declarations → List Text
   declarations_texts NoDeclaration = []
@@ -72,15 +86,31 @@ abbrev mutual
   declaration_texts (Variables type vs) = []
   declaration_texts (Arrays type token segments) = []
   declaration_texts (DeclareProcedure result token h a end) = ProcedureText result h a ∷ statement_texts a
-  declaration_texts (DeclareClass prefix token h interface a end) = ClassText prefix h a ∷ statement_texts a
+  -- the `begin .. end` of a class is no text of its own: its declarations and statements are those of the class
+  declaration_texts (DeclareClass prefix token h interface (Compound (Begin i ds ss e)) end) =
+      ClassText prefix h ds ss ∷ (prefix_texts prefix ++ (declarations_texts ds ++ statements_texts ss))
+  declaration_texts (DeclareClass prefix token h interface a end) = ClassText prefix h NoDeclaration (Also a NoStatement) ∷ (prefix_texts prefix ++ statement_texts a)
 
 -- the program's block comes first, whether it has declarations or not
 abbrev pub program_texts : Option Prefix → Block → List Text
 program_texts None (Begin token ds ss end) = BlockText token ds ss ∷ (declarations_texts ds ++ statements_texts ss)
-program_texts (Some p) (Begin token ds ss end) = PrefixedText p.class p.arguments ds ss ∷ (declarations_texts ds ++ statements_texts ss)
+program_texts (Some p) (Begin token ds ss end) = PrefixedText p.class p.arguments ds ss ∷ (standard_texts p.class.name ++ (declarations_texts ds ++ statements_texts ss))
 
 unfoldable pub text : Source → ℕ → Option Text
 text s k = slice_get (program_texts s.program.prefix s.program.block) k
+
+-- the text of a body
+abbrev pub text_of_part : BlockKind → (first : ℕ) → (prefix : Option Identifier) → Part → Option Text
+text_of_part k first prefix (OfBlock ds ss) = Some (BlockText first ds ss)
+text_of_part k first prefix (OfProcedure result h a) = Some (ProcedureText result h a)
+text_of_part k first prefix (OfClass h ds ss) = Some (ClassText prefix h ds ss)
+text_of_part k first (Some class) (OfPrefixed arguments ds ss) = Some (PrefixedText class arguments ds ss)
+text_of_part k first prefix OfConnection = Some ConnectionText
+text_of_part (kind_of_block.StandardClass which) first prefix OfStandard = Some (StandardText which)
+text_of_part _ first prefix _ = None
+
+abbrev pub text_of : Body → Option Text
+text_of b = text_of_part b.kind b.first b.prefix b.part
 
 -- ---- class-free texts
 
@@ -162,6 +192,7 @@ declared_at s token = number_from 0 token s.tables.declarations
 
 abbrev pub constant_in : Source → Option Text → (token : ℕ) → Option Plain
 constant_in s (Some (BlockText begin ds ss)) token = among_declarations s token ds
+constant_in s (Some (ClassText prefix h ds ss)) token = among_declarations s token ds
 constant_in s (Some (PrefixedText class arguments ds ss)) token = among_declarations s token ds
 constant_in s _ token = None
 

@@ -21,7 +21,7 @@ use Rattle.sim_code.proofs.Lifts.{alike_found, alike_no_rule}
 use Rattle.sim_code.proofs.Simulation.{Alike}
 use Rattle.sim_meaning.specs.Entries.{first_cells, new_instance}
 use Rattle.sim_meaning.specs.Pending.{Activation, Configuration, Do, EndBlock, EndProcedure, EndProgram, Held, Instances, Item}
-use Rattle.sim_meaning.specs.Texts.{BlockText, ClassText, ConnectionText, PrefixedText, ProcedureText, Text, program_texts, text}
+use Rattle.sim_meaning.specs.Texts.{BlockText, ConnectionText, PrefixedText, Text, program_texts, text}
 use Rattle.codegen_expr.specs.CodeExpr.{block_number}
 use Rattle.codegen_expr.specs.Sites.{cells_in}
 use Rattle.codegen.specs.Agrees.{Agrees}
@@ -65,12 +65,8 @@ coded : (s : Source) (code : CodeOf) (k : ℕ) (x : Text) (o : Option BlockOf) �
 coded s code k ConnectionText o h = absurd h
 coded s code k (BlockText begin ds ss) None h = absurd h
 coded s code k (BlockText begin ds ss) (Some b) h = record { block = b; found = refl; has = h }
-coded s code k (ProcedureText result x a) None h = absurd h
-coded s code k (ProcedureText result x a) (Some b) h = record { block = b; found = refl; has = h }
-coded s code k (ClassText prefix x a) None h = absurd h
-coded s code k (ClassText prefix x a) (Some b) h = record { block = b; found = refl; has = h }
-coded s code k (PrefixedText class arguments ds ss) None h = absurd h
-coded s code k (PrefixedText class arguments ds ss) (Some b) h = record { block = b; found = refl; has = h }
+coded s code k _ None h = absurd h
+coded s code k _ (Some b) h = record { block = b; found = refl; has = h }
 
 pub code_there : (s : Source) (code : CodeOf) → Compiled s code → (k : ℕ) (x : Text) → text s k ≡ Some x → Coded s code k x (slice_get code.blocks (block_number s k))
 code_there s code c k x e = coded s code k x (slice_get code.blocks (block_number s k)) (c.each k x e)

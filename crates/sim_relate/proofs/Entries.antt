@@ -30,7 +30,7 @@ use Rattle.sim_meaning.specs.Entries.{arrays_by_value, filled_behind, first_cell
 use Rattle.sim_meaning.specs.Meaning.{block_work, do_op, first_step, has_result, procedure_entered, program_entered, sub_block_entered}
 use Rattle.sim_meaning.specs.Pending.{Activation, ArrayOp, ArrayValue, CallOp, Configuration, Do, EndBlock, EndProcedure, EndProgram, EnterOp, Exec, Execs, Held, Instances, Item, Op, PastOp, Val, instance_in, plain}
 use Rattle.sim_meaning.specs.Steps.{go}
-use Rattle.sim_meaning.specs.Texts.{BlockText, ClassText, ConnectionText, PrefixedText, ProcedureText, Text, text}
+use Rattle.sim_meaning.specs.Texts.{BlockText, ClassText, ConnectionText, PrefixedText, ProcedureText, StandardText, Text, text}
 use Rattle.sim_meaning.specs.Sane.{Lives, lives_alone}
 use Rattle.codegen_expr.specs.CodeExpr.{block_number}
 use Rattle.codegen_expr.specs.Sites.{At, cells_in, lined}
@@ -119,9 +119,10 @@ module _ (s : Source) (code : CodeOf) (compiled : Compiled s code) (l : Limits) 
       let c = code_there s code compiled 0 (ProcedureText result h body) is in
       let heads = (procedure_code s code 0 result h body c.block c.has).heads in
       block_refused s code o block_kind.SubBlock 0 c.block c.found (ap (λ z. same_kind z block_kind.SubBlock) heads.is_kind) _
-  first_some m fs a parked (ClassText prefix h body) is = absurd ((code_there s code compiled 0 (ClassText prefix h body) is).has)
+  first_some m fs a parked (ClassText prefix h ds ss) is = absurd ((code_there s code compiled 0 (ClassText prefix h ds ss) is).has)
   first_some m fs a parked (PrefixedText class arguments ds ss) is = absurd ((code_there s code compiled 0 (PrefixedText class arguments ds ss) is).has)
   first_some m fs a parked ConnectionText is = absurd ((code_there s code compiled 0 ConnectionText is).has)
+  first_some m fs a parked (StandardText which) is = absurd ((code_there s code compiled 0 (StandardText which) is).has)
 
   -- both enter the program's block
   pub first_alike : (m : Instances) (fs : Frames) → StoreAt s code m fs → StandingsAt s code m fs → Alike R (first_step s l o m) (rows.first_step code l o fs)
@@ -196,9 +197,10 @@ module _ (s : Source) (code : CodeOf) (compiled : Compiled s code) (l : Limits) 
       let heads = (procedure_code s code (suc k) result h body c.block c.has).heads in
       at_row s code l o fs top below _ (i.Enter (pos (block_number s (suc k)))) line q at
       (block_refused s code o block_kind.SubBlock (block_number s (suc k)) c.block c.found (ap (λ z. same_kind z block_kind.SubBlock) heads.is_kind) _)
-  enter_some (suc k) line (ClassText prefix h body) is at around e = absurd ((code_there s code compiled (suc k) (ClassText prefix h body) is).has)
+  enter_some (suc k) line (ClassText prefix h ds ss) is at around e = absurd ((code_there s code compiled (suc k) (ClassText prefix h ds ss) is).has)
   enter_some (suc k) line (PrefixedText class arguments ds ss) is at around e = absurd ((code_there s code compiled (suc k) (PrefixedText class arguments ds ss) is).has)
   enter_some (suc k) line ConnectionText is at around e = absurd ((code_there s code compiled (suc k) ConnectionText is).has)
+  enter_some (suc k) line (StandardText which) is at around e = absurd ((code_there s code compiled (suc k) (StandardText which) is).has)
 
   pub enter : (k line : ℕ) → Follows (EnterOp k line)
   enter k line a =

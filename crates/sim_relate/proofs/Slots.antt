@@ -18,7 +18,7 @@ use Rattle.sim_code.proofs.Lifts.{Both, EachAt}
 use Rattle.sim_meaning.specs.Pending.{Held, Key, Val, held, held_set, same_key}
 use Rattle.sim_meaning.specs.Pending as meaning
 use Rattle.sim_meaning.specs.Entries.{cells_from, filled, filled_behind, first_cells, held_before, of_kind, with_cell, with_result}
-use Rattle.sim_meaning.specs.Texts.{BlockText, ClassText, ConnectionText, PrefixedText, ProcedureText, Text, kind_named, kind_of_type}
+use Rattle.sim_meaning.specs.Texts.{BlockText, ProcedureText, Text, kind_named, kind_of_type}
 use Rattle.codegen_expr.specs.Sites.{place_of}
 use Rattle.codegen.specs.Compiled.{type_of_cell, type_of_value}
 use Rattle.sim_relate.proofs.Relation.{CellsAt, key_of, value_of}
@@ -189,9 +189,7 @@ module _ (W : Val → Value → Type 0) where
   unfolding first_cells
   first_all s k (BlockText begin ds ss) = first_from s _
   first_all s k (ProcedureText result h a) = first_result result _ (first_from s _)
-  first_all s k (ClassText prefix h a) = tt
-  first_all s k (PrefixedText class arguments ds ss) = tt
-  first_all s k ConnectionText = tt
+  first_all s k _ = tt
 
   module _ (plain_at : (p : Plain) → W (meaning.Of p) (machine.Of p)) where
     first_kind : (k : Kind) → Both W (of_kind k) (first_value (type_of_value (of_kind k)))

@@ -5,7 +5,7 @@ ghost use Rattle.sim_scope.specs.Source.{source_of};
 ghost use Rattle.object_machine.specs.Taking.{TakesNothing as CodeTakesNothing};
 ghost use Rattle.sim_run.specs.RunEnds.{Broken, CodeBroken, CodeRan, HasEnd, InputAfter, IsRuled, IsRunnable, OutputAfter, Ran, TakesNothing};
 
-use codegen::{Uncompiled, compile};
+use codegen::compile;
 use object_machine::run;
 use sim_base::{Limits, Line, RunError};
 use sim_code::laws::output_grows;
@@ -84,8 +84,7 @@ pub fn compile_and_run<I: Source, O: Sink>(
     output_grows();
     match compile(alloc, bound) {
         Ok(code) => run_code(alloc, &code, limits, input, out),
-        Err(Uncompiled::NotBuilt) => unreachable!(),
-        Err(Uncompiled::Memory) => Err(RunFailure::Memory),
+        Err(_) => Err(RunFailure::Memory),
     }
 }
 

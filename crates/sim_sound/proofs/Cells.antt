@@ -5,7 +5,7 @@ use Rattle.sim_scope.specs.Source.{Source}
 use Rattle.sim_values.specs.declared.kind.Kind.{Kind}
 use Rattle.sim_code.specs.Instances.{Instance, live}
 use Rattle.sim_meaning.specs.Pending.{ArrayValue, Connection, Declared, Held, Instances, Key, Of, Result, Val, cell, cell_set, held, held_set}
-use Rattle.sim_meaning.specs.Texts.{BlockText, ClassText, ConnectionText, PrefixedText, ProcedureText, Text, text}
+use Rattle.sim_meaning.specs.Texts.{BlockText, ProcedureText, Text, text}
 use Rattle.sim_sound.specs.Typed.{Among, ArrayOf, Holds, Simply, key_holds, result_holds}
 use Rattle.sim_sound.proofs.Sound.{AllArrays, Begun, CellIs, CellTarget, InstanceFine, KeyAmong, Made, Present, StoreFine, ValFine, in_whole, keys_in, own_made}
 use Rattle.sim_sound.proofs.Changes.{held_fine, held_plain, set_there}
@@ -21,9 +21,7 @@ result_simple : (x : Option Text) (k : Kind) → result_holds x ≡ Some (ArrayO
 result_simple (Some (ProcedureText (Some type) g a)) k e = cc
 result_simple (Some (ProcedureText None g a)) k e = cc
 result_simple (Some (BlockText b ds ss)) k e = cc
-result_simple (Some (ClassText p g a)) k e = cc
-result_simple (Some (PrefixedText c es ds ss)) k e = cc
-result_simple (Some ConnectionText) k e = cc
+result_simple (Some _) k e = cc
 result_simple None k e = cc
 
 -- an array is held by the cell of a declaration

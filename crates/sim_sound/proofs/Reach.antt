@@ -13,7 +13,7 @@ use Rattle.sim_tree.specs.Syntax.{Heading, Statement}
 use Rattle.sim_code.specs.Instances.{Instance, at_level, found_at, level_within, live, outward}
 use Rattle.sim_meaning.specs.Entries.{cells_from, first_cells, numbers_of, with_cell, with_result}
 use Rattle.sim_meaning.specs.Pending.{Declared, Held, Instances, Key, Result}
-use Rattle.sim_meaning.specs.Texts.{BlockText, ClassText, ConnectionText, PrefixedText, ProcedureText, Text, text}
+use Rattle.sim_meaning.specs.Texts.{BlockText, ProcedureText, Text, text}
 use Rattle.sim_sound.specs.Typed.{Among, Around, Holds, Sees, TextTyped, Typed, entry_holds, first, further, itself, later}
 use Rattle.sim_sound.proofs.Sound.{AllArrays, Begun, Enclosed, InstanceFine, KeyAmong, Present, StoreFine, Whole, alone, first_key, key_of, keys_in, later_key, within}
 use Rattle.sim_sound.proofs.Cells.{fine_at}
@@ -110,9 +110,7 @@ module _ (s : Source) where
   unfolding first_cells
   key_in u d h (BlockText begin ds ss) ok e a = key_among d h (numbers_of s u) e a
   key_in u d h (ProcedureText result g b) ok e a = key_result result (Declared d.0) (cells_from s (numbers_of s u)) (key_among d h (numbers_of s u) e a)
-  key_in u d h (ClassText prefix g b) ok e a = absurd ok
-  key_in u d h (PrefixedText c es ds ss) ok e a = absurd ok
-  key_in u d h ConnectionText ok e a = absurd ok
+  key_in u d h _ ok e a = absurd ok
 
   module _ (ok : Typed s) where
     among_row : (d : DeclNo) (r : Option Declaration) (x : Entry) → slice_get s.tables.declarations d.0 ≡ r → entry_in r ≡ Some x → Among d (numbers_of s (block_of_row r))

@@ -9,6 +9,7 @@ use Rattle.std.specs.declared.vec.Vec.{Vec}
 use Rattle.sim_base.specs.declared.numbering.DeclNo.{DeclNo}
 use Rattle.sim_base.specs.declared.numbering.TokenNo.{TokenNo}
 use Rattle.sim_scope.specs.declared.bound.Bound.{Bound}
+use Rattle.sim_scope.specs.declared.types.StandardClass.{StandardClass}
 use Rattle.sim_scope.specs.declared.scopes.Declaration.{Declaration as Row}
 use Rattle.sim_scope.specs.Access.{joined}
 use Rattle.sim_scope.specs.Source.{Source, source_of}
@@ -35,7 +36,7 @@ use Rattle.codegen_expr.specs.declared.cells.ConstantValue.TheVariants as value
 use Rattle.codegen_expr.specs.Known.{plain_in}
 use Rattle.program_texts.specs.declared.tree.TextTree.{TextTree}
 use Rattle.program_texts.specs.declared.tree.TextTree.TheVariants as tree
-use Rattle.program_texts.specs.TextTrees.{AreTexts, block_text, prefixed_text, text_in}
+use Rattle.program_texts.specs.TextTrees.{AreTexts, block_text, class_text, heading_of, prefixed_text, text_in}
 use Rattle.text_tables.specs.declared.constants.Entered.{Entered}
 use Rattle.text_tables.specs.Constants.{Among, ConstantsOf, Enters, GatheredTo, Gathers, Grown, IsValue, IsValueIn, OwesDeclarations, OwesFirst, OwesVariables, Reaches, Table, TextGathers, among_decls, among_declaration, among_variable, among_variable_list, constant_row, entered_at, entered_in, first_of, found_at, found_in, or_else}
 use Rattle.text_tables.specs.Making.{Passes}
@@ -255,11 +256,22 @@ module _ (k : ℕ) where
   pub gather_in_procedure : (a : Table) (x : TextTree) (r : Bor (Option TypeName)) (q : Bor Procedure) → x ≡ tree.Procedure r q → TextGathers k a a x
   gather_in_procedure a x r q is = no_constants a x (tree.Procedure r q) is (λ s t. refl)
 
-  pub gather_in_class : (a : Table) (x : TextTree) (r : Bor (Option Identifier)) (q : Bor Class) → x ≡ tree.Class r q → TextGathers k a a x
-  gather_in_class a x r q is = no_constants a x (tree.Class r q) is (λ s t. refl)
+  pub gather_class_block : (a b : Table) (x : TextTree) (r : Bor (Option Identifier)) (q : Bor Class) (k' : Bor Block) (ds : List Decl) → x ≡ tree.Class r q k' → ds ≡ k'.now.declarations.items → Gathers k a b (among_decls ds) → TextGathers k a b x
+  gather_class_block a b x r q k' ds is same f = record {
+    here = λ free s t.
+        f.here s t None ∙ free s t (among_decls ds s t None) ∙ all_declarations s t ds ∙ ap (λ z. among_declarations s t (declarations (map declaration_syntax z))) same
+        ∙ ap (λ z. constant_in s (Some (class_text r.now (heading_of q.now) z)) t) (sym (syntax-block k'.now.token k'.now.declarations k'.now.statements k'.now.end)) ∙ ap (λ z. constant_in s (Some (text_in z)) t) (sym is);
+    elsewhere = f.elsewhere;
+  }
+
+  pub gather_in_class : (a : Table) (x : TextTree) (r : Bor (Option Identifier)) (q : Bor Class) → x ≡ tree.ClassOfStatement r q → TextGathers k a a x
+  gather_in_class a x r q is = no_constants a x (tree.ClassOfStatement r q) is (λ s t. refl)
 
   pub gather_in_connection : (a : Table) (x : TextTree) → x ≡ tree.Connection → TextGathers k a a x
   gather_in_connection a x is = no_constants a x tree.Connection is (λ s t. refl)
+
+  pub gather_in_standard : (a : Table) (x : TextTree) (w : StandardClass) → x ≡ tree.Standard w → TextGathers k a a x
+  gather_in_standard a x w is = no_constants a x (tree.Standard w) is (λ s t. refl)
 
 -- ---- all texts
 
@@ -321,4 +333,4 @@ constants_known b ts values are f x =
     row_join None = refl
     row_join (Some row) = ap (λ z. constant_in (source_of b) z row.token.0) (sym (text_at b ts row.block are))
 
-pub ruleset gathering = (value_integer, value_character, value_text, value_true, value_false, value_some, value_none, first_all, first_next, first_here, first_end, grown_first, grown_next, grown_end, enters_now, gather_one, variables_all, variables_next, variables_end, gather_variables, gather_arrays, gather_procedure, gather_class, declarations_all, declarations_next, declarations_end, gather_block, gather_prefixed, gather_in_procedure, gather_in_class, gather_in_connection, gathered_first, gathered_next, gathered_end, values_first, values_next, values_end)
+pub ruleset gathering = (value_integer, value_character, value_text, value_true, value_false, value_some, value_none, first_all, first_next, first_here, first_end, grown_first, grown_next, grown_end, enters_now, gather_one, variables_all, variables_next, variables_end, gather_variables, gather_arrays, gather_procedure, gather_class, declarations_all, declarations_next, declarations_end, gather_block, gather_prefixed, gather_in_procedure, gather_in_class, gather_class_block, gather_in_connection, gather_in_standard, gathered_first, gathered_next, gathered_end, values_first, values_next, values_end)

@@ -9,6 +9,7 @@ use Rattle.std.specs.Borrow.{Bor}
 use Rattle.sim_base.specs.declared.numbering.DeclNo.{DeclNo}
 use Rattle.sim_scope.specs.declared.bound.Bound.{Bound}
 use Rattle.sim_scope.specs.declared.scopes.Declaration.{Declaration}
+use Rattle.sim_scope.specs.declared.types.StandardClass.{StandardClass}
 use Rattle.sim_scope.specs.declared.types.Entry.{Entry}
 use Rattle.sim_scope.specs.declared.types.Entry.TheVariants as entry
 use Rattle.sim_scope.specs.Access.{joined}
@@ -20,18 +21,18 @@ use Rattle.sim_tree.specs.declared.stmt.Class.{Class}
 use Rattle.sim_tree.specs.declared.stmt.Procedure.{Procedure}
 use Rattle.sim_tree.specs.declared.stmt.TypeName.{TypeName}
 use Rattle.sim_tree.specs.declared.expr.Identifier.{Identifier}
-use Rattle.sim_tree.specs.Syntax.{Begin, Heading, Prefix, Statement}
+use Rattle.sim_tree.specs.Syntax.{Also, Begin, Heading, NoDeclaration, NoStatement, Prefix, Statement}
 use Rattle.sim_tree.specs.Syntax.{Block as BlockSyntax}
 use Rattle.sim_tree.specs.SyntaxOfProgram.{block_syntax, prefix_syntax}
 use Rattle.sim_meaning.specs.Entries.{cells_from, first_cells, numbers_of, with_cell, with_result}
 use Rattle.sim_meaning.specs.Pending.{Declared, Held, Key, Val, same_key}
-use Rattle.sim_meaning.specs.Texts.{ClassText, ConnectionText, ProcedureText, Text, text}
+use Rattle.sim_meaning.specs.Texts.{ClassText, ConnectionText, ProcedureText, StandardText, Text, text}
 use Rattle.codegen_expr.specs.Built.{place_from, slot_in}
 use Rattle.codegen_expr.specs.Known.{has_result, number_or, truth_or_false}
 use Rattle.codegen_expr.specs.Sites.{cells_in}
 use Rattle.program_texts.specs.declared.tree.TextTree.{TextTree}
 use Rattle.program_texts.specs.declared.tree.TextTree.TheVariants as tree
-use Rattle.program_texts.specs.TextTrees.{AreTexts, block_text, prefixed_text, text_in}
+use Rattle.program_texts.specs.TextTrees.{AreTexts, block_text, class_text, heading_of, prefixed_text, text_in}
 use Rattle.text_tables.proofs.Passing.{get_map, pass_all, pass_end, pass_next}
 use Rattle.text_tables.specs.Making.{FilledTo, IsPlaced, OwesPlaces, PlacedTo, Places, PlacesCells, cell_alone, has_cell, is_result, is_some, slot_at}
 
@@ -295,22 +296,36 @@ module _ (s : Source) (k : ℕ) where
       places_as a b 0 n (cells_from s ns) (first_cells s k (text_in x))
       (ap (cells_from s) en ∙ ap (λ z. with_result z (cells_from s (numbers_of s k))) (sym none) ∙ procedure_cells r.now _ _ ∙ ap (λ z. first_cells s k (text_in z)) (sym is)) f
 
-  class_cells : (prefix : Option Identifier) (h : Heading) (a : Statement) → [] ≡ first_cells s k (ClassText prefix h a)
+  class_cells : (prefix : Option Identifier) (h : Heading) (z : BlockSyntax) → [] ≡ first_cells s k (class_text prefix h z)
   unfolding first_cells
-  class_cells prefix h a = refl
+  class_cells prefix h (Begin i ds ss e) = refl
+
+  statement_cells : (prefix : Option Identifier) (h : Heading) (a : Statement) → [] ≡ first_cells s k (ClassText prefix h NoDeclaration (Also a NoStatement))
+  unfolding first_cells
+  statement_cells prefix h a = refl
 
   connection_cells : [] ≡ first_cells s k ConnectionText
   unfolding first_cells
   connection_cells = refl
 
-  pub place_class : (a : List (Option ℕ)) (x : TextTree) (r : Bor (Option Identifier)) (q : Bor Class) → x ≡ tree.Class r q → Places s k a a 0 (first_cells s k (text_in x)) 0
-  place_class a x r q is = places_as a a 0 0 [] (first_cells s k (text_in x)) (class_cells r.now _ _ ∙ ap (λ z. first_cells s k (text_in z)) (sym is)) (places_none a 0)
+  standard_cells : (which : StandardClass) → [] ≡ first_cells s k (StandardText which)
+  unfolding first_cells
+  standard_cells which = refl
+
+  pub place_class : (a : List (Option ℕ)) (x : TextTree) (r : Bor (Option Identifier)) (q : Bor Class) (z : Bor Block) → x ≡ tree.Class r q z → Places s k a a 0 (first_cells s k (text_in x)) 0
+  place_class a x r q z is = places_as a a 0 0 [] (first_cells s k (text_in x)) (class_cells r.now _ (block_syntax z.now) ∙ ap (λ z. first_cells s k (text_in z)) (sym is)) (places_none a 0)
+
+  pub place_class_of_statement : (a : List (Option ℕ)) (x : TextTree) (r : Bor (Option Identifier)) (q : Bor Class) → x ≡ tree.ClassOfStatement r q → Places s k a a 0 (first_cells s k (text_in x)) 0
+  place_class_of_statement a x r q is = places_as a a 0 0 [] (first_cells s k (text_in x)) (statement_cells r.now _ _ ∙ ap (λ z. first_cells s k (text_in z)) (sym is)) (places_none a 0)
 
   pub place_prefixed : (a : List (Option ℕ)) (x : TextTree) (p : Bor BlockPrefix) (q : Bor Block) → x ≡ tree.Prefixed p q → Places s k a a 0 (first_cells s k (text_in x)) 0
   place_prefixed a x p q is = places_as a a 0 0 [] (first_cells s k (text_in x)) (prefixed_cells (prefix_syntax p.now) (block_syntax q.now) ∙ ap (λ z. first_cells s k (text_in z)) (sym is)) (places_none a 0)
 
   pub place_connection : (a : List (Option ℕ)) (x : TextTree) → x ≡ tree.Connection → Places s k a a 0 (first_cells s k (text_in x)) 0
   place_connection a x is = places_as a a 0 0 [] (first_cells s k (text_in x)) (connection_cells ∙ ap (λ z. first_cells s k (text_in z)) (sym is)) (places_none a 0)
+
+  pub place_standard : (a : List (Option ℕ)) (x : TextTree) (which : StandardClass) → x ≡ tree.Standard which → Places s k a a 0 (first_cells s k (text_in x)) 0
+  place_standard a x which is = places_as a a 0 0 [] (first_cells s k (text_in x)) (standard_cells which ∙ ap (λ z. first_cells s k (text_in z)) (sym is)) (places_none a 0)
 
 pub place_one_of : (b : Bound) (k : ℕ) (a c : List (Option ℕ)) (d : DeclNo) (e : Option Entry) (cell n : ℕ) (u : Bool) → e ≡ entry_of b.scopes d → u ≡ has_cell e → u ≡ true → IsPlaced (source_of b) k a c d cell → n ≡ suc cell → Places (source_of b) k a c cell (cell_alone (source_of b) d) n
 unfolding source_of
@@ -396,12 +411,15 @@ result_of (tree.Procedure r q) = cases r.now _ _
     cases : (o : Option TypeName) (h : Heading) (a : Statement) → is_some o ≡ has_result (Some (ProcedureText o h a))
     cases None h a = refl
     cases (Some type) h a = refl
-result_of (tree.Class r q) = refl
+result_of (tree.Class r q z) = block (block_syntax z.now)
+  where
+    block : (z : BlockSyntax) → false ≡ has_result (Some (class_text r.now (heading_of q.now) z))
+    block (Begin i ds ss e) = refl
 result_of (tree.Prefixed p r) = block (block_syntax r.now)
   where
     block : (z : BlockSyntax) → false ≡ has_result (Some (prefixed_text (prefix_syntax p.now) z))
     block (Begin i ds ss e) = refl
-result_of tree.Connection = refl
+result_of _ = refl
 
 pub results_known : (b : Bound) (ts : List TextTree) (results : List Bool) → AreTexts b.program ts → results ≡ map is_result ts → (k : ℕ) → truth_or_false (slice_get results k) ≡ has_result (text (source_of b) k)
 results_known b ts results are e k = ap (λ z. truth_or_false (slice_get z k)) e ∙ ap truth_or_false (get_map is_result ts k) ∙ cases (slice_get ts k) ∙ ap has_result (sym (text_at b ts k are))
@@ -410,4 +428,4 @@ results_known b ts results are e k = ap (λ z. truth_or_false (slice_get z k)) e
     cases None = refl
     cases (Some x) = result_of x
 
-pub ruleset placing = (pass_all, pass_next, pass_end, placed_outside, placed_before, placed_beyond, placed_now, owes_places_all, place_block, place_result, place_plain, place_class, place_prefixed, place_connection, placed_first, placed_next, placed_end)
+pub ruleset placing = (pass_all, pass_next, pass_end, placed_outside, placed_before, placed_beyond, placed_now, owes_places_all, place_block, place_result, place_plain, place_class, place_prefixed, place_connection, place_class_of_statement, place_standard, placed_first, placed_next, placed_end)

@@ -195,9 +195,13 @@ fn gather_text(
         TextTree::Prefixed { block, .. } => {
             gather_declarations(alloc, table, number, &block.declarations)
         }
+        TextTree::Class { block, .. } => {
+            gather_declarations(alloc, table, number, &block.declarations)
+        }
+        TextTree::ClassOfStatement { .. } => Ok(()),
         TextTree::Procedure { .. } => Ok(()),
-        TextTree::Class { .. } => Ok(()),
         TextTree::Connection => Ok(()),
+        TextTree::Standard(_) => Ok(()),
     }
 }
 

@@ -149,8 +149,10 @@ fn place_text(
             None => place_all(bound, slots, number, 0, numbers_of(bound, number)),
         },
         TextTree::Class { .. } => Ok(0),
+        TextTree::ClassOfStatement { .. } => Ok(0),
         TextTree::Prefixed { .. } => Ok(0),
         TextTree::Connection => Ok(0),
+        TextTree::Standard(_) => Ok(0),
     }
 }
 
