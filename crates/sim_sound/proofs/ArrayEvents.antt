@@ -138,20 +138,20 @@ module _ {S : Type 0} (P : World → S → Type 0) where
       go t w x (record { owned = refl; back = refl; kinds = h.kinds; count = h.count })))
 
   -- the array in hand
-  pub array_is : (a : AllArrays) (j : ℕ) (k : Kind) (v : Val) (o : World) (f : ℕ → Run S) → ValFine a j (ArrayOf k) v → ((n : ℕ) → ArrayFine a j k n → v ≡ ArrayValue n → Goes P (f n)) → Goes P (having (array_in v) o f)
-  array_is a j k (ArrayValue n) o f h x = had P (Some n) n o f refl (x n h refl)
-  array_is a j k (Of i) o f h x = absurd h
-  array_is a j k (Link i) o f h x = absurd h
-  array_is a j k (Address i) o f h x = absurd h
-  array_is a j k (ProcedureValue t i) o f h x = absurd h
-  array_is a j k (Tree t) o f h x = absurd h
+  pub array_is : (s : Source) (a : AllArrays) (m : Instances) (j : ℕ) (k : Kind) (v : Val) (o : World) (f : ℕ → Run S) → ValFine s a m j (ArrayOf k) v → ((n : ℕ) → ArrayFine a j k n → v ≡ ArrayValue n → Goes P (f n)) → Goes P (having (array_in v) o f)
+  array_is s a m j k (ArrayValue n) o f h x = had P (Some n) n o f refl (x n h refl)
+  array_is s a m j k (Of i) o f h x = absurd h
+  array_is s a m j k (Link i) o f h x = absurd h
+  array_is s a m j k (Address i) o f h x = absurd h
+  array_is s a m j k (ProcedureValue t i) o f h x = absurd h
+  array_is s a m j k (Tree t) o f h x = absurd h
 
   pub found_element : (s : Source) (m : Instances) (j : ℕ) (k : Kind) (n line : ℕ) (left : List Kinds) (vals : List Val) (o : World) (g : List Sight) (f : ℕ → ℕ → List Val → Run S) → HandsFine s (see g o) m j (integers n (Value (ArrayOf k) ∷ left)) vals → ((array index : ℕ) (rest : List Val) → ElementFine (see g o) j k array index → HandsFine s (see g o) m j left rest → Goes P (f array index rest)) → Goes P (finding_element plain array_in n line vals o f)
   unfolding finding_element
   found_element s m j k n line left vals o g f h go =
       integers_popped P s (see g o) m j n (Value (ArrayOf k) ∷ left) [] vals o (λ subscripts rest. popping rest o (λ v rest. having (array_in v) o (λ array. having (live_array o array) o (λ a. computing line (element_place a.bounds subscripts) o (λ index. f array index rest))))) h (λ zs rest more.
       any_popped P s (see g o) m j (Value (ArrayOf k)) left rest o (λ v rest. having (array_in v) o (λ array. having (live_array o array) o (λ a. computing line (element_place a.bounds zs) o (λ index. f array index rest)))) more (λ v rest is here most.
-      array_is (see g o) j k v o (λ array. having (live_array o array) o (λ a. computing line (element_place a.bounds zs) o (λ index. f array index rest))) here (λ array fine same.
+      array_is s (see g o) m j k v o (λ array. having (live_array o array) o (λ a. computing line (element_place a.bounds zs) o (λ index. f array index rest))) here (λ array fine same.
       had P (live_array o array) fine.it o (λ a. computing line (element_place a.bounds zs) o (λ index. f array index rest)) fine.lives (
       computed P line (element_place (fine.it).bounds zs) o (λ index. f array index rest) (λ index e.
       go array index rest (record { array = fine; there = subst (λ x. index < x) (sym fine.count) (place_there (fine.it).bounds zs index e) }) most)))))

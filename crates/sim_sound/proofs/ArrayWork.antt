@@ -27,7 +27,7 @@ module _ (s : Source) (ok : Typed s) (o : AllArrays) (m : Instances) (j k : ℕ)
   AllThere todo = (d : DeclNo) → Among d todo → (h : Holds) → entry_holds (entry_of s.tables d) ≡ Some h → KeyAmong (Declared d.0) (keys_in s k (text s k))
 
   bounds_eval : (e : Expression) (todo : List DeclNo) (w : List Item) (ks : List Kinds) → ExprIs s (encloser s.tables k) e (Simply kind.Integer) → Wk w todo (Value (Simply kind.Integer) ∷ ks) → Wk (Do (Eval (close s m j e)) ∷ w) todo ks
-  bounds_eval e todo w ks a x = (todo, Value (Simply kind.Integer) ∷ ks, (simple kind.Integer, expr_fine s ok o m j k todo (encloser s.tables k) (reaches_around s ok o m j k all b) e (Simply kind.Integer) a, refl, refl), x)
+  bounds_eval e todo w ks a x = (todo, Value (Simply kind.Integer) ∷ ks, (simple kind.Integer, expr_fine s ok m j k todo (encloser s.tables k) (reaches_around s ok o m j k all b) e (Simply kind.Integer) a, refl, refl), x)
 
   integers_more : (n : ℕ) (ks : List Kinds) → integers n (Value (Simply kind.Integer) ∷ ks) ≡ Value (Simply kind.Integer) ∷ integers n ks
   integers_more zero ks = refl

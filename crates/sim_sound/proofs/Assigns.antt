@@ -30,15 +30,15 @@ module _ (s : Source) (ok : Typed s) (o : AllArrays) (m : Instances) (i t : ℕ)
 
   abbrev pub EachFine : List Target → Type 0
   EachFine [] = Unit {0}
-  EachFine (x ∷ xs) = ((ks : List Kinds) → TargetFine s o m i x k (address x ks) ks) × EachFine xs
+  EachFine (x ∷ xs) = ((ks : List Kinds) → TargetFine s m i x k (address x ks) ks) × EachFine xs
 
-  targets_append : (xs : List Target) (y : Target) (before middle behind : List Kinds) → TargetsFine s o m i xs k before middle → TargetFine s o m i y k middle behind → TargetsFine s o m i (xs ++ y ∷ []) k before behind
-  targets_append [] y before middle behind a b = (behind, subst (λ z. TargetFine s o m i y k z behind) a b, refl)
+  targets_append : (xs : List Target) (y : Target) (before middle behind : List Kinds) → TargetsFine s m i xs k before middle → TargetFine s m i y k middle behind → TargetsFine s m i (xs ++ y ∷ []) k before behind
+  targets_append [] y before middle behind a b = (behind, subst (λ z. TargetFine s m i y k z behind) a b, refl)
   targets_append (x ∷ xs) y before middle behind a b = (a.0, a.1, targets_append xs y a.0 middle behind a.2 b)
 
-  pub shared : (xs : List Target) (ks : List Kinds) → EachFine xs → TargetsFine s o m i (reverse xs) k (addresses xs ks) ks
+  pub shared : (xs : List Target) (ks : List Kinds) → EachFine xs → TargetsFine s m i (reverse xs) k (addresses xs ks) ks
   shared [] ks a = refl
-  shared (x ∷ xs) ks a = subst (λ z. TargetsFine s o m i z k (addresses xs (address x ks)) ks) (sym (reverse_first x xs)) (targets_append (reverse xs) x (addresses xs (address x ks)) (address x ks) ks (shared xs (address x ks) a.1) (a.0 ks))
+  shared (x ∷ xs) ks a = subst (λ z. TargetsFine s m i z k (addresses xs (address x ks)) ks) (sym (reverse_first x xs)) (targets_append (reverse xs) x (addresses xs (address x ks)) (address x ks) ks (shared xs (address x ks) a.1) (a.0 ks))
 
   -- what is found of left sides
   pub record Found (es : List LeftSide) : Type 0 where

@@ -9,7 +9,7 @@ use Rattle.sim_code.specs.Outcome.{ArrayOf as OneArray, World}
 use Rattle.sim_code.specs.Arrays.{owned_by, unless_given, with_array}
 use Rattle.sim_meaning.specs.Pending.{Activation, ArrayValue, Declared, Held, Instances, Key, Of, Val, before, held, held_set, same_key}
 use Rattle.sim_meaning.specs.Pending as meaning
-use Rattle.sim_sound.specs.Typed.{ArrayOf, Holds, Simply, key_holds}
+use Rattle.sim_sound.specs.Typed.{ArrayOf, Holds, Refers, Simply, key_holds}
 use Rattle.sim_sound.proofs.Sound.{AllArrays, ArrayFine, CellFine, CellsFine, CopyFine, ElementFine, Hidden, KeyAmong, Open, Sight, ValFine, first_key, key_of, later_key, see}
 use Rattle.sim_sound.proofs.Later.{Copies, Later}
 use Rattle.sim_sound.proofs.Lists.{append_at, append_before, equal_numbers, if_false, if_true, no_some, numbers_equal, other_numbers, same_some, set_len, set_other, set_same}
@@ -21,6 +21,7 @@ arrays_later s o o' m bound f g = record {
   arrays = f;
   elements = g;
   present = λ j t todo lt x. x;
+  objects = λ j c x. x;
 }
 
 -- one array more
@@ -177,13 +178,15 @@ equal_same (Declared d) = equal_numbers d d refl
 equal_same meaning.Result = refl
 equal_same (meaning.Connection e) = equal_numbers e e refl
 
-pub cell_of : (o : AllArrays) (j : ℕ) (h : Holds) (v : Val) → ValFine o j h v → CellFine o j (Some h) (Some v)
-cell_of o j (Simply k) v a = a
-cell_of o j (ArrayOf k) v a = a
+pub cell_of : (s : Source) (o : AllArrays) (m : Instances) (j : ℕ) (h : Holds) (v : Val) → ValFine s o m j h v → CellFine s o m j (Some h) (Some v)
+cell_of s o m j (Simply k) v a = a
+cell_of s o m j (Refers c) v a = a
+cell_of s o m j (ArrayOf k) v a = a
 
-pub cell_is : (o : AllArrays) (j : ℕ) (h : Holds) (v : Val) → CellFine o j (Some h) (Some v) → ValFine o j h v
-cell_is o j (Simply k) v a = a
-cell_is o j (ArrayOf k) v a = a
+pub cell_is : (s : Source) (o : AllArrays) (m : Instances) (j : ℕ) (h : Holds) (v : Val) → CellFine s o m j (Some h) (Some v) → ValFine s o m j h v
+cell_is s o m j (Simply k) v a = a
+cell_is s o m j (Refers c) v a = a
+cell_is s o m j (ArrayOf k) v a = a
 
 -- a cell that is set
 module _ (key : Key) (v : Val) where
@@ -211,15 +214,15 @@ module _ (key : Key) (v : Val) where
       by_set ih (set_here b is) = ap (map key_of) is
       by_set ih (set_later rest b f is) = ap (map key_of) is ∙ ap (λ x. key_of h ∷ x) (ih rest f)
 
-  pub cells_set : (s : Source) (o : AllArrays) (j t : ℕ) (x : Holds) → key_holds s t key ≡ Some x → ValFine o j x v → (hs hs' : List Held) → held_set key v hs ≡ Some hs' → CellsFine s o j t hs → CellsFine s o j t hs'
-  cells_set s o j t x is fine [] hs' e a = absurd (cc)
-  cells_set s o j t x is fine (h ∷ hs) hs' e a = by_set (λ rest f. cells_set s o j t x is fine hs rest f a.1) (set_at h hs hs' e)
+  pub cells_set : (s : Source) (o : AllArrays) (m : Instances) (j t : ℕ) (x : Holds) → key_holds s t key ≡ Some x → ValFine s o m j x v → (hs hs' : List Held) → held_set key v hs ≡ Some hs' → CellsFine s o m j t hs → CellsFine s o m j t hs'
+  cells_set s o m j t x is fine [] hs' e a = absurd (cc)
+  cells_set s o m j t x is fine (h ∷ hs) hs' e a = by_set (λ rest f. cells_set s o m j t x is fine hs rest f a.1) (set_at h hs hs' e)
     where
-      by_set : ((rest : List Held) → held_set key v hs ≡ Some rest → CellsFine s o j t rest) → SetAt h hs hs' → CellsFine s o j t hs'
+      by_set : ((rest : List Held) → held_set key v hs ≡ Some rest → CellsFine s o m j t rest) → SetAt h hs hs' → CellsFine s o m j t hs'
       by_set ih (set_here b is') =
           let there : key_holds s t h.key ≡ Some x = ap (key_holds s t) (same_equal h.key key b) ∙ is in
-          subst (CellsFine s o j t) (sym is') (subst (λ y. CellFine o j y (Some v)) (sym there) (cell_of o j x v fine), a.1)
-      by_set ih (set_later rest b f is') = subst (CellsFine s o j t) (sym is') (a.0, ih rest f)
+          subst (CellsFine s o m j t) (sym is') (subst (λ y. CellFine s o m j y (Some v)) (sym there) (cell_of s o m j x v fine), a.1)
+      by_set ih (set_later rest b f is') = subst (CellsFine s o m j t) (sym is') (a.0, ih rest f)
 
   held_if_here : (k : Key) (h : Held) (hs : List Held) (b : Bool) → (if b then Some v else held k hs) ≡ None → (if b then h.value else held k hs) ≡ None
   held_if_here k h hs true e = absurd (cc)
@@ -264,22 +267,22 @@ module _ (key : Key) (v : Val) where
       let r = set_there more hs (cc) a in set_if h hs (same_key h.key key) r.0 r.1
 
 -- the cell of a key holds what it should, or nothing yet
-pub held_fine : (s : Source) (o : AllArrays) (j t : ℕ) (key : Key) (h : Holds) (hs : List Held) (v : Val) → key_holds s t key ≡ Some h → CellsFine s o j t hs → held key hs ≡ Some v → ValFine o j h v
-held_fine s o j t key h [] v is a e = absurd (cc)
-held_fine s o j t key h (x ∷ hs) v is a e = choice (λ f. held_fine s o j t key h hs v is a.1 f) (same_key x.key key) refl e
+pub held_fine : (s : Source) (o : AllArrays) (m : Instances) (j t : ℕ) (key : Key) (h : Holds) (hs : List Held) (v : Val) → key_holds s t key ≡ Some h → CellsFine s o m j t hs → held key hs ≡ Some v → ValFine s o m j h v
+held_fine s o m j t key h [] v is a e = absurd (cc)
+held_fine s o m j t key h (x ∷ hs) v is a e = choice (λ f. held_fine s o m j t key h hs v is a.1 f) (same_key x.key key) refl e
   where
-    choice : (held key hs ≡ Some v → ValFine o j h v) → (b : Bool) → same_key x.key key ≡ b → (if b then x.value else held key hs) ≡ Some v → ValFine o j h v
-    choice ih true b f = cell_is o j h v (subst (CellFine o j (Some h)) f (subst (λ y. CellFine o j y x.value) (ap (key_holds s t) (same_equal x.key key b) ∙ is) a.0))
+    choice : (held key hs ≡ Some v → ValFine s o m j h v) → (b : Bool) → same_key x.key key ≡ b → (if b then x.value else held key hs) ≡ Some v → ValFine s o m j h v
+    choice ih true b f = cell_is s o m j h v (subst (CellFine s o m j (Some h)) f (subst (λ y. CellFine s o m j y x.value) (ap (key_holds s t) (same_equal x.key key b) ∙ is) a.0))
     choice ih false b f = ih f
 
--- a plain cell that is there holds something
-pub held_plain : (s : Source) (o : AllArrays) (j t : ℕ) (key : Key) (k : Kind) (ks : List Key) (hs : List Held) → key_holds s t key ≡ Some (Simply k) → CellsFine s o j t hs → map key_of hs ≡ ks → KeyAmong key ks → held key hs ≡ None → ⊥
-held_plain s o j t key k ks [] is a same first_key e = cc
-held_plain s o j t key k ks [] is a same (later_key b) e = cc
-held_plain s o j t key k ks (x ∷ hs) is a same there e = choice (λ more f. held_plain s o j t key k (map key_of hs) hs is a.1 refl more f) (same_key x.key key) refl there e
+-- a cell that may not be empty holds something
+pub held_plain : (s : Source) (o : AllArrays) (m : Instances) (j t : ℕ) (key : Key) (x : Holds) → (CellFine s o m j (Some x) None → ⊥) → (ks : List Key) (hs : List Held) → key_holds s t key ≡ Some x → CellsFine s o m j t hs → map key_of hs ≡ ks → KeyAmong key ks → held key hs ≡ None → ⊥
+held_plain s o m j t key k full ks [] is a same first_key e = cc
+held_plain s o m j t key k full ks [] is a same (later_key b) e = cc
+held_plain s o m j t key k full ks (x ∷ hs) is a same there e = choice (λ more f. held_plain s o m j t key k full (map key_of hs) hs is a.1 refl more f) (same_key x.key key) refl there e
   where
-    nothing : (v : Option Val) → v ≡ None → CellFine o j (Some (Simply k)) v → ⊥
-    nothing None f c = c
+    nothing : (v : Option Val) → v ≡ None → CellFine s o m j (Some k) v → ⊥
+    nothing None f c = full c
     nothing (Some v) f c = cc
 
     among : x.key ≡ key ⊎ KeyAmong key (map key_of hs)
@@ -290,7 +293,7 @@ held_plain s o j t key k ks (x ∷ hs) is a same there e = choice (λ more f. he
         in_keys _ f (later_key {k = y} {ks = more} b) = inr (subst (KeyAmong key) (sym (cc)) b)
 
     choice : (KeyAmong key (map key_of hs) → held key hs ≡ None → ⊥) → (b : Bool) → same_key x.key key ≡ b → KeyAmong key ks → (if b then x.value else held key hs) ≡ None → ⊥
-    choice ih true b there f = nothing x.value f (subst (λ y. CellFine o j y x.value) (ap (key_holds s t) (same_equal x.key key b) ∙ is) a.0)
+    choice ih true b there f = nothing x.value f (subst (λ y. CellFine s o m j y x.value) (ap (key_holds s t) (same_equal x.key key b) ∙ is) a.0)
     choice ih false b there f =
         ⊎_elim
         (λ same'. let yes : same_key x.key key ≡ true = subst (λ y. same_key y key ≡ true) (sym same') (equal_same key) in cc)

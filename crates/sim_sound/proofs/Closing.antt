@@ -37,7 +37,7 @@ use Rattle.sim_meaning.specs.Names.{procedure_named, stream_named}
 use Rattle.sim_meaning.specs.Pending.{Cell, CallOf, CopyOf, Declared, ElementOf, Further, ImageOf, Instances, NoTerm, PlaceOf, StandardOf, Term, Terms, ValueAt}
 use Rattle.sim_meaning.specs.Texts.{ProcedureText, Text, constant_of, kind_of_type, text}
 use Rattle.sim_sound.specs.Typed.{ActualFits, ActualsFit, AreIntegers, AreOf, ArrayNames, ArrayOf, BehindGives, CallGives, ConstantNames, DeclaredGives, DotGives, ExprIs, HeldNames, Holds, LiteralIs, NameGives, NamedGives, OfText, Sees, Simply, SortKinds, StandardGives, Typed, VariableNames, entry_holds, formal_holds, named_kind, result_holds, result_kind, some_holds}
-use Rattle.sim_sound.proofs.Sound.{AddressOf, AllArrays, Copied, ImageAddress, IntegersFine, IsImage, Kinds, OperandIs, OperandsAre, OperandsFine, TermFine, TermsFine, Value, formal_kinds, held_kinds, in_hand, in_whole, simple}
+use Rattle.sim_sound.proofs.Sound.{AddressOf, Copied, ImageAddress, IntegersFine, IsImage, Kinds, OperandIs, OperandsAre, OperandsFine, TermFine, TermsFine, Value, formal_kinds, held_kinds, in_hand, in_whole, simple}
 use Rattle.sim_sound.proofs.Reach.{Reaches, among_block, key_there}
 
 -- ---- both words for the formal parameters
@@ -112,14 +112,14 @@ stream_denotes None = tt
 stream_denotes (Some (denotation.Declared d)) = tt
 stream_denotes (Some (denotation.Standard name)) = stream_found name
 
-module _ (s : Source) (ok : Typed s) (o : AllArrays) (m : Instances) (i t : ℕ) (todo : List DeclNo) (from : Option ℕ) (reach : Reaches s m i from) where
+module _ (s : Source) (ok : Typed s) (m : Instances) (i t : ℕ) (todo : List DeclNo) (from : Option ℕ) (reach : Reaches s m i from) where
   stream_is : (a : Expression) → StreamIs (stream_of s a)
   unfolding stream_of
   stream_is (syntax.Named name es) = stream_denotes (denoted s name.token.0)
   stream_is _ = tt
 
   abbrev Fine : Term → Option Kinds → Type 0
-  Fine x g = TermFine s o m i t todo x g
+  Fine x g = TermFine s m i t todo x g
 
   found_in : (x : Option ℕ) (j : ℕ) (f : ℕ → Term) (g : Option Kinds) → x ≡ Some j → Fine (f j) g → Fine (in_instance x f) g
   found_in x j f g e a = subst (λ y. Fine (in_instance y f) g) (sym e) a
@@ -136,12 +136,12 @@ module _ (s : Source) (ok : Typed s) (o : AllArrays) (m : Instances) (i t : ℕ)
   variable_fine d NoMore k h e a = cell_seen d (Simply k) (λ j. Cell j (Declared d.0)) (Some (Value h)) e a.1 (λ j c. subst (λ z. Fine (Cell j (Declared d.0)) (Some (Value z))) a.0 c)
   variable_fine d (Then x es) k h e a = absurd a
 
-  array_fine : (d : DeclNo) (line : ℕ) (es : Expressions) (ts : Terms) (Indices : Type 0) (k : Kind) (h : Holds) → entry_holds (entry_of s.tables d) ≡ Some (ArrayOf k) → (Indices → IntegersFine s o m i t todo ts) → ArrayNames s from d es Indices k h → Fine (array_term s m i line d es ts) (Some (Value h))
+  array_fine : (d : DeclNo) (line : ℕ) (es : Expressions) (ts : Terms) (Indices : Type 0) (k : Kind) (h : Holds) → entry_holds (entry_of s.tables d) ≡ Some (ArrayOf k) → (Indices → IntegersFine s m i t todo ts) → ArrayNames s from d es Indices k h → Fine (array_term s m i line d es ts) (Some (Value h))
   array_fine d line NoMore ts Indices k h e go a = cell_seen d (ArrayOf k) (λ j. Cell j (Declared d.0)) (Some (Value h)) e a.1 (λ j c. subst (λ z. Fine (Cell j (Declared d.0)) (Some (Value z))) a.0 c)
   array_fine d line (Then x es) ts Indices k h e go a =
       cell_seen d (ArrayOf k) (λ j. ValueAt (ElementOf line (Cell j (Declared d.0)) ts)) (Some (Value h)) e a.1 (λ j c. (k, AddressOf k, refl, ap (λ z. Some (Value z)) a.0, (k, refl, c, go a.2)))
 
-  formal_fine : (d : DeclNo) (f : Mode) (g : FormalKind) (ty : Option SimType) (line : ℕ) (es : Expressions) (ts : Terms) (Indices : Type 0) (h : Holds) → entry_holds (entry_of s.tables d) ≡ formal_holds f g ty → (Indices → IntegersFine s o m i t todo ts) → HeldNames s from d es Indices (formal_holds f g ty) h → Fine (formal_term s m i line d f g es ts) (Some (Value h))
+  formal_fine : (d : DeclNo) (f : Mode) (g : FormalKind) (ty : Option SimType) (line : ℕ) (es : Expressions) (ts : Terms) (Indices : Type 0) (h : Holds) → entry_holds (entry_of s.tables d) ≡ formal_holds f g ty → (Indices → IntegersFine s m i t todo ts) → HeldNames s from d es Indices (formal_holds f g ty) h → Fine (formal_term s m i line d f g es ts) (Some (Value h))
   formal_fine d mode.ByValue shape.Simple (Some ty) line es ts Indices h e go a = variable_fine d es (kind_of_type ty) h e a
   formal_fine d mode.ByReference shape.Simple (Some ty) line es ts Indices h e go a = variable_fine d es (kind_of_type ty) h e a
   formal_fine d mode.ByValue shape.Array (Some ty) line es ts Indices h e go a = array_fine d line es ts Indices (kind_of_type ty) h e go a
@@ -152,7 +152,7 @@ module _ (s : Source) (ok : Typed s) (o : AllArrays) (m : Instances) (i t : ℕ)
   constant_fine d NoMore h a = subst (λ z. Fine (constant_term z NoMore) (Some (Value h))) (sym a.1) (ap (λ z. Some (Value z)) a.2)
   constant_fine d (Then x es) h a = absurd a
 
-  call_fine : (d : DeclNo) (result : Option SimType) (k line : ℕ) (Actuals : List Formal → Type 0) (acts : List Formal → Terms) (h : Option Holds) → entry_of s.tables d ≡ Some (entry.Procedure result k) → ((fs : List Formal) → Actuals fs → TermsFine s o m i t todo (acts fs) (formal_kinds fs)) → Sees s.tables from (block_of s d) → Actuals (formals_of s k) → some_holds (result_kind result) ≡ h → Fine (in_instance (home_of s m i d) (λ j. CallOf j k (acts (closing.formals_at s d)) line)) (held_kinds h)
+  call_fine : (d : DeclNo) (result : Option SimType) (k line : ℕ) (Actuals : List Formal → Type 0) (acts : List Formal → Terms) (h : Option Holds) → entry_of s.tables d ≡ Some (entry.Procedure result k) → ((fs : List Formal) → Actuals fs → TermsFine s m i t todo (acts fs) (formal_kinds fs)) → Sees s.tables from (block_of s d) → Actuals (formals_of s k) → some_holds (result_kind result) ≡ h → Fine (in_instance (home_of s m i d) (λ j. CallOf j k (acts (closing.formals_at s d)) line)) (held_kinds h)
   unfolding home_of
   call_fine d result k line Actuals acts h e go sees a is =
       let x = reach (block_of s d) sees in
@@ -167,20 +167,20 @@ module _ (s : Source) (ok : Typed s) (o : AllArrays) (m : Instances) (i t : ℕ)
         body = p.body;
         is = p.is;
         gives = ap held_kinds (gives_same s k p.given result (text s k) p.same p.heading p.body p.is ∙ is);
-        actuals = subst (λ fs. TermsFine s o m i t todo (acts fs) (formal_kinds (formals_of s k))) (sym (formals_same s d result k e)) (go (formals_of s k) a);
+        actuals = subst (λ fs. TermsFine s m i t todo (acts fs) (formal_kinds (formals_of s k))) (sym (formals_same s d result k e)) (go (formals_of s k) a);
       })
 
-  calls_fine : (d : DeclNo) (result : Option SimType) (k line : ℕ) (Actuals : List Formal → Type 0) (acts : List Formal → Terms) (h : Option Holds) → entry_of s.tables d ≡ Some (entry.Procedure result k) → ((fs : List Formal) → Actuals fs → TermsFine s o m i t todo (acts fs) (formal_kinds fs)) → CallGives s from d result k Actuals h → Fine (in_instance (home_of s m i d) (λ j. CallOf j k (acts (closing.formals_at s d)) line)) (held_kinds h)
+  calls_fine : (d : DeclNo) (result : Option SimType) (k line : ℕ) (Actuals : List Formal → Type 0) (acts : List Formal → Terms) (h : Option Holds) → entry_of s.tables d ≡ Some (entry.Procedure result k) → ((fs : List Formal) → Actuals fs → TermsFine s m i t todo (acts fs) (formal_kinds fs)) → CallGives s from d result k Actuals h → Fine (in_instance (home_of s m i d) (λ j. CallOf j k (acts (closing.formals_at s d)) line)) (held_kinds h)
   calls_fine d (Some ty) k line Actuals acts h e go a = call_fine d (Some ty) k line Actuals acts h e go a.1 a.2 a.0
   calls_fine d None k line Actuals acts h e go a = call_fine d None k line Actuals acts h e go a.1 a.2 (sym a.0)
 
   -- a name of texts behind its text
-  of_text_fine : (line : ℕ) (ts : Terms) (Operands : List Kind → Type 0) → ((ks : List Kind) → Operands ks → OperandsFine s o m i t todo ts (value_kinds ks)) → (n : Standard) (first : Term) (x : Kinds) (h : Option Holds) → Fine first (Some x) → OperandIs kind.Text x → OfText n Operands h → Fine (StandardOf n (Further first ts) line) (held_kinds h)
+  of_text_fine : (line : ℕ) (ts : Terms) (Operands : List Kind → Type 0) → ((ks : List Kind) → Operands ks → OperandsFine s m i t todo ts (value_kinds ks)) → (n : Standard) (first : Term) (x : Kinds) (h : Option Holds) → Fine first (Some x) → OperandIs kind.Text x → OfText n Operands h → Fine (StandardOf n (Further first ts) line) (held_kinds h)
   of_text_fine line ts Operands ops n first x h f is a =
       let r = a.0 in
       (r.0, ap held_kinds r.1, x ∷ value_kinds a.1, subst (λ z. OperandsAre z (x ∷ value_kinds a.1)) (sym a.2) (is, values_are a.1), (x, value_kinds a.1, refl, f, ops a.1 a.3))
 
-  name_fine : (line : ℕ) (ts : Terms) (Operands : List Kind → Type 0) → ((ks : List Kind) → Operands ks → OperandsFine s o m i t todo ts (value_kinds ks)) → (is_image : Bool) (on : Option Standard) (n : Standard) (image : ℕ) (h : Option Holds) → IsImage image → NameGives is_image on n Operands h → Fine (name_term is_image on n image line ts) (held_kinds h)
+  name_fine : (line : ℕ) (ts : Terms) (Operands : List Kind → Type 0) → ((ks : List Kind) → Operands ks → OperandsFine s m i t todo ts (value_kinds ks)) → (is_image : Bool) (on : Option Standard) (n : Standard) (image : ℕ) (h : Option Holds) → IsImage image → NameGives is_image on n Operands h → Fine (name_term is_image on n image line ts) (held_kinds h)
   name_fine line ts Operands ops true on n image h is a = (kind.Text, ImageAddress, refl, ap held_kinds a.0, (refl, is))
   name_fine line ts Operands ops false (Some of_text) n image h is a = of_text_fine line ts Operands ops of_text (ImageOf image) ImageAddress h (refl, is) refl a
   name_fine line ts Operands ops false None n image h is a =
@@ -192,7 +192,7 @@ module _ (s : Source) (ok : Typed s) (o : AllArrays) (m : Instances) (i t : ℕ)
   unfolding row_of
   copy_fine line a f = (refl, refl, Value (Simply kind.Text) ∷ [], (refl, tt), (Value (Simply kind.Text), [], refl, f, refl))
 
-  module _ (line : ℕ) (es : Expressions) (ts : Terms) (acts : List Formal → Terms) (Indices : Type 0) (Operands : List Kind → Type 0) (Actuals : List Formal → Type 0) (ints : Indices → IntegersFine s o m i t todo ts) (ops : (ks : List Kind) → Operands ks → OperandsFine s o m i t todo ts (value_kinds ks)) (go : (fs : List Formal) → Actuals fs → TermsFine s o m i t todo (acts fs) (formal_kinds fs)) where
+  module _ (line : ℕ) (es : Expressions) (ts : Terms) (acts : List Formal → Terms) (Indices : Type 0) (Operands : List Kind → Type 0) (Actuals : List Formal → Type 0) (ints : Indices → IntegersFine s m i t todo ts) (ops : (ks : List Kind) → Operands ks → OperandsFine s m i t todo ts (value_kinds ks)) (go : (fs : List Formal) → Actuals fs → TermsFine s m i t todo (acts fs) (formal_kinds fs)) where
     declared_fine : (d : DeclNo) (e : Option Entry) (h : Option Holds) → entry_of s.tables d ≡ e → DeclaredGives s from d es Indices Actuals e h → Fine (declared_term s m i line d e es ts acts) (held_kinds h)
     declared_fine d (Some (entry.Procedure result k)) h e a = calls_fine d result k line Actuals acts h e go a
     declared_fine d (Some (entry.Constant ty)) (Some h) e a = constant_fine d es h a
@@ -240,19 +240,19 @@ module _ (s : Source) (ok : Typed s) (o : AllArrays) (m : Instances) (i t : ℕ)
       )
   variable_place_fine d (Then x es) k e a = absurd a
 
-  array_place_fine : (d : DeclNo) (line : ℕ) (es : Expressions) (ts : Terms) (Indices : Type 0) (k : Kind) → entry_holds (entry_of s.tables d) ≡ Some (ArrayOf k) → (Indices → IntegersFine s o m i t todo ts) → ArrayNames s from d es Indices k (Simply kind.Text) → Fine (array_place s m i line d es ts) (Some (AddressOf kind.Text))
+  array_place_fine : (d : DeclNo) (line : ℕ) (es : Expressions) (ts : Terms) (Indices : Type 0) (k : Kind) → entry_holds (entry_of s.tables d) ≡ Some (ArrayOf k) → (Indices → IntegersFine s m i t todo ts) → ArrayNames s from d es Indices k (Simply kind.Text) → Fine (array_place s m i line d es ts) (Some (AddressOf kind.Text))
   array_place_fine d line NoMore ts Indices k e go a = let f = a.0 in absurd (cc)
   array_place_fine d line (Then x es) ts Indices k e go a =
       cell_seen d (ArrayOf k) (λ j. ElementOf line (Cell j (Declared d.0)) ts) (Some (AddressOf kind.Text)) e a.1 (λ j c. (k, ap (λ z. Some (AddressOf z)) (same_simple k kind.Text a.0), c, go a.2))
 
-  formal_place_fine : (d : DeclNo) (f : Mode) (g : FormalKind) (ty : Option SimType) (line : ℕ) (es : Expressions) (ts : Terms) (Indices : Type 0) → entry_holds (entry_of s.tables d) ≡ formal_holds f g ty → (Indices → IntegersFine s o m i t todo ts) → HeldNames s from d es Indices (formal_holds f g ty) (Simply kind.Text) → Fine (formal_place s m i line d f g es ts) (Some (AddressOf kind.Text))
+  formal_place_fine : (d : DeclNo) (f : Mode) (g : FormalKind) (ty : Option SimType) (line : ℕ) (es : Expressions) (ts : Terms) (Indices : Type 0) → entry_holds (entry_of s.tables d) ≡ formal_holds f g ty → (Indices → IntegersFine s m i t todo ts) → HeldNames s from d es Indices (formal_holds f g ty) (Simply kind.Text) → Fine (formal_place s m i line d f g es ts) (Some (AddressOf kind.Text))
   formal_place_fine d mode.ByValue shape.Simple (Some ty) line es ts Indices e go a = variable_place_fine d es (kind_of_type ty) e a
   formal_place_fine d mode.ByReference shape.Simple (Some ty) line es ts Indices e go a = variable_place_fine d es (kind_of_type ty) e a
   formal_place_fine d mode.ByValue shape.Array (Some ty) line es ts Indices e go a = array_place_fine d line es ts Indices (kind_of_type ty) e go a
   formal_place_fine d mode.ByReference shape.Array (Some ty) line es ts Indices e go a = array_place_fine d line es ts Indices (kind_of_type ty) e go a
   formal_place_fine d _ _ _ line es ts Indices e go a = absurd a
 
-  module _ (line : ℕ) (es : Expressions) (ts : Terms) (Indices : Type 0) (Operands : List Kind → Type 0) (Actuals : List Formal → Type 0) (ints : Indices → IntegersFine s o m i t todo ts) where
+  module _ (line : ℕ) (es : Expressions) (ts : Terms) (Indices : Type 0) (Operands : List Kind → Type 0) (Actuals : List Formal → Type 0) (ints : Indices → IntegersFine s m i t todo ts) where
     declared_place_fine : (d : DeclNo) (e : Option Entry) → entry_of s.tables d ≡ e → is_variable_entry e es ≡ true → DeclaredGives s from d es Indices Actuals e (Some (Simply kind.Text)) → Fine (declared_place s m i line d e es ts) (Some (AddressOf kind.Text))
     declared_place_fine d (Some (entry.Variable ty)) e v a = variable_place_fine d es (kind_of_type ty) (ap entry_holds e) a
     declared_place_fine d (Some (entry.Array ty n)) e v a = array_place_fine d line es ts Indices (kind_of_type ty) (ap entry_holds e) ints a
@@ -284,7 +284,7 @@ module _ (s : Source) (ok : Typed s) (o : AllArrays) (m : Instances) (i t : ℕ)
   signed_fine sign.Plus line a h e f = subst (λ z. Fine a (Some (Value z))) e f
   signed_fine sign.Minus line a h e f = (kind.Integer, refl, ap (λ z. Some (Value z)) e, f)
 
-  behind_fine : (line : ℕ) (a : Expression) (es : Expressions) (h : Option Holds) (Object : Type 0) (Operands : List Kind → Type 0) → (Object → Fine (close s m i a) (simple kind.Text)) → (is_variable s a ≡ true → Object → (y : Kinds) × Fine (close_place s m i a) (Some y) × OperandIs kind.Text y) → ((ks : List Kind) → Operands ks → OperandsFine s o m i t todo (close_all s m i es) (value_kinds ks))
+  behind_fine : (line : ℕ) (a : Expression) (es : Expressions) (h : Option Holds) (Object : Type 0) (Operands : List Kind → Type 0) → (Object → Fine (close s m i a) (simple kind.Text)) → (is_variable s a ≡ true → Object → (y : Kinds) × Fine (close_place s m i a) (Some y) × OperandIs kind.Text y) → ((ks : List Kind) → Operands ks → OperandsFine s m i t todo (close_all s m i es) (value_kinds ks))
       → (stream : Option ℕ) (n : Option Standard) → StreamIs stream → BehindGives stream n Object Operands h → Fine (behind_dot stream n (is_variable s a) line (close_place s m i a) (close s m i a) (close_all s m i es)) (held_kinds h)
   behind_fine line a es h Object Operands value place ops (Some image) None is x = absurd x
   behind_fine line a es h Object Operands value place ops (Some image) (Some n) is x = name_fine line (close_all s m i es) Operands ops (is_image n) (on_image n) n image h is x
@@ -295,7 +295,7 @@ module _ (s : Source) (ok : Typed s) (o : AllArrays) (m : Instances) (i t : ℕ)
       by_place true v = let y = place (v refl) x.0 in of_text_fine line (close_all s m i es) Operands ops n (close_place s m i a) y.0 h y.1 y.2 x.1
       by_place false v = of_text_fine line (close_all s m i es) Operands ops n (close s m i a) (Value (Simply kind.Text)) h (value x.0) refl x.1
 
-  dot_denoted : (line : ℕ) (a : Expression) (es : Expressions) (h : Option Holds) → (ExprIs s from a (Simply kind.Text) → Fine (close s m i a) (simple kind.Text)) → (is_variable s a ≡ true → ExprIs s from a (Simply kind.Text) → (y : Kinds) × Fine (close_place s m i a) (Some y) × OperandIs kind.Text y) → ((ks : List Kind) → AreOf s from es ks → OperandsFine s o m i t todo (close_all s m i es) (value_kinds ks))
+  dot_denoted : (line : ℕ) (a : Expression) (es : Expressions) (h : Option Holds) → (ExprIs s from a (Simply kind.Text) → Fine (close s m i a) (simple kind.Text)) → (is_variable s a ≡ true → ExprIs s from a (Simply kind.Text) → (y : Kinds) × Fine (close_place s m i a) (Some y) × OperandIs kind.Text y) → ((ks : List Kind) → AreOf s from es ks → OperandsFine s m i t todo (close_all s m i es) (value_kinds ks))
       → (d : Option Denotation) → DotGives d (stream_of s a) (ExprIs s from a (Simply kind.Text)) (λ ks. AreOf s from es ks) h → Fine (dot_term d (stream_of s a) (is_variable s a) line (close_place s m i a) (close s m i a) (close_all s m i es)) (held_kinds h)
   dot_denoted line a es h value place ops None x = absurd x
   dot_denoted line a es h value place ops (Some (denotation.Declared d)) x = absurd x
@@ -339,7 +339,7 @@ module _ (s : Source) (ok : Typed s) (o : AllArrays) (m : Instances) (i t : ℕ)
     expr_fine (syntax.Parentheses token a) h x = expr_fine a h x
     expr_fine _ h x = absurd x
 
-    pub integers_fine : (es : Expressions) → AreIntegers s from es → IntegersFine s o m i t todo (close_all s m i es)
+    pub integers_fine : (es : Expressions) → AreIntegers s from es → IntegersFine s m i t todo (close_all s m i es)
     integers_fine NoMore x = x
     integers_fine (Then e es) x = (expr_fine e (Simply kind.Integer) x.0, integers_fine es x.1)
 
@@ -356,13 +356,13 @@ module _ (s : Source) (ok : Typed s) (o : AllArrays) (m : Instances) (i t : ℕ)
     place_fine (syntax.Parentheses token a) v x = absurd (not_variable (syntax.Parentheses token a) tt v)
     place_fine _ v x = absurd x
 
-    pub of_fine : (es : Expressions) (ks : List Kind) → AreOf s from es ks → OperandsFine s o m i t todo (close_all s m i es) (value_kinds ks)
+    pub of_fine : (es : Expressions) (ks : List Kind) → AreOf s from es ks → OperandsFine s m i t todo (close_all s m i es) (value_kinds ks)
     of_fine NoMore [] x = refl
     of_fine NoMore (k ∷ ks) x = absurd x
     of_fine (Then e es) [] x = absurd x
     of_fine (Then e es) (k ∷ ks) x = (Value (Simply k), value_kinds ks, refl, expr_fine e (Simply k) x.0, of_fine es ks x.1)
 
-    pub actuals_fine : (line : ℕ) (es : Expressions) (fs : List Formal) → ActualsFit s from es fs → TermsFine s o m i t todo (close_actuals s m i line es fs) (formal_kinds fs)
+    pub actuals_fine : (line : ℕ) (es : Expressions) (fs : List Formal) → ActualsFit s from es fs → TermsFine s m i t todo (close_actuals s m i line es fs) (formal_kinds fs)
     actuals_fine line NoMore [] x = refl
     actuals_fine line NoMore (f ∷ fs) x = absurd x
     actuals_fine line (Then e es) [] x = absurd x

@@ -25,10 +25,10 @@ module _ (s : Source) (ok : Typed s) (l : Limits) (o : World) (g : List Sight) (
   -- the value that is left, if there is one
   abbrev Left : Option Kinds → Option Val → Type 0
   Left None None = Unit {0}
-  Left (Some (Value (Simply k))) (Some v) = ValFine (see g o) i (Simply k) v
+  Left (Some (Value (Simply k))) (Some v) = ValFine s (see g o) m i (Simply k) v
   Left _ _ = ⊥
 
-  plain_anywhere : (j : ℕ) (k : Kind) (v : Val) → ValFine (see g o) i (Simply k) v → ValFine (see g (world_left s i o m)) j (Simply k) v
+  plain_anywhere : (j : ℕ) (k : Kind) (v : Val) → ValFine s (see g o) m i (Simply k) v → ValFine s (see g (world_left s i o m)) (instances_left i m) j (Simply k) v
   plain_anywhere j k (Rattle.sim_meaning.specs.Pending.Of p) a = a
   plain_anywhere j k _ a = absurd a
 
@@ -60,6 +60,7 @@ module _ (s : Source) (ok : Typed s) (l : Limits) (o : World) (g : List Sight) (
       more None (Some v) f ks h = absurd f
       more (Some (Value (Simply k))) (Some v) f ks h = (plain_anywhere a.instance k v f, h)
       more (Some (Value (Simply k))) None f ks h = absurd f
+      more (Some (Value (Rattle.sim_sound.specs.Typed.Refers c))) v f ks h = absurd f
       more (Some (Value (Rattle.sim_sound.specs.Typed.ArrayOf k))) v f ks h = absurd f
       more (Some (Rattle.sim_sound.proofs.Sound.AddressOf k)) v f ks h = absurd f
       more (Some (Rattle.sim_sound.proofs.Sound.LinkTo k)) v f ks h = absurd f

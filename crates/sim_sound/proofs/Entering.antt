@@ -23,14 +23,14 @@ use Rattle.sim_sound.proofs.ArrayWork.{block_arrays}
 use Rattle.sim_sound.proofs.Evals.{IsFine, Work}
 use Rattle.sim_sound.proofs.FirstCells.{ActualsAre, all_taken, block_cells, block_key, formals_some, held_there, procedure_cells, taken}
 use Rattle.sim_sound.proofs.Handing.{hand_all, handed_same}
-use Rattle.sim_sound.proofs.Later.{Later, chain_later, hands_later, later_under, store_later, work_later}
+use Rattle.sim_sound.proofs.Later.{Later, cells_map, chain_later, hands_later, later_under, store_later, work_later}
 use Rattle.sim_sound.proofs.Lifts.{Goes, any_popped, enters, had, ran, whens}
 use Rattle.sim_sound.proofs.Lists.{append_at, no_some}
 use Rattle.sim_sound.proofs.Moves.{later_entered, operates_entered, store_entered}
 use Rattle.sim_sound.proofs.Reach.{key_there}
 use Rattle.sim_sound.proofs.Sound.{AllOn, Begun, CallOpFine, CellsFine, ChainFine, Enclosed, Fine, HandFine, HandsFine, InstanceFine, KeyAmong, Kinds, LinkTo, Made, NothingKept, Operates, Present, Sight, StoreFine, Whole, WorkFine, alone, formal_kinds, given, held_kinds, key_of, keys_in, runs, see, within}
 
-module _ (s : Source) (ok : Typed s) (o : World) (sights : List Sight) (long : length sights ≡ length o.arrays) (m : Instances) (k : ℕ) (e : Option ℕ) (cells : List Held) (x : Text) (is : text s k ≡ Some x) (keys : map key_of cells ≡ map key_of (first_cells s k x)) (fine : CellsFine s (see sights o) (length m.instances) k cells) where
+module _ (s : Source) (ok : Typed s) (o : World) (sights : List Sight) (long : length sights ≡ length o.arrays) (m : Instances) (k : ℕ) (e : Option ℕ) (cells : List Held) (x : Text) (is : text s k ≡ Some x) (keys : map key_of cells ≡ map key_of (first_cells s k x)) (fine : CellsFine s (see sights o) m (length m.instances) k cells) where
   abbrev pub made_new : Instance (List Held)
   made_new = new_instance s k e cells
 
@@ -44,7 +44,7 @@ module _ (s : Source) (ok : Typed s) (o : World) (sights : List Sight) (long : l
   present_new todo made = record { now = made_new; lives = ap instances.unless_given (append_at m.instances made_new); of_text = refl; words = x; has_text = is; made = made }
 
   instance_new : Enclosed s now (length m.instances) k e → InstanceFine s (see sights o) now (length m.instances) k made_new
-  instance_new out = record { level = refl; keys = keys ∙ sym (ap (keys_in s k) is); cells = fine; ends = ap (λ z. z && true) (ok.class_free k); out = out }
+  instance_new out = record { level = refl; keys = keys ∙ sym (ap (keys_in s k) is); cells = cells_map s (see sights o) m (see sights o) now (length m.instances) (λ kd a f. f) later_new.objects k cells fine; ends = ap (λ z. z && true) (ok.class_free k); out = out }
 
   pub begun_new : StoreFine s (see sights o) m → Enclosed s now (length m.instances) k e → (todo : List DeclNo) → Made s k todo cells → Begun s (see sights o) now (length m.instances) k todo
   begun_new store out todo made = record { store = store_entered s (see sights o) m made_new (NoObject None) store (instance_new out); here = present_new todo made }
@@ -74,8 +74,8 @@ module _ (s : Source) (ok : Typed s) (o : World) (sights : List Sight) (long : l
   abbrev cells : List Held
   cells = first_cells s k (BlockText begin ds ss)
 
-  cells_fine : CellsFine s (see sights o) (length m.instances) k cells
-  cells_fine = block_cells s (see sights o) (length m.instances) k begin ds ss (typed.no_formals)
+  cells_fine : CellsFine s (see sights o) m (length m.instances) k cells
+  cells_fine = block_cells s (see sights o) m (length m.instances) k begin ds ss (typed.no_formals)
 
   abbrev pub after : Instances
   after = entered m (new_instance s k e cells) (NoObject None)
@@ -107,7 +107,7 @@ module _ (s : Source) (ok : Typed s) (l : Limits) (o : World) (sights : List Sig
   block_entered k line begin ds ss ks is stands b h work =
       let x = BlockText begin ds ss in
       let hs = first_cells s k x in
-      let fine = block_cells s (see sights o) (length m.instances) k begin ds ss (typed_block.no_formals) in
+      let fine = block_cells s (see sights o) m (length m.instances) k begin ds ss (typed_block.no_formals) in
       let out = inside_new s ok o sights long m k (Some i) hs x is refl fine i t refl stands top.before b.here in
       enters (IsFine s) l line (words_of_cells hs) o (λ p. in_instance s p m k (Some i) hs (λ now. block_work s now (length m.instances) ds ss EndBlock) (Chain vals)) (λ t' w'.
       enters_fine s ok o sights long m k (Some i) hs x is refl fine (arrays_of_block s ds) (block_begun s ok o sights long m k (Some i) begin ds ss is b.store out) (block_work s (after s ok o sights long m k (Some i) begin ds ss is) (length m.instances) ds ss EndBlock) (Chain vals) top.all top.parked
@@ -144,11 +144,11 @@ module _ (s : Source) (ok : Typed s) (l : Limits) (o : World) (sights : List Sig
       let p = handed_over n ns o in
       let now = see r.sights p in
       let e = r.later n in
-      let f = procedure_cells s now n k result h a (formals_of s k) vs is typed_procedure.formals (r.values k) in
+      let f = procedure_cells s now m n k result h a (formals_of s k) vs is typed_procedure.formals (r.values k) in
       let whole' = e.present j u [] (omega (arith, le, lt)) whole in
       let store = store_later s (see sights o) m now e b.store in
       let out = inside_new s ok p r.sights r.long m k (Some j) f.cells x is f.same_keys f.fine j u refl stands (omega (arith, le, lt)) whole' in
-      let begun = begun_new s ok p r.sights r.long m k (Some j) f.cells x is f.same_keys f.fine store out [] (λ dn kd holds there none. absurd (held_there s now n k (Declared dn.0) f.cells f.held_all (subst (KeyAmong (Declared dn.0)) (ap (keys_in s k) is ∙ sym f.same_keys) there) none)) in
+      let begun = begun_new s ok p r.sights r.long m k (Some j) f.cells x is f.same_keys f.fine store out [] (λ dn kd holds there none. absurd (held_there s now m n k (Declared dn.0) f.cells f.held_all (subst (KeyAmong (Declared dn.0)) (ap (keys_in s k) is ∙ sym f.same_keys) there) none)) in
       let under = later_under s (see sights o) m now m n i (omega (arith, lt)) e in
       let chain : ChainFine s now m n (Chain vs') (held_kinds (result_holds (text s k))) = record {
         before = lt;
@@ -219,8 +219,8 @@ first_goes s ok l o sights long m none kept =
     hs : List Held
     hs = first_cells s 0 (BlockText ok.begin ok.declarations ok.statements)
 
-    fine : CellsFine s (see sights o) (length m.instances) 0 (first_cells s 0 (BlockText ok.begin ok.declarations ok.statements))
-    fine = let typed : BlockTyped s 0 ok.declarations ok.statements = ok.texts 0 (BlockText ok.begin ok.declarations ok.statements) ok.starts in block_cells s (see sights o) (length m.instances) 0 ok.begin ok.declarations ok.statements typed.no_formals
+    fine : CellsFine s (see sights o) m (length m.instances) 0 (first_cells s 0 (BlockText ok.begin ok.declarations ok.statements))
+    fine = let typed : BlockTyped s 0 ok.declarations ok.statements = ok.texts 0 (BlockText ok.begin ok.declarations ok.statements) ok.starts in block_cells s (see sights o) m (length m.instances) 0 ok.begin ok.declarations ok.statements typed.no_formals
 
     out : Enclosed s (after s ok o sights long m 0 None ok.begin ok.declarations ok.statements ok.starts) (length m.instances) 0 None
     out = alone refl ok.outermost

@@ -38,22 +38,22 @@ module _ (s : Source) (o : World) (g : List Sight) (long : length g ≡ length o
   integers_more zero ks = refl
   integers_more (suc n) ks = ap (λ z. Value (Simply kind.Integer) ∷ z) (integers_more n ks)
 
-  each_integers : (ts : Terms) (w : List Item) (todo : List DeclNo) (ks : List Kinds) → IntegersFine s (see g o) m i t todo ts → Work w todo (integers (count ts) ks) → Work (each ts w) todo ks
+  each_integers : (ts : Terms) (w : List Item) (todo : List DeclNo) (ks : List Kinds) → IntegersFine s m i t todo ts → Work w todo (integers (count ts) ks) → Work (each ts w) todo ks
   each_integers NoTerm w todo ks a h = h
   each_integers (Further x xs) w todo ks a h =
       (todo, Value (Simply kind.Integer) ∷ ks, (simple kind.Integer, a.0, refl, refl), each_integers xs w todo (Value (Simply kind.Integer) ∷ ks) a.1 (subst (λ z. Work w todo z) (sym (integers_more (count xs) ks)) h))
 
-  each_fine : (ts : Terms) (hs : List (Option Kinds)) (w : List Item) (todo : List DeclNo) (ks : List Kinds) → TermsFine s (see g o) m i t todo ts hs → Work w todo (onto hs ks) → Work (each ts w) todo ks
+  each_fine : (ts : Terms) (hs : List (Option Kinds)) (w : List Item) (todo : List DeclNo) (ks : List Kinds) → TermsFine s m i t todo ts hs → Work w todo (onto hs ks) → Work (each ts w) todo ks
   each_fine NoTerm hs w todo ks a h = subst (λ z. Work w todo (onto z ks)) a h
   each_fine (Further x xs) hs w todo ks a h =
       (todo, a.0 ∷ ks, (Some a.0, a.3, refl, refl), each_fine xs a.1 w todo (a.0 ∷ ks) a.4 (subst (λ z. Work w todo (onto z ks)) a.2 h))
 
-  each_operand : (ts : Terms) (xs : List Kinds) (w : List Item) (todo : List DeclNo) (ks : List Kinds) → OperandsFine s (see g o) m i t todo ts xs → Work w todo (pushed xs ks) → Work (each ts w) todo ks
+  each_operand : (ts : Terms) (xs : List Kinds) (w : List Item) (todo : List DeclNo) (ks : List Kinds) → OperandsFine s m i t todo ts xs → Work w todo (pushed xs ks) → Work (each ts w) todo ks
   each_operand NoTerm xs w todo ks a h = subst (λ z. Work w todo (pushed z ks)) a h
   each_operand (Further y ys) xs w todo ks a h =
       (todo, a.0 ∷ ks, (Some a.0, a.3, refl, refl), each_operand ys a.1 w todo (a.0 ∷ ks) a.4 (subst (λ z. Work w todo (pushed z ks)) a.2 h))
 
-  many : (ts : Terms) (hs : List (Option Kinds)) (todo : List DeclNo) → TermsFine s (see g o) m i t todo ts hs → count ts ≡ length hs
+  many : (ts : Terms) (hs : List (Option Kinds)) (todo : List DeclNo) → TermsFine s m i t todo ts hs → count ts ≡ length hs
   many NoTerm hs todo a = ap length (sym a)
   many (Further x xs) hs todo a = ap suc (many xs a.1 todo a.4) ∙ ap length (sym a.2)
 
@@ -61,7 +61,7 @@ module _ (s : Source) (o : World) (g : List Sight) (long : length g ≡ length o
   formals_many [] = refl
   formals_many (f ∷ fs) = ap suc (formals_many fs)
 
-  pub eval_goes : (x : Term) (r : Option Kinds) (w : List Item) (vals : List Val) (todo : List DeclNo) (ks : List Kinds) → Begun s (see g o) m i t todo → Hands ks vals → TermFine s (see g o) m i t todo x r → Work w todo (given r ks) → Goes (IsFine s) (eval o m i w vals rest x)
+  pub eval_goes : (x : Term) (r : Option Kinds) (w : List Item) (vals : List Val) (todo : List DeclNo) (ks : List Kinds) → Begun s (see g o) m i t todo → Hands ks vals → TermFine s m i t todo x r → Work w todo (given r ks) → Goes (IsFine s) (eval o m i w vals rest x)
   eval_goes (Given p) r w vals todo ks b h a work =
       goes_on w (Of p ∷ vals) todo (Value (Simply (kind_of p)) ∷ ks) b (refl, h) (subst (λ z. Work w todo (given z ks)) (sym a) work)
   eval_goes (Cell e key) r w vals todo ks b h a work =
@@ -90,7 +90,7 @@ module _ (s : Source) (o : World) (g : List Sight) (long : length g ≡ length o
         todo,
         Value (Simply kind.Boolean) ∷ ks,
         (simple kind.Boolean, a.2, refl, refl),
-        (todo, a.0 ∷ ks, (a.0, ks, subst (TermFine s (see g o) m i t todo x) (sym a.1) a.3, subst (TermFine s (see g o) m i t todo y) (sym a.1) a.4, refl, refl, refl), subst (λ z. Work w todo (given z ks)) (sym a.1) work),
+        (todo, a.0 ∷ ks, (a.0, ks, subst (TermFine s m i t todo x) (sym a.1) a.3, subst (TermFine s m i t todo y) (sym a.1) a.4, refl, refl, refl), subst (λ z. Work w todo (given z ks)) (sym a.1) work),
       )
   eval_goes (ElementOf line x ts) r w vals todo ks b h a work =
       let k = a.0 in

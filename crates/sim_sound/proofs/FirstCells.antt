@@ -15,24 +15,24 @@ use Rattle.sim_code.specs.Outcome.{Run, World}
 use Rattle.sim_meaning.specs.Entries.{cells_from, filled, filled_behind, first_cells, held_before, is_array_by_value, numbers_of, with_cell, with_result}
 use Rattle.sim_meaning.specs.Pending.{Declared, Held, Instances, Key, Of, Result, Val, held, same_key}
 use Rattle.sim_meaning.specs.Texts.{BlockText, ProcedureText, kind_named, kind_of_type, text}
-use Rattle.sim_sound.specs.Typed.{Among, ArrayOf, FormalsAre, Holds, NoFormal, NoFormals, entry_holds, first, formal_holds, key_holds, later, result_holds, Simply}
+use Rattle.sim_sound.specs.Typed.{Among, ArrayOf, FormalsAre, Holds, NoFormal, NoFormals, entry_holds, first, formal_holds, key_holds, later, result_holds, Refers, Simply}
 use Rattle.sim_sound.proofs.ArrayEvents.{initial_is}
 use Rattle.sim_sound.proofs.Changes.{cell_of, equal_same}
 use Rattle.sim_sound.proofs.Sound.{AllArrays, CellFine, CellsFine, DeepFine, HandsFine, KeyAmong, Kinds, ValFine, first_key, formal_kinds, holds_of, in_hand, key_of, later_key, onto}
 
-module _ (s : Source) (o : AllArrays) (j k : ℕ) where
-  cell_first : (d : DeclNo) (e : Option Entry) (hs : List Held) → entry_of s.tables d ≡ e → NoFormal e → CellsFine s o j k hs → CellsFine s o j k (with_cell d e hs)
-  cell_first d (Some (entry.Variable ty)) hs e n a = (subst (λ z. CellFine o j (entry_holds z) (Some (Of (initial (kind_of_type ty))))) (sym e) (initial_is (kind_of_type ty)), a)
-  cell_first d (Some (entry.Constant ty)) hs e n a = (subst (λ z. CellFine o j (entry_holds z) None) (sym e) tt, a)
-  cell_first d (Some (entry.Array ty m)) hs e n a = (subst (λ z. CellFine o j (entry_holds z) None) (sym e) tt, a)
+module _ (s : Source) (o : AllArrays) (m : Instances) (j k : ℕ) where
+  cell_first : (d : DeclNo) (e : Option Entry) (hs : List Held) → entry_of s.tables d ≡ e → NoFormal e → CellsFine s o m j k hs → CellsFine s o m j k (with_cell d e hs)
+  cell_first d (Some (entry.Variable ty)) hs e n a = (subst (λ z. CellFine s o m j (entry_holds z) (Some (Of (initial (kind_of_type ty))))) (sym e) (initial_is (kind_of_type ty)), a)
+  cell_first d (Some (entry.Constant ty)) hs e n a = (subst (λ z. CellFine s o m j (entry_holds z) None) (sym e) tt, a)
+  cell_first d (Some (entry.Array ty dimensions)) hs e n a = (subst (λ z. CellFine s o m j (entry_holds z) None) (sym e) tt, a)
   cell_first d (Some (entry.Formal f)) hs e n a = absurd n
   cell_first d _ hs e n a = a
 
-  cells_first : (ds : List DeclNo) → NoFormals s ds → CellsFine s o j k (cells_from s ds)
+  cells_first : (ds : List DeclNo) → NoFormals s ds → CellsFine s o m j k (cells_from s ds)
   cells_first [] n = tt
   cells_first (d ∷ ds) n = cell_first d (entry_of s.tables d) (cells_from s ds) refl n.0 (cells_first ds n.1)
 
-  pub block_cells : (begin : ℕ) (ds : Declarations) (ss : Statements) → NoFormals s (numbers_of s k) → CellsFine s o j k (first_cells s k (BlockText begin ds ss))
+  pub block_cells : (begin : ℕ) (ds : Declarations) (ss : Statements) → NoFormals s (numbers_of s k) → CellsFine s o m j k (first_cells s k (BlockText begin ds ss))
   unfolding first_cells
   block_cells begin ds ss n = cells_first (numbers_of s k) n
 
@@ -40,7 +40,7 @@ module _ (s : Source) (o : AllArrays) (j k : ℕ) where
 
   abbrev pub SomeFine : Option Holds → Val → Type 0
   SomeFine None v = ⊥
-  SomeFine (Some h) v = ValFine o j h v
+  SomeFine (Some h) v = ValFine s o m j h v
 
   abbrev pub ValsFine : List (Option Holds) → List Val → Type 0
   ValsFine [] [] = Unit {0}
@@ -56,17 +56,17 @@ module _ (s : Source) (o : AllArrays) (j k : ℕ) where
     pub cells : List Held
     pub filled_is : filled values hs ≡ Some cells
     pub same_keys : map key_of cells ≡ map key_of hs
-    pub fine : CellsFine s o j k cells
+    pub fine : CellsFine s o m j k cells
     pub held_all : AllHeld cells
 
-  fill_one : (d : DeclNo) (e : Option Entry) (f : Formal) (h : Holds) (v : Val) (vs : List Val) (hs : List Held) → entry_of s.tables d ≡ e → e ≡ Some (entry.Formal f) → formal_holds f.mode f.kind f.ty ≡ Some h → ValFine o j h v → Filled vs hs → Filled (v ∷ vs) (with_cell d e hs)
+  fill_one : (d : DeclNo) (e : Option Entry) (f : Formal) (h : Holds) (v : Val) (vs : List Val) (hs : List Held) → entry_of s.tables d ≡ e → e ≡ Some (entry.Formal f) → formal_holds f.mode f.kind f.ty ≡ Some h → ValFine s o m j h v → Filled vs hs → Filled (v ∷ vs) (with_cell d e hs)
   fill_one d e f h v vs hs at is holds a r =
       let key : key_holds s k (Declared d.0) ≡ Some h = ap entry_holds (at ∙ is) ∙ holds in
       subst (λ z. Filled (v ∷ vs) (with_cell d z hs)) (sym is) (record {
         cells = record { key = Declared d.0; value = Some v } ∷ r.cells;
         filled_is = ap (held_before (record { key = Declared d.0; value = Some v })) r.filled_is;
         same_keys = ap (λ z. Declared d.0 ∷ z) r.same_keys;
-        fine = (subst (λ z. CellFine o j z (Some v)) (sym key) (cell_of o j h v a), r.fine);
+        fine = (subst (λ z. CellFine s o m j z (Some v)) (sym key) (cell_of s o m j h v a), r.fine);
         held_all = (v, refl, r.held_all);
       })
 
@@ -82,7 +82,7 @@ module _ (s : Source) (o : AllArrays) (j k : ℕ) where
     pub cells : List Held
     pub filled_is : filled_behind result values hs ≡ Some cells
     pub same_keys : map key_of cells ≡ map key_of hs
-    pub fine : CellsFine s o j k cells
+    pub fine : CellsFine s o m j k cells
     pub held_all : AllHeld cells
 
   behind_result : (result : Option TypeName) (h : Heading) (a : Statement) (vs : List Val) (hs : List Held) → text s k ≡ Some (ProcedureText result h a) → Filled vs hs → FilledBehind result vs (with_result result hs)
@@ -91,7 +91,7 @@ module _ (s : Source) (o : AllArrays) (j k : ℕ) where
     cells = record { key = Result; value = Some (Of (initial (kind_named type))) } ∷ r.cells;
     filled_is = ap (held_before (record { key = Result; value = Some (Of (initial (kind_named type))) })) r.filled_is;
     same_keys = ap (λ z. Result ∷ z) r.same_keys;
-    fine = (subst (λ z. CellFine o j z (Some (Of (initial (kind_named type))))) (sym (ap result_holds is)) (initial_is (kind_named type)), r.fine);
+    fine = (subst (λ z. CellFine s o m j z (Some (Of (initial (kind_named type))))) (sym (ap result_holds is)) (initial_is (kind_named type)), r.fine);
     held_all = (Of (initial (kind_named type)), refl, r.held_all);
   }
 
@@ -189,6 +189,7 @@ taken s o m i (Some x ∷ hs) left vals a h = one_more_taken (taken s o m i hs (
 some_first : (b : Bool) (h : Holds) (hs : List (Option Kinds)) → AllSome hs → AllSome (in_hand b (Some h) ∷ hs)
 some_first true (ArrayOf k) hs a = a
 some_first true (Simply k) hs a = a
+some_first true (Refers c) hs a = a
 some_first false h hs a = a
 
 pub formals_some : (s : Source) (ds : List DeclNo) (fs : List Formal) → FormalsAre s ds fs → AllSome (formal_kinds fs)

@@ -8,7 +8,7 @@ use Rattle.sim_code.specs.Arrays.{handed_over, owned_by}
 use Rattle.sim_code.specs.Outcome.{ArrayOf as OneArray, World}
 use Rattle.sim_meaning.specs.Entries.{arrays_by_value, is_array_by_value, with_array_of}
 use Rattle.sim_meaning.specs.Pending.{Address, ArrayValue, Instances, Link, Of, ProcedureValue, Tree, Val}
-use Rattle.sim_sound.specs.Typed.{ArrayOf, Holds, Simply, formal_holds}
+use Rattle.sim_sound.specs.Typed.{ArrayOf, Holds, Refers, Simply, formal_holds}
 use Rattle.sim_sound.proofs.Cells.{val_up}
 use Rattle.sim_sound.proofs.Changes.{handed_copy, handed_is, handed_later, handed_long, handed_over_array, handed_sights, handed_world}
 use Rattle.sim_sound.proofs.FirstCells.{ActualsAre, SomeDeep, SomeFine, ValsFine}
@@ -63,22 +63,22 @@ module _ (s : Source) (m : Instances) (i n : ℕ) (lt : i < n) where
 
   module _ (fs : List Formal) (vs : List Val) (o : World) (g : List Sight) (long : length g ≡ length o.arrays) (d : ℕ) where
     -- a value that is no copy
-    kept_value : (h : Holds) (v : Val) → ValFine (see g o) i h v → Handed o g (suc d) (handed_over n (arrays_by_value fs vs) o) (λ z. (kk : ℕ) → ValsFine s z n kk (holds_of fs) vs) → Handed o g d (handed_over n (arrays_by_value fs vs) o) (λ z. (kk : ℕ) → SomeFine s z n kk (Some h) v × ValsFine s z n kk (holds_of fs) vs)
+    kept_value : (h : Holds) (v : Val) → ValFine s (see g o) m i h v → Handed o g (suc d) (handed_over n (arrays_by_value fs vs) o) (λ z. (kk : ℕ) → ValsFine s z m n kk (holds_of fs) vs) → Handed o g d (handed_over n (arrays_by_value fs vs) o) (λ z. (kk : ℕ) → SomeFine s z m n kk (Some h) v × ValsFine s z m n kk (holds_of fs) vs)
     kept_value h v f r = record {
       sights = r.sights;
       long = r.long;
       later = r.later;
       copies = λ j e k a less c. r.copies j e k a (λ q. let x = less q in omega (arith, x)) c;
-      values = λ kk. (val_up (see r.sights (handed_over n (arrays_by_value fs vs) o)) i n (omega (arith, lt)) h v (val_later s (see g o) m (see r.sights (handed_over n (arrays_by_value fs vs) o)) m n (r.later n) i lt h v f), r.values kk);
+      values = λ kk. (val_up s (see r.sights (handed_over n (arrays_by_value fs vs) o)) m i n (omega (arith, lt)) h v (val_later s (see g o) m (see r.sights (handed_over n (arrays_by_value fs vs) o)) m n (r.later n) i lt h v f), r.values kk);
     }
 
-    copy_handed : (k : Kind) (a0 : ℕ) (copy : CopyFine (see g o) i d k a0) → Handed (handed_world o g i d k a0 copy n) (handed_sights o g i d k a0 copy n) (suc d) (handed_over n (arrays_by_value fs vs) (handed_world o g i d k a0 copy n)) (λ z. (kk : ℕ) → ValsFine s z n kk (holds_of fs) vs) → Handed o g d (handed_over n (a0 ∷ arrays_by_value fs vs) o) (λ z. (kk : ℕ) → SomeFine s z n kk (Some (ArrayOf k)) (ArrayValue a0) × ValsFine s z n kk (holds_of fs) vs)
+    copy_handed : (k : Kind) (a0 : ℕ) (copy : CopyFine (see g o) i d k a0) → Handed (handed_world o g i d k a0 copy n) (handed_sights o g i d k a0 copy n) (suc d) (handed_over n (arrays_by_value fs vs) (handed_world o g i d k a0 copy n)) (λ z. (kk : ℕ) → ValsFine s z m n kk (holds_of fs) vs) → Handed o g d (handed_over n (a0 ∷ arrays_by_value fs vs) o) (λ z. (kk : ℕ) → SomeFine s z m n kk (Some (ArrayOf k)) (ArrayValue a0) × ValsFine s z m n kk (holds_of fs) vs)
     unfolding handed_over
     copy_handed k a0 copy r =
         let now = handed_world o g i d k a0 copy n in
         let seen = handed_sights o g i d k a0 copy n in
         let end = handed_over n (arrays_by_value fs vs) now in
-        subst (λ w. Handed o g d (handed_over n (arrays_by_value fs vs) w) (λ z. (kk : ℕ) → SomeFine s z n kk (Some (ArrayOf k)) (ArrayValue a0) × ValsFine s z n kk (holds_of fs) vs)) (sym (handed_is o g i d k a0 copy n)) (record {
+        subst (λ w. Handed o g d (handed_over n (arrays_by_value fs vs) w) (λ z. (kk : ℕ) → SomeFine s z m n kk (Some (ArrayOf k)) (ArrayValue a0) × ValsFine s z m n kk (holds_of fs) vs)) (sym (handed_is o g i d k a0 copy n)) (record {
           sights = r.sights;
           long = r.long;
           later = λ bound. later_then s (see g o) m (see seen now) m (see r.sights end) m bound (handed_later o g i d k a0 copy n s m bound) (r.later bound);
@@ -86,9 +86,9 @@ module _ (s : Source) (m : Instances) (i n : ℕ) (lt : i < n) where
           values = λ kk. ((r.later (suc n)).arrays n k a0 (omega arith) (handed_over_array o g i d k a0 copy n), r.values kk);
         })
 
-    by_kind : ((o' : World) (g' : List Sight) → length g' ≡ length o'.arrays → ActualsAre s (see g' o') m i (suc d) (formal_kinds fs) vs → Handed o' g' (suc d) (handed_over n (arrays_by_value fs vs) o') (λ z. (kk : ℕ) → ValsFine s z n kk (holds_of fs) vs))
+    by_kind : ((o' : World) (g' : List Sight) → length g' ≡ length o'.arrays → ActualsAre s (see g' o') m i (suc d) (formal_kinds fs) vs → Handed o' g' (suc d) (handed_over n (arrays_by_value fs vs) o') (λ z. (kk : ℕ) → ValsFine s z m n kk (holds_of fs) vs))
         → ActualsAre s (see g o) m i (suc d) (formal_kinds fs) vs → (b : Bool) (h : Option Holds) (v : Val) → SomeDeep s (see g o) m i d (in_hand b h) v
-        → Handed o g d (handed_over n (if b then with_array_of v (arrays_by_value fs vs) else arrays_by_value fs vs) o) (λ z. (kk : ℕ) → SomeFine s z n kk h v × ValsFine s z n kk (holds_of fs) vs)
+        → Handed o g d (handed_over n (if b then with_array_of v (arrays_by_value fs vs) else arrays_by_value fs vs) o) (λ z. (kk : ℕ) → SomeFine s z m n kk h v × ValsFine s z m n kk (holds_of fs) vs)
     by_kind ih a false None v f = absurd f
     by_kind ih a false (Some h) v f = kept_value h v f (ih o g long a)
     by_kind ih a true None v f = absurd f
@@ -98,6 +98,12 @@ module _ (s : Source) (m : Instances) (i n : ℕ) (lt : i < n) where
     by_kind ih a true (Some (Simply k)) (ArrayValue z) f = absurd f
     by_kind ih a true (Some (Simply k)) (ProcedureValue z y) f = absurd f
     by_kind ih a true (Some (Simply k)) (Tree z) f = absurd f
+    by_kind ih a true (Some (Refers c)) (Of p) f = kept_value (Refers c) (Of p) f (ih o g long a)
+    by_kind ih a true (Some (Refers c)) (Link z) f = absurd f
+    by_kind ih a true (Some (Refers c)) (Address z) f = absurd f
+    by_kind ih a true (Some (Refers c)) (ArrayValue z) f = absurd f
+    by_kind ih a true (Some (Refers c)) (ProcedureValue z y) f = absurd f
+    by_kind ih a true (Some (Refers c)) (Tree z) f = absurd f
     by_kind ih a true (Some (ArrayOf k)) (ArrayValue a0) f =
         copy_handed k a0 f (ih (handed_world o g i d k a0 f n) (handed_sights o g i d k a0 f n) (handed_long o g i d k a0 f n long) (actuals_moved o g d k a0 f (suc d) (omega arith) (formal_kinds fs) vs a))
     by_kind ih a true (Some (ArrayOf k)) (Of p) f = absurd f
@@ -106,7 +112,7 @@ module _ (s : Source) (m : Instances) (i n : ℕ) (lt : i < n) where
     by_kind ih a true (Some (ArrayOf k)) (ProcedureValue z y) f = absurd f
     by_kind ih a true (Some (ArrayOf k)) (Tree z) f = absurd f
 
-  pub hand_all : (fs : List Formal) (vs : List Val) (o : World) (g : List Sight) → length g ≡ length o.arrays → (d : ℕ) → ActualsAre s (see g o) m i d (formal_kinds fs) vs → Handed o g d (handed_over n (arrays_by_value fs vs) o) (λ z. (kk : ℕ) → ValsFine s z n kk (holds_of fs) vs)
+  pub hand_all : (fs : List Formal) (vs : List Val) (o : World) (g : List Sight) → length g ≡ length o.arrays → (d : ℕ) → ActualsAre s (see g o) m i d (formal_kinds fs) vs → Handed o g d (handed_over n (arrays_by_value fs vs) o) (λ z. (kk : ℕ) → ValsFine s z m n kk (holds_of fs) vs)
   unfolding handed_over
   hand_all [] [] o g long d a = record { sights = g; long = long; later = λ bound. later_none s (see g o) m bound; copies = λ j e k a less c. c; values = λ kk. tt }
   hand_all [] (v ∷ vs) o g long d a = absurd a

@@ -4,40 +4,58 @@ use Rattle.std.specs.Prelude.{slice_get}
 use Rattle.sim_base.specs.declared.numbering.DeclNo.{DeclNo}
 use Rattle.sim_scope.specs.Source.{Source}
 use Rattle.sim_values.specs.declared.kind.Kind.{Kind}
+use Rattle.sim_values.specs.Plain.{Nothing, Object, Plain}
 use Rattle.sim_code.specs.Instances.{CellPlace, ElementPlace, ImagePlace, Instance, live, unless_given}
 use Rattle.sim_meaning.specs.Pending.{Activation, Address, ArrayValue, BackOp, BranchOp, CallOf, Cell, CopyOf, Do, Either, ElementOf, ElementsOp, EndBlock, EndProcedure, EndProgram, Eval, Further, Given, GiveOp, Held, IfOp, ImageOf, Instances, Item, Joined, Key, Link, NoTerm, Of, One, Op, PlaceOf, ProcedureValue, RaiseOp, ShareOp, StandardOf, StepTestOp, StoreOp, Target, Term, Terms, ToAddress, ToCell, ToText, ToTextOf, Tree, Two, Unbuilt, Val, ValueAt, WhileElementOp}
-use Rattle.sim_sound.specs.Typed.{ArrayOf, Holds, Simply, key_holds}
+use Rattle.sim_sound.specs.Typed.{ArrayOf, Holds, Refers, Simply, key_holds}
 use Rattle.sim_sound.proofs.Lists.{there_is}
-use Rattle.sim_sound.proofs.Sound.{AddressOf, AllArrays, ArrayFine, CellFine, CellIs, CellTarget, CellsFine, ChainFine, Copied, CopyFine, DeepFine, ElementFine, Enclosed, HandFine, HandsFine, ImageAddress, InstanceFine, IntegersFine, Kinds, LinkTo, OpFine, OperandsFine, Present, StoreFine, StoreOpFine, TargetFine, TargetsFine, TermFine, TermsFine, ValFine, Value, VariableFine, WorkFine, alone, array_stored, in_whole, own_made, value_stored, within}
+use Rattle.sim_sound.proofs.Sound.{AddressOf, AllArrays, ArrayFine, CellFine, CellIs, CellTarget, CellsFine, ChainFine, Copied, CopyFine, DeepFine, ElementFine, Enclosed, HandFine, HandsFine, ImageAddress, InstanceFine, IntegersFine, Kinds, LinkTo, ObjectOf, OpFine, OperandsFine, Present, ReferenceFine, StoreFine, StoreOpFine, TargetFine, TargetsFine, TermFine, TermsFine, ValFine, Value, VariableFine, WorkFine, alone, array_stored, in_whole, own_made, value_stored, within}
+
+-- values and cells of an instance, where its arrays and all objects are still there
+module _ (s : Source) (o : AllArrays) (m : Instances) (o' : AllArrays) (m' : Instances) (j : ℕ) (arrays : (k : Kind) (a : ℕ) → ArrayFine o j k a → ArrayFine o' j k a) (objects : (i class : ℕ) → ObjectOf s m i class → ObjectOf s m' i class) where
+  reference_map : (c : ℕ) (p : Plain) → ReferenceFine s m c p → ReferenceFine s m' c p
+  reference_map c Nothing a = a
+  reference_map c (Object i) a = objects i c a
+  reference_map c _ a = absurd a
+
+  pub val_map : (h : Holds) (v : Val) → ValFine s o m j h v → ValFine s o' m' j h v
+  val_map (Simply k) (Of p) a = a
+  val_map (Refers c) (Of p) a = reference_map c p a
+  val_map (ArrayOf k) (ArrayValue n) a = arrays k n a
+  val_map (Simply k) _ a = absurd a
+  val_map (Refers c) _ a = absurd a
+  val_map (ArrayOf k) _ a = absurd a
+
+  cell_map : (h : Option Holds) (v : Option Val) → CellFine s o m j h v → CellFine s o' m' j h v
+  cell_map None v a = a
+  cell_map (Some (Simply k)) None a = a
+  cell_map (Some (Refers c)) None a = a
+  cell_map (Some (ArrayOf k)) None a = a
+  cell_map (Some h) (Some v) a = val_map h v a
+
+  pub cells_map : (t : ℕ) (hs : List Held) → CellsFine s o m j t hs → CellsFine s o' m' j t hs
+  cells_map t [] a = a
+  cells_map t (h ∷ hs) a = (cell_map (key_holds s t h.key) h.value a.0, cells_map t hs a.1)
 
 -- What the instances below a bound know is still there.
 pub record Later (s : Source) (o : AllArrays) (m : Instances) (o' : AllArrays) (m' : Instances) (bound : ℕ) : Type 0 where
   pub arrays : (j : ℕ) (k : Kind) (a : ℕ) → j < bound → ArrayFine o j k a → ArrayFine o' j k a
   pub elements : (j : ℕ) (k : Kind) (a n : ℕ) → j < bound → ElementFine o j k a n → ElementFine o' j k a n
   pub present : (j t : ℕ) (todo : List DeclNo) → j < bound → Present s m j t todo → Present s m' j t todo
+  pub objects : (j class : ℕ) → ObjectOf s m j class → ObjectOf s m' j class
 
 -- the copies in hand of an instance that have fewer values below them than d
 abbrev pub Copies : AllArrays → AllArrays → (j d : ℕ) → Type 0
 Copies o o' j d = (e : ℕ) (k : Kind) (a : ℕ) → e < d → CopyFine o j e k a → CopyFine o' j e k a
 
 module _ (s : Source) (o : AllArrays) (m : Instances) (o' : AllArrays) (m' : Instances) (bound : ℕ) (e : Later s o m o' m' bound) where
-  pub val_later : (j : ℕ) → j < bound → (h : Holds) (v : Val) → ValFine o j h v → ValFine o' j h v
-  val_later j lt (Simply k) (Of p) a = a
-  val_later j lt (ArrayOf k) (ArrayValue n) a = e.arrays j k n lt a
-  val_later j lt (Simply k) _ a = absurd a
-  val_later j lt (ArrayOf k) _ a = absurd a
+  pub val_later : (j : ℕ) → j < bound → (h : Holds) (v : Val) → ValFine s o m j h v → ValFine s o' m' j h v
+  val_later j lt h v a = val_map s o m o' m' j (λ k n. e.arrays j k n lt) e.objects h v a
 
   -- ---- an instance that is not changed
 
-  cell_later : (j : ℕ) → j < bound → (h : Option Holds) (v : Option Val) → CellFine o j h v → CellFine o' j h v
-  cell_later j lt None v a = a
-  cell_later j lt (Some (Simply k)) None a = a
-  cell_later j lt (Some (ArrayOf k)) None a = a
-  cell_later j lt (Some h) (Some v) a = val_later j lt h v a
-
-  pub cells_later : (j t : ℕ) → j < bound → (hs : List Held) → CellsFine s o j t hs → CellsFine s o' j t hs
-  cells_later j t lt [] a = a
-  cells_later j t lt (h ∷ hs) a = (cell_later j lt (key_holds s t h.key) h.value a.0, cells_later j t lt hs a.1)
+  pub cells_later : (j t : ℕ) → j < bound → (hs : List Held) → CellsFine s o m j t hs → CellsFine s o' m' j t hs
+  cells_later j t lt hs a = cells_map s o m o' m' j (λ k n. e.arrays j k n lt) e.objects t hs a
 
   pub enclosed_later : (j t : ℕ) (out : Option ℕ) → j < bound → Enclosed s m j t out → Enclosed s m' j t out
   enclosed_later j t out lt (alone is around) = alone is around
@@ -83,15 +101,15 @@ module _ (s : Source) (o : AllArrays) (m : Instances) (o' : AllArrays) (m' : Ins
   hands_later j lt (k ∷ ks) (v ∷ vs) c a = (deep_later j lt (length vs) c k v a.0, hands_later j lt ks vs (λ d x n less f. c d x n (omega (arith, less)) f) a.1)
 
   module _ (j t : ℕ) (lt : j < bound) where
-    read_later : (todo : List DeclNo) (n : ℕ) (key : Key) (h : Holds) → CellIs s o m j t todo n key h → CellIs s o' m' j t todo n key h
+    read_later : (todo : List DeclNo) (n : ℕ) (key : Key) (h : Holds) → CellIs s m j t todo n key h → CellIs s m' j t todo n key h
     read_later todo n key h (in_whole {u = u} le b holds there) = let less : n < bound = omega (arith, le, lt) in in_whole le (e.present n u [] less b) holds there
     read_later todo n key h (own_made is same holds there not) = own_made is same holds there not
 
-    pub cell_target_later : (n : ℕ) (key : Key) (k : Kind) → CellTarget s o m j n key k → CellTarget s o' m' j n key k
+    pub cell_target_later : (n : ℕ) (key : Key) (k : Kind) → CellTarget s m j n key k → CellTarget s m' j n key k
     cell_target_later n key k a = let less : n < bound = omega (arith, a.before, lt) in record { around = a.around; before = a.before; whole = e.present n a.around [] less a.whole; holds = a.holds; there = a.there }
 
     mutual
-      pub term_later : (todo : List DeclNo) (x : Term) (g : Option Kinds) → TermFine s o m j t todo x g → TermFine s o' m' j t todo x g
+      pub term_later : (todo : List DeclNo) (x : Term) (g : Option Kinds) → TermFine s m j t todo x g → TermFine s m' j t todo x g
       term_later todo (Given p) g a = a
       term_later todo (Cell n key) g a = (a.0, a.1, read_later todo n key a.0 a.2)
       term_later todo (One op line x) g a = (a.0, a.1, a.2, term_later todo x _ a.3)
@@ -118,29 +136,29 @@ module _ (s : Source) (o : AllArrays) (m : Instances) (o' : AllArrays) (m' : Ins
       term_later todo (StandardOf name ts line) g a = (a.0, a.1, a.2, a.3, operands_later todo ts a.2 a.4)
       term_later todo Unbuilt g a = a
 
-      pub integers_later : (todo : List DeclNo) (ts : Terms) → IntegersFine s o m j t todo ts → IntegersFine s o' m' j t todo ts
+      pub integers_later : (todo : List DeclNo) (ts : Terms) → IntegersFine s m j t todo ts → IntegersFine s m' j t todo ts
       integers_later todo NoTerm a = a
       integers_later todo (Further x xs) a = (term_later todo x _ a.0, integers_later todo xs a.1)
 
-      operands_later : (todo : List DeclNo) (ts : Terms) (xs : List Kinds) → OperandsFine s o m j t todo ts xs → OperandsFine s o' m' j t todo ts xs
+      operands_later : (todo : List DeclNo) (ts : Terms) (xs : List Kinds) → OperandsFine s m j t todo ts xs → OperandsFine s m' j t todo ts xs
       operands_later todo NoTerm xs a = a
       operands_later todo (Further y ys) xs a = (a.0, a.1, a.2, term_later todo y _ a.3, operands_later todo ys a.1 a.4)
 
-      pub terms_later : (todo : List DeclNo) (ts : Terms) (hs : List (Option Kinds)) → TermsFine s o m j t todo ts hs → TermsFine s o' m' j t todo ts hs
+      pub terms_later : (todo : List DeclNo) (ts : Terms) (hs : List (Option Kinds)) → TermsFine s m j t todo ts hs → TermsFine s m' j t todo ts hs
       terms_later todo NoTerm hs a = a
       terms_later todo (Further x xs) hs a = (a.0, a.1, a.2, term_later todo x _ a.3, terms_later todo xs a.1 a.4)
 
-    target_later : (x : Target) (k : Kind) (before behind : List Kinds) → TargetFine s o m j x k before behind → TargetFine s o' m' j x k before behind
+    target_later : (x : Target) (k : Kind) (before behind : List Kinds) → TargetFine s m j x k before behind → TargetFine s m' j x k before behind
     target_later (ToCell n key) k before behind a = (cell_target_later n key k a.0, a.1)
     target_later ToAddress k before behind a = a
     target_later (ToText line) k before behind a = a
     target_later (ToTextOf n key line) k before behind a = a
 
-    targets_later : (ts : List Target) (k : Kind) (before behind : List Kinds) → TargetsFine s o m j ts k before behind → TargetsFine s o' m' j ts k before behind
+    targets_later : (ts : List Target) (k : Kind) (before behind : List Kinds) → TargetsFine s m j ts k before behind → TargetsFine s m' j ts k before behind
     targets_later [] k before behind a = a
     targets_later (x ∷ xs) k before behind a = (a.0, target_later x k before a.0 a.1, targets_later xs k a.0 behind a.2)
 
-    variable_later : (x : Target) (k : Kind) → VariableFine s o m j x k → VariableFine s o' m' j x k
+    variable_later : (x : Target) (k : Kind) → VariableFine s m j x k → VariableFine s m' j x k
     variable_later (ToCell n key) k a = cell_target_later n key k a
     variable_later ToAddress k a = a
     variable_later (ToText line) k a = a
@@ -176,6 +194,7 @@ later_under s o m o' m' bound less le e = record {
   arrays = λ j k a lt. e.arrays j k a (omega (arith, lt, le));
   elements = λ j k a n lt. e.elements j k a n (omega (arith, lt, le));
   present = λ j t todo lt. e.present j t todo (omega (arith, lt, le));
+  objects = e.objects;
 }
 
 pub chain_later : (s : Source) (o : AllArrays) (m : Instances) (o' : AllArrays) (m' : Instances) (bound : ℕ) → Later s o m o' m' bound → ((j d : ℕ) → j < bound → Copies o o' j d) → (chain : List Activation) (v : Option Kinds) → ChainFine s o m bound chain v → ChainFine s o' m' bound chain v
@@ -198,10 +217,11 @@ later_then s o m o' m' o'' m'' bound e f = record {
   arrays = λ j k a lt x. f.arrays j k a lt (e.arrays j k a lt x);
   elements = λ j k a n lt x. f.elements j k a n lt (e.elements j k a n lt x);
   present = λ j t todo lt x. f.present j t todo lt (e.present j t todo lt x);
+  objects = λ j c x. f.objects j c (e.objects j c x);
 }
 
 pub later_none : (s : Source) (o : AllArrays) (m : Instances) (bound : ℕ) → Later s o m o m bound
-later_none s o m bound = record { arrays = λ j k a lt x. x; elements = λ j k a n lt x. x; present = λ j t todo lt x. x }
+later_none s o m bound = record { arrays = λ j k a lt x. x; elements = λ j k a n lt x. x; present = λ j t todo lt x. x; objects = λ j c x. x }
 
 -- ---- a store with the same instances
 

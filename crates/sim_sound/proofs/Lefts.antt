@@ -31,9 +31,9 @@ use Rattle.sim_sound.proofs.Reach.{Reaches, among_block, key_of_result, key_ther
 
 module _ (s : Source) (ok : Typed s) (o : AllArrays) (m : Instances) (i t : ℕ) (whole : Begun s o m i t []) where
   abbrev pub LeftFine : Left → Kind → Type 0
-  LeftFine (LeftCell j key) k = CellTarget s o m i j key k
-  LeftFine (LeftAddress x) k = TermFine s o m i t [] x (Some (AddressOf k))
-  LeftFine (LeftText line x) k = (k ≡ kind.Text) × TermFine s o m i t [] x (simple kind.Text)
+  LeftFine (LeftCell j key) k = CellTarget s m i j key k
+  LeftFine (LeftAddress x) k = TermFine s m i t [] x (Some (AddressOf k))
+  LeftFine (LeftText line x) k = (k ≡ kind.Text) × TermFine s m i t [] x (simple kind.Text)
   LeftFine LeftUnbuilt k = ⊥
 
   reach : Reaches s m i (Some t)
@@ -61,7 +61,7 @@ module _ (s : Source) (ok : Typed s) (o : AllArrays) (m : Instances) (i t : ℕ)
       let x = reach (block_of s d) sees in
       let w = x.3 in
       found_left (home_of s m i d) x.0 (λ j. LeftAddress (ElementOf line (Cell j (Declared d.0)) (close_all s m i (Then e es)))) k x.1
-      (k0, ap (λ z. Some (AddressOf z)) same, (ArrayOf k0, refl, Rattle.sim_sound.proofs.Sound.in_whole x.2 w is (key_there s ok (block_of s d) w.words d (ArrayOf k0) w.has_text is (among_block s ok d (ArrayOf k0) is))), integers_fine s ok o m i t [] (Some t) reach (Then e es) a)
+      (k0, ap (λ z. Some (AddressOf z)) same, (ArrayOf k0, refl, Rattle.sim_sound.proofs.Sound.in_whole x.2 w is (key_there s ok (block_of s d) w.words d (ArrayOf k0) w.has_text is (among_block s ok d (ArrayOf k0) is))), integers_fine s ok m i t [] (Some t) reach (Then e es) a)
 
   -- what a left side holds
   result_is : (d : DeclNo) (type : SimType) (u : ℕ) (k : Kind) → entry_of s.tables d ≡ Some (entry.Procedure (Some type) u) → kind_of_type type ≡ k → Around s.tables t u → LeftFine (result_left s m i u NoMore) k
@@ -132,32 +132,32 @@ module _ (s : Source) (ok : Typed s) (o : AllArrays) (m : Instances) (i t : ℕ)
   variable_fine _ k a = absurd a
 
   -- the result of a procedure that is assigned to as a text
-  cell_term : (x : Option ℕ) → LeftFine (left_in x (λ j. LeftCell j Result)) kind.Text → TermFine s o m i t [] (in_instance x (λ j. Cell j Result)) (simple kind.Text)
+  cell_term : (x : Option ℕ) → LeftFine (left_in x (λ j. LeftCell j Result)) kind.Text → TermFine s m i t [] (in_instance x (λ j. Cell j Result)) (simple kind.Text)
   cell_term None a = absurd a
   cell_term (Some j) a = (Simply kind.Text, refl, in_whole a.before a.whole a.holds a.there)
 
-  own_entry : (d : DeclNo) (e : Option Entry) (token block : ℕ) (text : Term) → entry_of s.tables d ≡ e → own_block s token e ≡ Some block → LeftDeclared s t d NoMore (AreIntegers s (Some t) NoMore) e kind.Text → TermFine s o m i t [] (result_or s m i (Some block) text) (simple kind.Text)
+  own_entry : (d : DeclNo) (e : Option Entry) (token block : ℕ) (text : Term) → entry_of s.tables d ≡ e → own_block s token e ≡ Some block → LeftDeclared s t d NoMore (AreIntegers s (Some t) NoMore) e kind.Text → TermFine s m i t [] (result_or s m i (Some block) text) (simple kind.Text)
   own_entry d (Some (entry.Procedure (Some type) u)) token block text is own a = by_inside (is_inside s.tables token u) own
     where
-      by_inside : (b : Bool) → block_if b u ≡ Some block → TermFine s o m i t [] (result_or s m i (Some block) text) (simple kind.Text)
-      by_inside true e = let same : u ≡ block = cc in subst (λ z. TermFine s o m i t [] (result_or s m i (Some z) text) (simple kind.Text)) same (cell_term (at_level m (level_of s u) i) (result_is d type u kind.Text is a.0 a.1))
+      by_inside : (b : Bool) → block_if b u ≡ Some block → TermFine s m i t [] (result_or s m i (Some block) text) (simple kind.Text)
+      by_inside true e = let same : u ≡ block = cc in subst (λ z. TermFine s m i t [] (result_or s m i (Some z) text) (simple kind.Text)) same (cell_term (at_level m (level_of s u) i) (result_is d type u kind.Text is a.0 a.1))
       by_inside false e = absurd (cc)
   own_entry d (Some (entry.Procedure None u)) token block text is own a = absurd a
   own_entry d None token block text is own a = absurd a
   own_entry d (Some _) token block text is own a = absurd (cc)
 
-  own_denoted : (x : Option Denotation) (token block : ℕ) (text : Term) → own_block_denoted s token x ≡ Some block → LeftDenoted s t x NoMore (AreIntegers s (Some t) NoMore) kind.Text → TermFine s o m i t [] (result_or s m i (Some block) text) (simple kind.Text)
+  own_denoted : (x : Option Denotation) (token block : ℕ) (text : Term) → own_block_denoted s token x ≡ Some block → LeftDenoted s t x NoMore (AreIntegers s (Some t) NoMore) kind.Text → TermFine s m i t [] (result_or s m i (Some block) text) (simple kind.Text)
   own_denoted (Some (denotation.Declared d)) token block text own a = own_entry d (entry_of s.tables d) token block text refl own a
   own_denoted _ token block text own a = absurd a
 
-  own_fine : (e : Expression) (block : ℕ) (text : Term) → own_result s e ≡ Some block → LeftIs s t e kind.Text → TermFine s o m i t [] (result_or s m i (Some block) text) (simple kind.Text)
+  own_fine : (e : Expression) (block : ℕ) (text : Term) → own_result s e ≡ Some block → LeftIs s t e kind.Text → TermFine s m i t [] (result_or s m i (Some block) text) (simple kind.Text)
   unfolding own_result
   own_fine (syntax.Named name NoMore) block text own a = own_denoted (denoted s name.token.0) name.token.0 block text own a
   own_fine (syntax.Named name (Then e es)) block text own a = absurd (cc)
   own_fine _ block text own a = absurd a
 
-  text_fine : (e : Expression) (own : Option ℕ) → own_result s e ≡ own → TextLeft s t e own → TermFine s o m i t [] (result_or s m i own (close s m i e)) (simple kind.Text)
-  text_fine e None is a = expr_fine s ok o m i t [] (Some t) reach e (Simply kind.Text) a
+  text_fine : (e : Expression) (own : Option ℕ) → own_result s e ≡ own → TextLeft s t e own → TermFine s m i t [] (result_or s m i own (close s m i e)) (simple kind.Text)
+  text_fine e None is a = expr_fine s ok m i t [] (Some t) reach e (Simply kind.Text) a
   text_fine e (Some block) is a = own_fine e block (close s m i e) is a
 
   pub left_fine : (text : Bool) (sign : Assignment) (line : ℕ) (e : Expression) (k : Kind) → LeftOf text sign s t e k → LeftFine (close_left_of text sign s m i line e) k

@@ -82,7 +82,7 @@ module _ {S : Type 0} (P : World → S → Type 0) where
     any_popped k ks [] o f h x = absurd h
     any_popped k ks (v ∷ rest) o f h x = popped v rest o f (x v rest refl h.0 h.1)
 
-    simple_is : (k : Kind) (v : Val) (o : World) (f : Plain → Run S) → ValFine a j (Simply k) v → ((p : Plain) → kind_of p ≡ k → Goes P (f p)) → Goes P (having (plain v) o f)
+    simple_is : (k : Kind) (v : Val) (o : World) (f : Plain → Run S) → ValFine s a m j (Simply k) v → ((p : Plain) → kind_of p ≡ k → Goes P (f p)) → Goes P (having (plain v) o f)
     simple_is k (Of p) o f h x = had (Some p) p o f refl (x p h)
     simple_is k (Link i) o f h x = absurd h
     simple_is k (Address i) o f h x = absurd h

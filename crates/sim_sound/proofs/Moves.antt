@@ -4,6 +4,7 @@ use Rattle.std.proofs.lemmas.Bool.{cases_eq}
 use Rattle.std.specs.Prelude.{◌==◌, ◌&&◌, not, if◌then◌else◌, slice_get}
 use Rattle.sim_chains.specs.Components.{Standing}
 use Rattle.sim_base.specs.declared.numbering.DeclNo.{DeclNo}
+use Rattle.sim_scope.specs.Levels.{has_level}
 use Rattle.sim_scope.specs.Source.{Source}
 use Rattle.sim_values.specs.declared.kind.Kind.{Kind}
 use Rattle.sim_code.specs.Outcome.{ArrayOf as OneArray, World}
@@ -14,9 +15,9 @@ use Rattle.sim_meaning.specs.Pending.{Activation, Declared, Held, Instances, Key
 use Rattle.sim_meaning.specs.Meaning.{instances_left, text_of, words_of_text, world_left}
 use Rattle.sim_meaning.specs.Texts.{text}
 use Rattle.sim_sound.specs.Typed.{Holds, key_holds}
-use Rattle.sim_sound.proofs.Sound.{AllArrays, AllOn, ArrayFine, InstanceFine, KeepsNone, NothingKept, OnChain, Operates, Present, Sight, StoreFine, ValFine, see}
+use Rattle.sim_sound.proofs.Sound.{AllArrays, AllOn, ArrayFine, InstanceFine, KeepsNone, NothingKept, ObjectOf, OnChain, Operates, Present, Sight, StoreFine, ValFine, see}
 use Rattle.sim_sound.proofs.Changes.{cells_set, held_stays, keys_set}
-use Rattle.sim_sound.proofs.Later.{Copies, Later, enclosed_later, instance_later, later_none, live_less}
+use Rattle.sim_sound.proofs.Later.{Copies, Later, cells_later, enclosed_later, instance_later, later_none, live_less}
 use Rattle.sim_sound.proofs.Lists.{append_before, if_false, no_some, other_numbers, same_some, set_len, set_other, set_same}
 
 one_longer : (xs : List (Instance (List Held))) (x : Instance (List Held)) → length (xs ++ x ∷ []) ≡ suc (length xs)
@@ -55,7 +56,7 @@ operates_on m n i rest same top = record {
 
 -- ---- a cell that is set
 
-module _ (s : Source) (o : AllArrays) (m : Instances) (e u : ℕ) (y : Instance (List Held)) (lives : live m e ≡ Some y) (of_text : y.text ≡ u) (f : InstanceFine s o m e u y) (key : Key) (h : Holds) (v : Val) (is : key_holds s u key ≡ Some h) (fine : ValFine o e h v) (cells : List Held) (set : held_set key v y.cells ≡ Some cells) where
+module _ (s : Source) (o : AllArrays) (m : Instances) (e u : ℕ) (y : Instance (List Held)) (lives : live m e ≡ Some y) (of_text : y.text ≡ u) (f : InstanceFine s o m e u y) (key : Key) (h : Holds) (v : Val) (is : key_holds s u key ≡ Some h) (fine : ValFine s o m e h v) (cells : List Held) (set : held_set key v y.cells ≡ Some cells) where
   abbrev pub other : Instance (List Held)
   other = record y { cells = cells }
 
@@ -71,7 +72,7 @@ module _ (s : Source) (o : AllArrays) (m : Instances) (e u : ℕ) (y : Instance 
   elsewhere j differ = ap instances.unless_given (set_other m.instances e j other differ)
 
   pub later_cell : (bound : ℕ) → Later s o m o set_in bound
-  later_cell bound = record { arrays = λ j k a lt f. f; elements = λ j k a n lt f. f; present = λ j t todo lt p. ⊎_elim (here j t todo p) (there j t todo p) (cases_eq j e) }
+  later_cell bound = record { arrays = λ j k a lt f. f; elements = λ j k a n lt f. f; present = λ j t todo lt p. ⊎_elim (here j t todo p) (there j t todo p) (cases_eq j e); objects = λ j c p. ⊎_elim (object_here j c p) (object_there j c p) (cases_eq j e) }
     where
       here : (j t : ℕ) (todo : List DeclNo) → Present s m j t todo → j ≡ e → Present s set_in j t todo
       here j t todo p same =
@@ -88,11 +89,19 @@ module _ (s : Source) (o : AllArrays) (m : Instances) (e u : ℕ) (y : Instance 
       there : (j t : ℕ) (todo : List DeclNo) → Present s m j t todo → j ≢ e → Present s set_in j t todo
       there j t todo p differ = record { now = p.now; lives = elsewhere j differ ∙ p.lives; of_text = p.of_text; words = p.words; has_text = p.has_text; made = p.made }
 
+      object_here : (j c : ℕ) → ObjectOf s m j c → j ≡ e → ObjectOf s set_in j c
+      object_here j c p same =
+          let is_y : y ≡ p.now = same_some (live m j) y p.now (ap (live m) same ∙ lives) p.lives in
+          record { now = other; lives = ap (live set_in) same ∙ set_lives; levels = ap (λ z. has_level s.tables z.text c) is_y ∙ p.levels; stays = ap (λ z. z.passing && not z.kept) is_y ∙ p.stays }
+
+      object_there : (j c : ℕ) → ObjectOf s m j c → j ≢ e → ObjectOf s set_in j c
+      object_there j c p differ = record { now = p.now; lives = elsewhere j differ ∙ p.lives; levels = p.levels; stays = p.stays }
+
   fine_set : InstanceFine s o set_in e u other
   fine_set = record {
     level = f.level;
     keys = keys_set key v y.cells cells set ∙ f.keys;
-    cells = cells_set key v s o e u h is fine y.cells cells set f.cells;
+    cells = cells_later s o m o set_in (suc e) (later_cell (suc e)) e u (omega arith) cells (cells_set key v s o m e u h is fine y.cells cells set f.cells);
     ends = f.ends;
     out = enclosed_later s o m o set_in (suc e) (later_cell (suc e)) e u y.encloser (omega arith) f.out;
   }
@@ -139,6 +148,7 @@ module _ (s : Source) (o : AllArrays) (m : Instances) (y : Instance (List Held))
     arrays = λ j k a lt f. f;
     elements = λ j k a n lt f. f;
     present = λ j t todo lt p. record { now = p.now; lives = ap instances.unless_given (append_before m.instances y j lt) ∙ p.lives; of_text = p.of_text; words = p.words; has_text = p.has_text; made = p.made };
+    objects = λ j c p. record { now = p.now; lives = ap instances.unless_given (append_before m.instances y j (live_less m j p.now p.lives)) ∙ p.lives; levels = p.levels; stays = p.stays };
   }
 
   pub store_entered : StoreFine s o m → InstanceFine s o after (length m.instances) y.text y → StoreFine s o after
@@ -192,16 +202,24 @@ given_len : (m : Instances) (i : ℕ) (x : Option (Instance (List Held))) → le
 given_len m i None = refl
 given_len m i (Some x) = set_len m.instances i (record x { given_back = true })
 
-later_given : (s : Source) (o : AllArrays) (m : Instances) (i : ℕ) → Later s o m (given_view i o) (given m i) i
+-- an object is not given back
+object_apart : (s : Source) (m : Instances) (i j c : ℕ) → is_given_at_end m i ≡ true → ObjectOf s m j c → j ≢ i
+object_apart s m i j c ends p same =
+    let no : is_given_at_end m j ≡ false = ap instances.ends_in p.lives ∙ p.stays in
+    let yes : is_given_at_end m j ≡ true = ap (λ z. is_given_at_end m z) same ∙ ends in
+    cc
+
+later_given : (s : Source) (o : AllArrays) (m : Instances) (i : ℕ) → is_given_at_end m i ≡ true → Later s o m (given_view i o) (given m i) i
 unfolding array_given
-later_given s o m i = record {
+later_given s o m i ends = record {
   arrays = λ j k a lt f. array_given o i j k a lt f;
   elements = λ j k a n lt f. record { array = array_given o i j k a lt f.array; there = f.there };
   present = λ j t todo lt p. record { now = p.now; lives = ap instances.unless_given (given_other m i j (slice_get m.instances i) (λ e. omega (arith, e, lt))) ∙ p.lives; of_text = p.of_text; words = p.words; has_text = p.has_text; made = p.made };
+  objects = λ j c p. record { now = p.now; lives = ap instances.unless_given (given_other m i j (slice_get m.instances i) (object_apart s m i j c ends p)) ∙ p.lives; levels = p.levels; stays = p.stays };
 }
 
-later_if : (s : Source) (g : List Sight) (o p : World) (m n : Instances) (i : ℕ) (b : Bool) → Later s (see g o) m (see g p) n i → Later s (see g o) m (see g (if b then p else o)) (if b then n else m) i
-later_if s g o p m n i true e = e
+later_if : (s : Source) (g : List Sight) (o p : World) (m n : Instances) (i : ℕ) (b : Bool) → (b ≡ true → Later s (see g o) m (see g p) n i) → Later s (see g o) m (see g (if b then p else o)) (if b then n else m) i
+later_if s g o p m n i true e = e refl
 later_if s g o p m n i false e = later_none s (see g o) m i
 
 pub later_left : (s : Source) (g : List Sight) (o : World) (m : Instances) (i : ℕ) → Later s (see g o) m (see g (world_left s i o m)) (instances_left i m) i

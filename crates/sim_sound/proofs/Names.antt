@@ -21,7 +21,7 @@ use Rattle.sim_code.specs.Outcome.{Run, World}
 use Rattle.sim_code.specs.Running.{name_runs}
 use Rattle.sim_meaning.specs.Pending.{Address, ArrayValue, Configuration, Instances, Link, Of, ProcedureValue, Tree, Val, cell}
 use Rattle.sim_meaning.specs.Steps.{of_plain, operand, plain_in, put_back}
-use Rattle.sim_sound.specs.Typed.{ArrayOf, Simply, standard_kind}
+use Rattle.sim_sound.specs.Typed.{ArrayOf, Refers, Simply, standard_kind}
 use Rattle.sim_sound.proofs.Cells.{target_cell}
 use Rattle.sim_sound.proofs.Sound.{AddressOf, Copied, DeepFine, ElementFine, HandFine, HandsFine, ImageAddress, IsImage, Kinds, LinkTo, OperandIs, OperandsAre, Sight, StoreFine, ValFine, Value, pushed, see}
 use Rattle.sim_sound.proofs.Lifts.{Goes, Shape, a_char, a_text, an_int, any_popped, computed, had, ran, shape, took}
@@ -193,13 +193,13 @@ image_same s s' (suc zero) e = ap Some e.1
 image_same s s' (suc (suc n)) e = refl
 
 -- a plain value of a kind
-pub plain_of : (s : Source) (g : List Sight) (o : World) (j : ℕ) (k : Kind) (v : Val) → ValFine (see g o) j (Simply k) v → (p : Plain) × (v ≡ Of p) × (kind_of p ≡ k)
-plain_of s g o j k (Of p) a = (p, refl, a)
-plain_of s g o j k (Link z) a = absurd a
-plain_of s g o j k (Address z) a = absurd a
-plain_of s g o j k (ArrayValue z) a = absurd a
-plain_of s g o j k (ProcedureValue z y) a = absurd a
-plain_of s g o j k (Tree z) a = absurd a
+pub plain_of : (s : Source) (g : List Sight) (o : World) (m : Instances) (j : ℕ) (k : Kind) (v : Val) → ValFine s (see g o) m j (Simply k) v → (p : Plain) × (v ≡ Of p) × (kind_of p ≡ k)
+plain_of s g o m j k (Of p) a = (p, refl, a)
+plain_of s g o m j k (Link z) a = absurd a
+plain_of s g o m j k (Address z) a = absurd a
+plain_of s g o m j k (ArrayValue z) a = absurd a
+plain_of s g o m j k (ProcedureValue z y) a = absurd a
+plain_of s g o m j k (Tree z) a = absurd a
 
 module _ {S : Type 0} (P : World → S → Type 0) (s : Source) (o : World) (g : List Sight) (m : Instances) (j : ℕ) where
   -- an operand that lies in an image is its text
@@ -219,15 +219,16 @@ module _ {S : Type 0} (P : World → S → Type 0) (s : Source) (o : World) (g :
 
   operand_read : StoreFine s (see g o) m → (k : Kind) (x : Kinds) (v : Val) → OperandIs k x → HandFine s (see g o) m j x v → Read k v
   operand_read store k (Value (Simply k')) v is a =
-      let p = plain_of s g o j k' v a in
+      let p = plain_of s g o m j k' v a in
       (p.0, ap (operand o m) p.1, p.2 ∙ (let f : k' ≡ k = cc in f), λ n f. absurd (cc))
+  operand_read store k (Value (Refers c)) v is a = absurd (cc)
   operand_read store k (Value (ArrayOf k')) v is a = absurd (cc)
   operand_read store k (AddressOf k') (Address (ElementPlace a n None)) is f =
       let q = element_there g o j a n k' f in
       place_read k (Address (ElementPlace a n None)) (plain_in (of_plain (element o a n))) q.0 is.0 (ap (λ z. plain_in (of_plain z)) q.1) (q.2 ∙ is.1) refl (λ i g. cc)
   operand_read store k (AddressOf k') (Address (CellPlace e key None)) is c =
       let q = target_cell s (see g o) m j e key k' store c in
-      let p = plain_of s g o e k' q.0 q.2 in
+      let p = plain_of s g o m e k' q.0 q.2 in
       place_read k (Address (CellPlace e key None)) (plain_in (cell m e key)) p.0 is.0 (ap plain_in q.1 ∙ ap (λ z. plain_in (Some z)) p.1) (p.2 ∙ is.1) refl (λ i g. cc)
   operand_read store k (AddressOf k') (Address (ElementPlace a n (Some c))) is f = absurd f
   operand_read store k (AddressOf k') (Address (CellPlace a n (Some c))) is f = absurd f

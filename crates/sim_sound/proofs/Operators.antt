@@ -97,11 +97,11 @@ module _ (s : Source) (ok : Typed s) (l : Limits) (o : World) (g : List Sight) (
   pub copy_op : (line : ℕ) → OpFine s (see g o) m i t (CopyOp line) todo todo' before behind → Stepped (CopyOp line)
   copy_op line a =
       any_popped P s (see g o) m i (Value (ArrayOf a.0)) a.1 vals o (λ v vs. having (array_in v) o (λ array. copying_array l line i array o (λ copy p. go p m i w (ArrayValue copy ∷ vs) rest))) (hand _ a.4) (λ v vs is e hands.
-      array_is P (see g o) i a.0 v o (λ array. copying_array l line i array o (λ copy p. go p m i w (ArrayValue copy ∷ vs) rest)) e (λ n f same.
+      array_is P s (see g o) m i a.0 v o (λ array. copying_array l line i array o (λ copy p. go p m i w (ArrayValue copy ∷ vs) rest)) e (λ n f same.
       copied_array P l line i a.0 n o g (λ copy p. go p m i w (ArrayValue copy ∷ vs) rest) f (λ t' w' x new. by_copy a.2 a.3 vs hands t' w' x new (works _ a.5 a.6))))
     where
       by_copy : (c : Kinds) → IsCopy a.0 c → (vs : List Val) → HandsFine s (see g o) m i a.1 vs → (t' w' : ℕ) (x : OneArray) → NewArray i a.0 x → Work s o g long m i t rest top w todo (c ∷ a.1) → IsFine s (added (ran o t' w') x) (record { chain = record { instance = i; work = w; values = ArrayValue (length o.arrays) ∷ vs } ∷ rest; memory = m })
-      by_copy (Value h) is vs hands t' w' x new y = array_goes Open (Value h) vs a.1 hands t' w' x (subst (λ z. ValFine (more (see g o) Open x) i z (ArrayValue (length o.arrays))) (sym is) (added_fine (see g o) i a.0 x long new)) y
+      by_copy (Value h) is vs hands t' w' x new y = array_goes Open (Value h) vs a.1 hands t' w' x (subst (λ z. ValFine s (more (see g o) Open x) m i z (ArrayValue (length o.arrays))) (sym is) (added_fine (see g o) i a.0 x long new)) y
       by_copy (Copied k) is vs hands t' w' x new y = array_goes (Hidden i (length vs)) (Copied k) vs a.1 hands t' w' x (subst (λ z. CopyFine (more (see g o) (Hidden i (length vs)) x) i (length vs) z (length o.arrays)) (sym is) (copied_fine (see g o) i (length vs) a.0 x long new)) y
       by_copy (AddressOf k) is vs hands t' w' x new y = absurd is
       by_copy ImageAddress is vs hands t' w' x new y = absurd is

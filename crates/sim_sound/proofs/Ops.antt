@@ -15,7 +15,7 @@ use Rattle.sim_code.specs.Instances.{CellPlace, ElementPlace, ImagePlace}
 use Rattle.sim_code.specs.Outcome.{ArrayOf as OneArray, Run, World}
 use Rattle.sim_meaning.specs.Pending.{Activation, Address, AgainOp, ArrayOp, ArrayValue, Cell, Configuration, CopyOp, Declared, Do, DropOp, ElementOp, Eval, FetchOp, GiveOp, Held, IfOp, Instances, Item, Key, Link, Of, OneOp, Op, PastOp, ProcedureValue, ShareOp, StandardOp, StepOp, StoreOp, Target, Term, ToAddress, ToCell, Tree, TwoOp, Val, array_in, cell, cell_set, held, place_in, plain}
 use Rattle.sim_meaning.specs.Steps.{go, of_plain, put_back, putting, value_at}
-use Rattle.sim_sound.specs.Typed.{Among, ArrayOf, Simply, Typed, first, key_holds, later}
+use Rattle.sim_sound.specs.Typed.{Among, ArrayOf, Refers, Simply, Typed, first, key_holds, later}
 use Rattle.sim_sound.proofs.Cells.{cell_put, fine_at, target_cell}
 use Rattle.sim_sound.proofs.Changes.{changed, copies_element, held_now, held_stays, later_element}
 use Rattle.sim_sound.proofs.Evals.{IsFine, Work, goes_on}
@@ -72,7 +72,7 @@ module _ (s : Source) (ok : Typed s) (l : Limits) (o : World) (g : List Sight) (
 
   -- ---- a cell is set
 
-  pub set_goes : (j u : ℕ) (key : Key) (k : Kind) (v : Val) (w : List Item) (vals : List Val) (todo : List DeclNo) (ks : List Kinds) → CellTarget s (see g o) m i j key k → ValFine (see g o) i (Simply k) v → Bg todo → Hd ks vals → Wk w todo ks → Go (having (cell_set m j key v) o (λ m. go o m i w vals rest))
+  pub set_goes : (j u : ℕ) (key : Key) (k : Kind) (v : Val) (w : List Item) (vals : List Val) (todo : List DeclNo) (ks : List Kinds) → CellTarget s m i j key k → ValFine s (see g o) m i (Simply k) v → Bg todo → Hd ks vals → Wk w todo ks → Go (having (cell_set m j key v) o (λ m. go o m i w vals rest))
   set_goes j u key k v w vals todo ks c fine b h work =
       let p = c.whole in
       let x = p.now in
@@ -81,7 +81,7 @@ module _ (s : Source) (ok : Typed s) (l : Limits) (o : World) (g : List Sight) (
       had (IsFine s) (cell_set m j key v) (set_in s (see g o) m j c.around x p.lives p.of_text f key (Simply k) v c.holds (simple_here v fine) r.0 r.1) o (λ m. go o m i w vals rest) r.2
       (later_goes g o long (set_in s (see g o) m j c.around x p.lives p.of_text f key (Simply k) v c.holds (simple_here v fine) r.0 r.1) (later_cell s (see g o) m j c.around x p.lives p.of_text f key (Simply k) v c.holds (simple_here v fine) r.0 r.1 (length m.instances)) same_copies (same_cell s (see g o) m j c.around x p.lives p.of_text f key (Simply k) v c.holds (simple_here v fine) r.0 r.1) (store_cell s (see g o) m j c.around x p.lives p.of_text f key (Simply k) v c.holds (simple_here v fine) r.0 r.1 b.store) w vals todo ks b h work)
     where
-      simple_here : (v : Val) → ValFine (see g o) i (Simply k) v → ValFine (see g o) j (Simply k) v
+      simple_here : (v : Val) → ValFine s (see g o) m i (Simply k) v → ValFine s (see g o) m j (Simply k) v
       simple_here (Of p) a = a
       simple_here (Link n) a = absurd a
       simple_here (Address n) a = absurd a
@@ -96,7 +96,7 @@ module _ (s : Source) (ok : Typed s) (l : Limits) (o : World) (g : List Sight) (
       (λ a. a)
       (among_cases e todo (made e k holds in_text (held_stays (Declared d.0) v (Declared e.0) hs cells set none)) d todo' is)
 
-  pub stored_array : (d : DeclNo) (k : Kind) (v : Val) (w : List Item) (vals : List Val) (todo todo' : List DeclNo) (ks : List Kinds) → key_holds s t (Declared d.0) ≡ Some (ArrayOf k) → Rattle.sim_sound.proofs.Sound.KeyAmong (Declared d.0) (Rattle.sim_sound.proofs.Sound.keys_in s t (Rattle.sim_meaning.specs.Texts.text s t)) → todo ≡ d ∷ todo' → ValFine (see g o) i (ArrayOf k) v → Bg todo → Hd ks vals → Wk w todo' ks → Go (having (cell_set m i (Declared d.0) v) o (λ m. go o m i w vals rest))
+  pub stored_array : (d : DeclNo) (k : Kind) (v : Val) (w : List Item) (vals : List Val) (todo todo' : List DeclNo) (ks : List Kinds) → key_holds s t (Declared d.0) ≡ Some (ArrayOf k) → Rattle.sim_sound.proofs.Sound.KeyAmong (Declared d.0) (Rattle.sim_sound.proofs.Sound.keys_in s t (Rattle.sim_meaning.specs.Texts.text s t)) → todo ≡ d ∷ todo' → ValFine s (see g o) m i (ArrayOf k) v → Bg todo → Hd ks vals → Wk w todo' ks → Go (having (cell_set m i (Declared d.0) v) o (λ m. go o m i w vals rest))
   stored_array d k v w vals todo todo' ks holds there is fine b h work =
       let p = b.here in
       let x = p.now in
@@ -126,7 +126,7 @@ module _ (s : Source) (ok : Typed s) (l : Limits) (o : World) (g : List Sight) (
       had (IsFine s) (element_set o a n p) (with_arrays o new.real) o (λ o. go o m i w vals rest) set
       (later_goes g (with_arrays o new.real) (long ∙ sym (set_len o.arrays a (Rattle.sim_sound.proofs.Changes.new (see g o) i k a n p f is))) m (later_element (see g o) i k a n p f is s m (length m.instances)) (λ j d less. copies_element (see g o) i k a n p f is j d) (same_ones m) (store_later s (see g o) m new (later_element (see g o) i k a n p f is s m (length m.instances)) b.store) w vals todo ks b h work)
 
-  pub putting_goes : (k : Kind) (p v : Val) (w : List Item) (vals : List Val) (todo : List DeclNo) (ks : List Kinds) → HandFine s (see g o) m i (AddressOf k) p → ValFine (see g o) i (Simply k) v → Bg todo → Hd ks vals → Wk w todo ks → Go (having (place_in p) o (λ p. putting p v o m (λ o m. go o m i w vals rest)))
+  pub putting_goes : (k : Kind) (p v : Val) (w : List Item) (vals : List Val) (todo : List DeclNo) (ks : List Kinds) → HandFine s (see g o) m i (AddressOf k) p → ValFine s (see g o) m i (Simply k) v → Bg todo → Hd ks vals → Wk w todo ks → Go (having (place_in p) o (λ p. putting p v o m (λ o m. go o m i w vals rest)))
   unfolding putting
   putting_goes k (Address (ElementPlace a n None)) (Of p) w vals todo ks f is b h work =
       had (IsFine s) (Some (ElementPlace a n None)) (ElementPlace a n None) o (λ z. putting z (Of p) o m (λ o m. go o m i w vals rest)) refl
@@ -154,7 +154,7 @@ module _ (s : Source) (ok : Typed s) (l : Limits) (o : World) (g : List Sight) (
       (had (IsFine s) (of_plain (element o a n)) (Of q.0) o (λ v. go o m i w (v ∷ vals) rest) (ap of_plain q.1) (goes_on s o g long m i t rest top w (Of q.0 ∷ vals) todo (Value (Simply k) ∷ ks) b (q.2 ∙ is, h) work))
   fetched_goes k (AddressOf k') (Address (CellPlace e key None)) w vals todo ks is c b h work =
       let q = target_cell s (see g o) m i e key k' b.store c in
-      let p = plain_of s g o e k' q.0 q.2 in
+      let p = plain_of s g o m e k' q.0 q.2 in
       had (IsFine s) (Some (CellPlace e key None)) (CellPlace e key None) o (λ p. having (value_at o m p) o (λ v. go o m i w (v ∷ vals) rest)) refl
       (had (IsFine s) (cell m e key) (Of p.0) o (λ v. go o m i w (v ∷ vals) rest) (q.1 ∙ ap Some p.1) (goes_on s o g long m i t rest top w (Of p.0 ∷ vals) todo (Value (Simply k) ∷ ks) b (p.2 ∙ is, h) work))
   fetched_goes k ImageAddress (Address (ImagePlace n)) w vals todo ks is f b h work =
@@ -208,6 +208,7 @@ module _ (s : Source) (ok : Typed s) (l : Limits) (o : World) (g : List Sight) (
   put_text (Address (ElementPlace n e c)) x ImageAddress is a image = absurd a
   put_text (Address (CellPlace n e c)) x ImageAddress is a image = absurd a
   put_text (Address p) x (Value (Simply k)) is a image = absurd a
+  put_text (Address p) x (Value (Refers c)) is a image = absurd a
   put_text (Address p) x (Value (ArrayOf k)) is a image = absurd a
   put_text (Address p) x (LinkTo u) is a image = absurd is
   put_text (Address p) x (Copied u) is a image = absurd is

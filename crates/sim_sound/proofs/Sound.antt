@@ -5,6 +5,7 @@ use Rattle.sim_base.specs.declared.numbering.DeclNo.{DeclNo}
 use Rattle.sim_chains.specs.Components.{DetachedObject, NoObject, Standing}
 use Rattle.sim_scope.specs.declared.types.Formal.{Formal}
 use Rattle.sim_scope.specs.Access.{encloser}
+use Rattle.sim_scope.specs.Levels.{has_level}
 use Rattle.sim_scope.specs.Source.{Source, level_of}
 use Rattle.sim_tree.specs.declared.stmt.TypeName.{TypeName}
 use Rattle.sim_tree.specs.Syntax.{Declarations, Heading, Statement, Statements}
@@ -12,7 +13,7 @@ use Rattle.sim_values.specs.declared.kind.Kind.{Kind}
 use Rattle.sim_values.specs.declared.kind.Kind.TheVariants as kind
 use Rattle.sim_values.specs.declared.operators.Monadic.{Monadic}
 use Rattle.sim_values.specs.declared.operators.Monadic.TheVariants as monadic
-use Rattle.sim_values.specs.Plain.{Plain, kind_of}
+use Rattle.sim_values.specs.Plain.{Nothing, Object, Plain, kind_of}
 use Rattle.sim_values.specs.Standard.{operands_of, row_of}
 use Rattle.sim_values.specs.Words.{element_count}
 use Rattle.sim_code.specs.Outcome.{ArrayOf as OneArray, World}
@@ -23,7 +24,7 @@ use Rattle.sim_meaning.specs.Entries.{first_cells, formals_of, is_array_by_value
 use Rattle.sim_meaning.specs.Meaning.{has_result}
 use Rattle.sim_meaning.specs.Pending.{Activation, Address, AgainOp, ArrayOp, ArrayValue, BackOp, BranchOp, CallOf, CallOp, Cell, ChooseOp, Configuration, CopyOf, CopyOp, Declared, Do, DropOp, Either, ElementOf, ElementOp, ElementsOp, EndBlock, EndProcedure, EndProgram, EnterOp, Eval, Exec, Execs, FetchOp, Further, Given, GiveOp, Held, IfOp, ImageOf, Instances, Item, JoinOp, Joined, Key, Link, NoTerm, Of, One, OneOp, Op, PastOp, PlaceOf, RaiseOp, ShareOp, StandardOf, StandardOp, StepOp, StepTestOp, StoreOp, Target, Term, Terms, TestOp, ToAddress, ToCell, ToText, ToTextOf, Two, TwoOp, Unbuilt, Val, ValueAt, WhileElementOp, held}
 use Rattle.sim_meaning.specs.Texts.{BlockText, ProcedureText, Text, text}
-use Rattle.sim_sound.specs.Typed.{Among, ArrayOf, ElementsAre, ExprIs, Holds, Simply, StatementIs, StatementsAre, TwoKinds, formal_holds, key_holds, result_holds, some_holds, standard_kind}
+use Rattle.sim_sound.specs.Typed.{Among, ArrayOf, ElementsAre, ExprIs, Holds, Refers, Simply, StatementIs, StatementsAre, TwoKinds, formal_holds, key_holds, result_holds, some_holds, standard_kind}
 
 -- ---- values
 
@@ -59,23 +60,38 @@ pub record CopyFine (o : AllArrays) (j d : ℕ) (k : Kind) (a : ℕ) : Type 0 wh
   pub kinds : (i : ℕ) (p : Plain) → slice_get it.elements i ≡ Some p → kind_of p ≡ k
   pub count : length it.elements ≡ element_count it.bounds
 
-abbrev pub ValFine : AllArrays → ℕ → Holds → Val → Type 0
-ValFine o j (Simply k) (Of p) = kind_of p ≡ k
-ValFine o j (ArrayOf k) (ArrayValue a) = ArrayFine o j k a
-ValFine o j _ _ = ⊥
+-- an object that has the class among its levels, which is not given back at its end
+pub record ObjectOf (s : Source) (m : Instances) (j class : ℕ) : Type 0 where
+  pub now : Instance (List Held)
+  pub lives : live m j ≡ Some now
+  pub levels : has_level s.tables now.text class ≡ true
+  pub stays : (now.passing && not now.kept) ≡ false
+
+-- a reference to an object of a class, or to none
+abbrev pub ReferenceFine : Source → Instances → (class : ℕ) → Plain → Type 0
+ReferenceFine s m c Nothing = Unit {0}
+ReferenceFine s m c (Object j) = ObjectOf s m j c
+ReferenceFine s m c _ = ⊥
+
+abbrev pub ValFine : Source → AllArrays → Instances → ℕ → Holds → Val → Type 0
+ValFine s o m j (Simply k) (Of p) = kind_of p ≡ k
+ValFine s o m j (Refers c) (Of p) = ReferenceFine s m c p
+ValFine s o m j (ArrayOf k) (ArrayValue a) = ArrayFine o j k a
+ValFine s o m j _ _ = ⊥
 
 -- ---- cells
 
 -- A cell has what it holds; one of an array may have nothing yet.
-abbrev pub CellFine : AllArrays → ℕ → Option Holds → Option Val → Type 0
-CellFine o j None v = Unit {0}
-CellFine o j (Some (Simply k)) None = ⊥
-CellFine o j (Some (ArrayOf k)) None = Unit {0}
-CellFine o j (Some h) (Some v) = ValFine o j h v
+abbrev pub CellFine : Source → AllArrays → Instances → ℕ → Option Holds → Option Val → Type 0
+CellFine s o m j None v = Unit {0}
+CellFine s o m j (Some (Simply k)) None = ⊥
+CellFine s o m j (Some (Refers c)) None = ⊥
+CellFine s o m j (Some (ArrayOf k)) None = Unit {0}
+CellFine s o m j (Some h) (Some v) = ValFine s o m j h v
 
-abbrev pub CellsFine : Source → AllArrays → (instance text : ℕ) → List Held → Type 0
-CellsFine s o j t [] = Unit {0}
-CellsFine s o j t (h ∷ hs) = CellFine o j (key_holds s t h.key) h.value × CellsFine s o j t hs
+abbrev pub CellsFine : Source → AllArrays → Instances → (instance text : ℕ) → List Held → Type 0
+CellsFine s o m j t [] = Unit {0}
+CellsFine s o m j t (h ∷ hs) = CellFine s o m j (key_holds s t h.key) h.value × CellsFine s o m j t hs
 
 abbrev pub key_of : Held → Key
 key_of h = h.key
@@ -115,7 +131,7 @@ pub data Enclosed (s : Source) (m : Instances) (j t : ℕ) (out : Option ℕ) : 
 pub record InstanceFine (s : Source) (o : AllArrays) (m : Instances) (j t : ℕ) (x : Instance (List Held)) : Type 0 where
   pub level : x.level ≡ level_of s t
   pub keys : map key_of x.cells ≡ keys_in s t (text s t)
-  pub cells : CellsFine s o j t x.cells
+  pub cells : CellsFine s o m j t x.cells
   pub ends : (x.passing && not x.kept) ≡ true
   pub out : Enclosed s m j t x.encloser
 
@@ -143,7 +159,7 @@ pub record ElementFine (o : AllArrays) (j : ℕ) (k : Kind) (a n : ℕ) : Type 0
   pub there : n < length (array.it).elements
 
 -- a cell that a value is assigned to
-pub record CellTarget (s : Source) (o : AllArrays) (m : Instances) (j e : ℕ) (key : Key) (k : Kind) : Type 0 where
+pub record CellTarget (s : Source) (m : Instances) (j e : ℕ) (key : Key) (k : Kind) : Type 0 where
   pub around : ℕ
   pub before : e ≤ j
   pub whole : Whole s m e around
@@ -156,9 +172,9 @@ IsImage (suc zero) = Unit {0}
 IsImage (suc (suc n)) = ⊥
 
 abbrev pub HandFine : Source → AllArrays → Instances → ℕ → Kinds → Val → Type 0
-HandFine s o m j (Value h) v = ValFine o j h v
+HandFine s o m j (Value h) v = ValFine s o m j h v
 HandFine s o m j (AddressOf k) (Address (ElementPlace a n None)) = ElementFine o j k a n
-HandFine s o m j (AddressOf k) (Address (CellPlace e key None)) = CellTarget s o m j e key k
+HandFine s o m j (AddressOf k) (Address (CellPlace e key None)) = CellTarget s m j e key k
 HandFine s o m j ImageAddress (Address (ImagePlace n)) = IsImage n
 HandFine s o m j (LinkTo u) (Link e) = (e ≤ j) × Whole s m e u
 HandFine s o m j _ _ = ⊥
@@ -167,7 +183,7 @@ HandFine s o m j _ _ = ⊥
 abbrev pub DeepFine : Source → AllArrays → Instances → (j depth : ℕ) → Kinds → Val → Type 0
 DeepFine s o m j d (Copied k) (ArrayValue a) = CopyFine o j d k a
 DeepFine s o m j d (Copied k) _ = ⊥
-DeepFine s o m j d (Value h) v = ValFine o j h v
+DeepFine s o m j d (Value h) v = ValFine s o m j h v
 DeepFine s o m j d (AddressOf k) v = HandFine s o m j (AddressOf k) v
 DeepFine s o m j d ImageAddress v = HandFine s o m j ImageAddress v
 DeepFine s o m j d (LinkTo u) v = HandFine s o m j (LinkTo u) v
@@ -196,9 +212,9 @@ OneKinds monadic.Negate k = k ≡ kind.Integer
 OneKinds monadic.Not k = k ≡ kind.Boolean
 
 -- a cell of a whole instance, or one of its own that is made
-pub data CellIs (s : Source) (o : AllArrays) (m : Instances) (j t : ℕ) (todo : List DeclNo) (e : ℕ) (key : Key) (h : Holds) : Type 0 where
-  in_whole : {u : ℕ} → e ≤ j → Whole s m e u → key_holds s u key ≡ Some h → KeyAmong key (keys_in s u (text s u)) → CellIs s o m j t todo e key h
-  own_made : {d : DeclNo} → e ≡ j → key ≡ Declared d.0 → key_holds s t key ≡ Some h → KeyAmong key (keys_in s t (text s t)) → (Among d todo → ⊥) → CellIs s o m j t todo e key h
+pub data CellIs (s : Source) (m : Instances) (j t : ℕ) (todo : List DeclNo) (e : ℕ) (key : Key) (h : Holds) : Type 0 where
+  in_whole : {u : ℕ} → e ≤ j → Whole s m e u → key_holds s u key ≡ Some h → KeyAmong key (keys_in s u (text s u)) → CellIs s m j t todo e key h
+  own_made : {d : DeclNo} → e ≡ j → key ≡ Declared d.0 → key_holds s t key ≡ Some h → KeyAmong key (keys_in s t (text s t)) → (Among d todo → ⊥) → CellIs s m j t todo e key h
 
 -- what the cells of formal parameters hold, and what is in hand for them: of an array by value a copy
 abbrev pub holds_of : List Formal → List (Option Holds)
@@ -208,6 +224,7 @@ holds_of (f ∷ fs) = formal_holds f.mode f.kind f.ty ∷ holds_of fs
 abbrev pub in_hand : (by_value : Bool) → Option Holds → Option Kinds
 in_hand true (Some (ArrayOf k)) = Some (Copied k)
 in_hand true (Some (Simply k)) = Some (Value (Simply k))
+in_hand true (Some (Refers c)) = Some (Value (Refers c))
 in_hand true None = None
 in_hand false h = held_kinds h
 
@@ -215,7 +232,7 @@ abbrev pub formal_kinds : List Formal → List (Option Kinds)
 formal_kinds [] = []
 formal_kinds (f ∷ fs) = in_hand (is_array_by_value f.mode f.kind) (formal_holds f.mode f.kind f.ty) ∷ formal_kinds fs
 
-pub record CallFine (s : Source) (o : AllArrays) (m : Instances) (j e k : ℕ) (g : Option Kinds) (Actuals : List (Option Kinds) → Type 0) : Type 0 where
+pub record CallFine (s : Source) (m : Instances) (j e k : ℕ) (g : Option Kinds) (Actuals : List (Option Kinds) → Type 0) : Type 0 where
   pub around : ℕ
   pub before : e ≤ j
   pub whole : Whole s m e around
@@ -249,33 +266,33 @@ OperandsAre (k ∷ ks) (x ∷ xs) = OperandIs k x × OperandsAre ks xs
 
 abbrev mutual
   -- in an instance j of the text t
-  pub TermFine : Source → AllArrays → Instances → (j t : ℕ) → List DeclNo → Term → Option Kinds → Type 0
-  TermFine s o m j t todo (Given p) g = simple (kind_of p) ≡ g
-  TermFine s o m j t todo (Cell e key) g = (h : Holds) × (Some (Value h) ≡ g) × CellIs s o m j t todo e key h
-  TermFine s o m j t todo (One op line a) g = (k : Kind) × OneKinds op k × (simple k ≡ g) × TermFine s o m j t todo a (simple k)
-  TermFine s o m j t todo (Two op line a b) g = (k : Kind) × (v : Kind) × TwoKinds op k v × (simple v ≡ g) × TermFine s o m j t todo a (simple k) × TermFine s o m j t todo b (simple k)
-  TermFine s o m j t todo (Either c a b) g = (h : Kinds) × (Some h ≡ g) × TermFine s o m j t todo c (simple kind.Boolean) × TermFine s o m j t todo a g × TermFine s o m j t todo b g
-  TermFine s o m j t todo (ElementOf line a ts) g = (k : Kind) × (Some (AddressOf k) ≡ g) × TermFine s o m j t todo a (Some (Value (ArrayOf k))) × IntegersFine s o m j t todo ts
-  TermFine s o m j t todo (ValueAt a) g = (k : Kind) × (x : Kinds) × Leads x k × (simple k ≡ g) × TermFine s o m j t todo a (Some x)
-  TermFine s o m j t todo (PlaceOf e key) g = (k : Kind) × (Some (AddressOf k) ≡ g) × CellTarget s o m j e key k
-  TermFine s o m j t todo (ImageOf n) g = (Some ImageAddress ≡ g) × IsImage n
-  TermFine s o m j t todo (Joined line a b) g = (simple kind.Text ≡ g) × TermFine s o m j t todo a (simple kind.Text) × TermFine s o m j t todo b (simple kind.Text)
-  TermFine s o m j t todo (CopyOf line a) g = (k : Kind) × (Some (Copied k) ≡ g) × TermFine s o m j t todo a (Some (Value (ArrayOf k)))
-  TermFine s o m j t todo (CallOf e k ts line) g = CallFine s o m j e k g (TermsFine s o m j t todo ts)
-  TermFine s o m j t todo (StandardOf name ts line) g = (name_runs name ≡ true) × (held_kinds (some_holds (standard_kind (row_of name).result)) ≡ g) × (xs : List Kinds) × OperandsAre (operands_of (row_of name).function) xs × OperandsFine s o m j t todo ts xs
-  TermFine s o m j t todo Unbuilt g = ⊥
+  pub TermFine : Source → Instances → (j t : ℕ) → List DeclNo → Term → Option Kinds → Type 0
+  TermFine s m j t todo (Given p) g = simple (kind_of p) ≡ g
+  TermFine s m j t todo (Cell e key) g = (h : Holds) × (Some (Value h) ≡ g) × CellIs s m j t todo e key h
+  TermFine s m j t todo (One op line a) g = (k : Kind) × OneKinds op k × (simple k ≡ g) × TermFine s m j t todo a (simple k)
+  TermFine s m j t todo (Two op line a b) g = (k : Kind) × (v : Kind) × TwoKinds op k v × (simple v ≡ g) × TermFine s m j t todo a (simple k) × TermFine s m j t todo b (simple k)
+  TermFine s m j t todo (Either c a b) g = (h : Kinds) × (Some h ≡ g) × TermFine s m j t todo c (simple kind.Boolean) × TermFine s m j t todo a g × TermFine s m j t todo b g
+  TermFine s m j t todo (ElementOf line a ts) g = (k : Kind) × (Some (AddressOf k) ≡ g) × TermFine s m j t todo a (Some (Value (ArrayOf k))) × IntegersFine s m j t todo ts
+  TermFine s m j t todo (ValueAt a) g = (k : Kind) × (x : Kinds) × Leads x k × (simple k ≡ g) × TermFine s m j t todo a (Some x)
+  TermFine s m j t todo (PlaceOf e key) g = (k : Kind) × (Some (AddressOf k) ≡ g) × CellTarget s m j e key k
+  TermFine s m j t todo (ImageOf n) g = (Some ImageAddress ≡ g) × IsImage n
+  TermFine s m j t todo (Joined line a b) g = (simple kind.Text ≡ g) × TermFine s m j t todo a (simple kind.Text) × TermFine s m j t todo b (simple kind.Text)
+  TermFine s m j t todo (CopyOf line a) g = (k : Kind) × (Some (Copied k) ≡ g) × TermFine s m j t todo a (Some (Value (ArrayOf k)))
+  TermFine s m j t todo (CallOf e k ts line) g = CallFine s m j e k g (TermsFine s m j t todo ts)
+  TermFine s m j t todo (StandardOf name ts line) g = (name_runs name ≡ true) × (held_kinds (some_holds (standard_kind (row_of name).result)) ≡ g) × (xs : List Kinds) × OperandsAre (operands_of (row_of name).function) xs × OperandsFine s m j t todo ts xs
+  TermFine s m j t todo Unbuilt g = ⊥
 
-  pub IntegersFine : Source → AllArrays → Instances → (j t : ℕ) → List DeclNo → Terms → Type 0
-  IntegersFine s o m j t todo NoTerm = Unit {0}
-  IntegersFine s o m j t todo (Further x xs) = TermFine s o m j t todo x (simple kind.Integer) × IntegersFine s o m j t todo xs
+  pub IntegersFine : Source → Instances → (j t : ℕ) → List DeclNo → Terms → Type 0
+  IntegersFine s m j t todo NoTerm = Unit {0}
+  IntegersFine s m j t todo (Further x xs) = TermFine s m j t todo x (simple kind.Integer) × IntegersFine s m j t todo xs
 
-  pub OperandsFine : Source → AllArrays → Instances → (j t : ℕ) → List DeclNo → Terms → List Kinds → Type 0
-  OperandsFine s o m j t todo NoTerm xs = xs ≡ []
-  OperandsFine s o m j t todo (Further y ys) xs = (x : Kinds) × (more : List Kinds) × (xs ≡ x ∷ more) × TermFine s o m j t todo y (Some x) × OperandsFine s o m j t todo ys more
+  pub OperandsFine : Source → Instances → (j t : ℕ) → List DeclNo → Terms → List Kinds → Type 0
+  OperandsFine s m j t todo NoTerm xs = xs ≡ []
+  OperandsFine s m j t todo (Further y ys) xs = (x : Kinds) × (more : List Kinds) × (xs ≡ x ∷ more) × TermFine s m j t todo y (Some x) × OperandsFine s m j t todo ys more
 
-  pub TermsFine : Source → AllArrays → Instances → (j t : ℕ) → List DeclNo → Terms → List (Option Kinds) → Type 0
-  TermsFine s o m j t todo NoTerm hs = hs ≡ []
-  TermsFine s o m j t todo (Further x xs) hs = (h : Kinds) × (more : List (Option Kinds)) × (hs ≡ Some h ∷ more) × TermFine s o m j t todo x (Some h) × TermsFine s o m j t todo xs more
+  pub TermsFine : Source → Instances → (j t : ℕ) → List DeclNo → Terms → List (Option Kinds) → Type 0
+  TermsFine s m j t todo NoTerm hs = hs ≡ []
+  TermsFine s m j t todo (Further x xs) hs = (h : Kinds) × (more : List (Option Kinds)) × (hs ≡ Some h ∷ more) × TermFine s m j t todo x (Some h) × TermsFine s m j t todo xs more
 
 -- ---- pending work
 
@@ -294,22 +311,22 @@ integers zero ks = ks
 integers (suc n) ks = Value (Simply kind.Integer) ∷ integers n ks
 
 -- what a value is assigned to
-abbrev pub TargetFine : Source → AllArrays → Instances → ℕ → Target → Kind → (before behind : List Kinds) → Type 0
-TargetFine s o m j (ToCell e key) k before behind = CellTarget s o m j e key k × (before ≡ behind)
-TargetFine s o m j ToAddress k before behind = before ≡ AddressOf k ∷ behind
-TargetFine s o m j (ToText line) k before behind = (k ≡ kind.Text) × (before ≡ Value (Simply kind.Text) ∷ behind)
-TargetFine s o m j (ToTextOf e key line) k before behind = (k ≡ kind.Text) × (before ≡ Value (Simply kind.Text) ∷ behind)
+abbrev pub TargetFine : Source → Instances → ℕ → Target → Kind → (before behind : List Kinds) → Type 0
+TargetFine s m j (ToCell e key) k before behind = CellTarget s m j e key k × (before ≡ behind)
+TargetFine s m j ToAddress k before behind = before ≡ AddressOf k ∷ behind
+TargetFine s m j (ToText line) k before behind = (k ≡ kind.Text) × (before ≡ Value (Simply kind.Text) ∷ behind)
+TargetFine s m j (ToTextOf e key line) k before behind = (k ≡ kind.Text) × (before ≡ Value (Simply kind.Text) ∷ behind)
 
-abbrev pub TargetsFine : Source → AllArrays → Instances → ℕ → List Target → Kind → (before behind : List Kinds) → Type 0
-TargetsFine s o m j [] k before behind = behind ≡ before
-TargetsFine s o m j (x ∷ xs) k before behind = (next : List Kinds) × TargetFine s o m j x k before next × TargetsFine s o m j xs k next behind
+abbrev pub TargetsFine : Source → Instances → ℕ → List Target → Kind → (before behind : List Kinds) → Type 0
+TargetsFine s m j [] k before behind = behind ≡ before
+TargetsFine s m j (x ∷ xs) k before behind = (next : List Kinds) × TargetFine s m j x k before next × TargetsFine s m j xs k next behind
 
 -- a target that is a cell, the variable of a `for` list
-abbrev pub VariableFine : Source → AllArrays → Instances → ℕ → Target → Kind → Type 0
-VariableFine s o m j (ToCell e key) k = CellTarget s o m j e key k
-VariableFine s o m j ToAddress k = ⊥
-VariableFine s o m j (ToText line) k = ⊥
-VariableFine s o m j (ToTextOf e key line) k = CellTarget s o m j e key k × (k ≡ kind.Text)
+abbrev pub VariableFine : Source → Instances → ℕ → Target → Kind → Type 0
+VariableFine s m j (ToCell e key) k = CellTarget s m j e key k
+VariableFine s m j ToAddress k = ⊥
+VariableFine s m j (ToText line) k = ⊥
+VariableFine s m j (ToTextOf e key line) k = CellTarget s m j e key k × (k ≡ kind.Text)
 
 pub record CallOpFine (s : Source) (k n : ℕ) (before behind : List Kinds) : Type 0 where
   pub around : ℕ
@@ -334,7 +351,7 @@ pub record ArrayStored (s : Source) (j t : ℕ) (todo todo' : List DeclNo) (x : 
   pub «in» : before ≡ Value (ArrayOf kind) ∷ behind
 
 pub data StoreOpFine (s : Source) (o : AllArrays) (m : Instances) (j t : ℕ) (todo todo' : List DeclNo) (x : Target) (before behind : List Kinds) : Type 0 where
-  value_stored : (k : Kind) (next : List Kinds) → before ≡ Value (Simply k) ∷ next → TargetFine s o m j x k next behind → todo' ≡ todo → StoreOpFine s o m j t todo todo' x before behind
+  value_stored : (k : Kind) (next : List Kinds) → before ≡ Value (Simply k) ∷ next → TargetFine s m j x k next behind → todo' ≡ todo → StoreOpFine s o m j t todo todo' x before behind
   array_stored : ArrayStored s j t todo todo' x before behind → StoreOpFine s o m j t todo todo' x before behind
 
 -- a statement, or part of one: all arrays are made
@@ -349,10 +366,10 @@ IsCopy k _ = ⊥
 
 -- An operator in an instance j of the text t: with values of these kinds in hand and these arrays still to be made, and behind it.
 abbrev pub OpFine : Source → AllArrays → Instances → (j t : ℕ) → Op → (todo todo' : List DeclNo) → (before behind : List Kinds) → Type 0
-OpFine s o m j t (Eval x) todo todo' before behind = (g : Option Kinds) × TermFine s o m j t todo x g × (behind ≡ given g before) × (todo' ≡ todo)
+OpFine s o m j t (Eval x) todo todo' before behind = (g : Option Kinds) × TermFine s m j t todo x g × (behind ≡ given g before) × (todo' ≡ todo)
 OpFine s o m j t (OneOp op line) todo todo' before behind = (k : Kind) × (left : List Kinds) × OneKinds op k × (before ≡ Value (Simply k) ∷ left) × (behind ≡ before) × (todo' ≡ todo)
 OpFine s o m j t (TwoOp op line) todo todo' before behind = (k : Kind) × (v : Kind) × (left : List Kinds) × TwoKinds op k v × (before ≡ Value (Simply k) ∷ Value (Simply k) ∷ left) × (behind ≡ Value (Simply v) ∷ left) × (todo' ≡ todo)
-OpFine s o m j t (IfOp a b) todo todo' before behind = (h : Kinds) × (left : List Kinds) × TermFine s o m j t todo a (Some h) × TermFine s o m j t todo b (Some h) × (before ≡ Value (Simply kind.Boolean) ∷ left) × (behind ≡ h ∷ left) × (todo' ≡ todo)
+OpFine s o m j t (IfOp a b) todo todo' before behind = (h : Kinds) × (left : List Kinds) × TermFine s m j t todo a (Some h) × TermFine s m j t todo b (Some h) × (before ≡ Value (Simply kind.Boolean) ∷ left) × (behind ≡ h ∷ left) × (todo' ≡ todo)
 OpFine s o m j t (ElementOp n line) todo todo' before behind = (k : Kind) × (left : List Kinds) × (before ≡ integers n (Value (ArrayOf k) ∷ left)) × (behind ≡ AddressOf k ∷ left) × (todo' ≡ todo)
 OpFine s o m j t FetchOp todo todo' before behind = (k : Kind) × (x : Kinds) × (left : List Kinds) × Leads x k × (before ≡ x ∷ left) × (behind ≡ Value (Simply k) ∷ left) × (todo' ≡ todo)
 OpFine s o m j t (JoinOp line) todo todo' before behind = (left : List Kinds) × (before ≡ Value (Simply kind.Text) ∷ Value (Simply kind.Text) ∷ left) × (behind ≡ Value (Simply kind.Text) ∷ left) × (todo' ≡ todo)
@@ -363,8 +380,8 @@ OpFine s o m j t (StandardOp name line) todo todo' before behind =
 OpFine s o m j t DropOp todo todo' before behind = (k : Kinds) × (before ≡ k ∷ behind) × (todo' ≡ todo)
 OpFine s o m j t AgainOp todo todo' before behind = (k : Kind) × (left : List Kinds) × (before ≡ Value (Simply k) ∷ left) × (behind ≡ Value (Simply k) ∷ before) × (todo' ≡ todo)
 OpFine s o m j t (StoreOp x) todo todo' before behind = StoreOpFine s o m j t todo todo' x before behind
-OpFine s o m j t (ShareOp ts) todo todo' before behind = (k : Kind) × (next : List Kinds) × (before ≡ Value (Simply k) ∷ next) × TargetsFine s o m j ts k next behind × (todo' ≡ todo)
-OpFine s o m j t (GiveOp v ts) todo todo' before behind = (k : Kind) × ValFine o j (Simply k) v × TargetsFine s o m j ts k before behind × (todo' ≡ todo)
+OpFine s o m j t (ShareOp ts) todo todo' before behind = (k : Kind) × (next : List Kinds) × (before ≡ Value (Simply k) ∷ next) × TargetsFine s m j ts k next behind × (todo' ≡ todo)
+OpFine s o m j t (GiveOp v ts) todo todo' before behind = (k : Kind) × ValFine s o m j (Simply k) v × TargetsFine s m j ts k before behind × (todo' ≡ todo)
 OpFine s o m j t (ArrayOp k n line) todo todo' before behind = (left : List Kinds) × (before ≡ integers (2 * n) left) × (behind ≡ Value (ArrayOf k) ∷ left) × (todo' ≡ todo)
 OpFine s o m j t (Exec a) todo todo' before behind = Ready todo todo' before behind (StatementIs s t a)
 OpFine s o m j t (Execs ss) todo todo' before behind = Ready todo todo' before behind (StatementsAre s t ss)
@@ -375,13 +392,13 @@ OpFine s o m j t (TestOp c a) todo todo' before behind = Ready todo todo' before
 OpFine s o m j t (BranchOp a next) todo todo' before behind = (todo ≡ []) × (todo' ≡ []) × (before ≡ Value (Simply kind.Boolean) ∷ behind) × StatementIs s t a × OpFine s o m j t next [] [] behind behind
 OpFine s o m j t (BackOp op) todo todo' before behind = OpFine s o m j t op todo todo' before behind
 OpFine s o m j t PastOp todo todo' before behind = (behind ≡ before) × (todo' ≡ todo)
-OpFine s o m j t (ElementsOp x es a) todo todo' before behind = Ready todo todo' before behind ((k : Kind) × VariableFine s o m j x k × ElementsAre s t k es × StatementIs s t a)
-OpFine s o m j t (WhileElementOp x e c a) todo todo' before behind = Ready todo todo' before behind ((k : Kind) × VariableFine s o m j x k × ExprIs s (Some t) e (Simply k) × ExprIs s (Some t) c (Simply kind.Boolean) × StatementIs s t a)
+OpFine s o m j t (ElementsOp x es a) todo todo' before behind = Ready todo todo' before behind ((k : Kind) × VariableFine s m j x k × ElementsAre s t k es × StatementIs s t a)
+OpFine s o m j t (WhileElementOp x e c a) todo todo' before behind = Ready todo todo' before behind ((k : Kind) × VariableFine s m j x k × ExprIs s (Some t) e (Simply k) × ExprIs s (Some t) c (Simply kind.Boolean) × StatementIs s t a)
 OpFine s o m j t (StepTestOp x line step limit a) todo todo' before behind =
-    (todo ≡ []) × (todo' ≡ []) × (before ≡ Value (Simply kind.Integer) ∷ behind) × VariableFine s o m j x kind.Integer × ExprIs s (Some t) step (Simply kind.Integer) × ExprIs s (Some t) limit (Simply kind.Integer) × StatementIs s t a
+    (todo ≡ []) × (todo' ≡ []) × (before ≡ Value (Simply kind.Integer) ∷ behind) × VariableFine s m j x kind.Integer × ExprIs s (Some t) step (Simply kind.Integer) × ExprIs s (Some t) limit (Simply kind.Integer) × StatementIs s t a
 OpFine s o m j t (StepOp line) todo todo' before behind = (left : List Kinds) × (before ≡ integers 3 left) × (behind ≡ Value (Simply kind.Boolean) ∷ left) × (todo' ≡ todo)
 OpFine s o m j t (RaiseOp x line step limit a) todo todo' before behind =
-    Ready todo todo' before behind (VariableFine s o m j x kind.Integer × ExprIs s (Some t) step (Simply kind.Integer) × ExprIs s (Some t) limit (Simply kind.Integer) × StatementIs s t a)
+    Ready todo todo' before behind (VariableFine s m j x kind.Integer × ExprIs s (Some t) step (Simply kind.Integer) × ExprIs s (Some t) limit (Simply kind.Integer) × StatementIs s t a)
 
 -- The pending work of an instance. `Below` tells what is below on the chain where it waits for such a value, or for none; `Outermost`
 -- that nothing is.

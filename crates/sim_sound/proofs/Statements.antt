@@ -79,8 +79,8 @@ module _ (s : Source) (ok : Typed s) (l : Limits) (o : World) (sights : List Sig
   goes : (w : List Item) → Wk w ks → IsFine s o (record { chain = record { instance = i; work = w; values = vals } ∷ rest; memory = m })
   goes w x = goes_on s o sights long m i t rest top w vals [] ks b h x
 
-  closed : (e : Expression) (g : Holds) → ExprIs s (Some t) e g → TermFine s (see sights o) m i t [] (close s m i e) (Some (Value g))
-  closed e g a = expr_fine s ok (see sights o) m i t [] (Some t) (reaches_whole s ok (see sights o) m i t b) e g a
+  closed : (e : Expression) (g : Holds) → ExprIs s (Some t) e g → TermFine s m i t [] (close s m i e) (Some (Value g))
+  closed e g a = expr_fine s ok m i t [] (Some t) (reaches_whole s ok (see sights o) m i t b) e g a
 
   evals : (e : Expression) (g : Holds) (w : List Item) (ks : List Kinds) → ExprIs s (Some t) e g → Wk w (Value g ∷ ks) → Wk (Do (Eval (close s m i e)) ∷ w) ks
   evals e g w ks a x = ([], Value g ∷ ks, (Some (Value g), closed e g a, refl, refl), x)
@@ -100,9 +100,9 @@ module _ (s : Source) (ok : Typed s) (l : Limits) (o : World) (sights : List Sig
 
   call_goes : (e : Expression) → CallIs s t e → Wk (Do (Eval (close s m i e)) ∷ dropping (leaves s e) w) ks
   call_goes (syntax.Named name es) a =
-      ([], given (held_kinds a.0) ks, (held_kinds a.0, given_fine s ok (see sights o) m i t [] (Some t) (reaches_whole s ok (see sights o) m i t b) name es a.0 a.1, refl, refl), dropped a.0 (leaves s (syntax.Named name es)) a.2)
+      ([], given (held_kinds a.0) ks, (held_kinds a.0, given_fine s ok m i t [] (Some t) (reaches_whole s ok (see sights o) m i t b) name es a.0 a.1, refl, refl), dropped a.0 (leaves s (syntax.Named name es)) a.2)
   call_goes (syntax.Dot token x name es) a =
-      ([], given (held_kinds a.0) ks, (held_kinds a.0, dot_fine s ok (see sights o) m i t [] (Some t) (reaches_whole s ok (see sights o) m i t b) token x name es a.0 a.1, refl, refl), dropped a.0 (leaves s (syntax.Dot token x name es)) a.2)
+      ([], given (held_kinds a.0) ks, (held_kinds a.0, dot_fine s ok m i t [] (Some t) (reaches_whole s ok (see sights o) m i t b) token x name es a.0 a.1, refl, refl), dropped a.0 (leaves s (syntax.Dot token x name es)) a.2)
   call_goes _ a = absurd a
 
   assign_goes : (es : List LeftSide) (e : Expression) (k : Kind) → Found s ok (see sights o) m i t b (Rest s o sights long m i t rest top) (rest ≡ []) k es → ExprIs s (Some t) e (Simply k) → (t' w' : ℕ) → Goes P (assigned s (ran o t' w') m i w vals rest (lefts s m i es) e)
@@ -163,7 +163,7 @@ module _ (s : Source) (ok : Typed s) (l : Limits) (o : World) (sights : List Sig
   found (ToText line) ks = ks
   found (ToTextOf j key line) ks = Value (Simply kind.Text) ∷ ks
 
-  finds : (x : Target) (k : Kind) (w : List Item) (ks : List Kinds) → VariableFine s (see sights o) m i x k → Wk w (found x ks) → Wk (finding x w) ks
+  finds : (x : Target) (k : Kind) (w : List Item) (ks : List Kinds) → VariableFine s m i x k → Wk w (found x ks) → Wk (finding x w) ks
   finds (ToCell j key) k w ks c x = x
   finds ToAddress k w ks c x = absurd c
   finds (ToText line) k w ks c x = absurd c
@@ -171,26 +171,26 @@ module _ (s : Source) (ok : Typed s) (l : Limits) (o : World) (sights : List Sig
       let y = c.0 in
       ([], Value (Simply kind.Text) ∷ ks, (simple kind.Text, (Simply kind.Text, refl, in_whole y.before y.whole (y.holds ∙ ap (λ z. Some (Simply z)) c.1) y.there), refl, refl), x)
 
-  stores : (x : Target) (k : Kind) (w : List Item) (ks : List Kinds) → VariableFine s (see sights o) m i x k → Wk w ks → Wk (Do (StoreOp x) ∷ w) (Value (Simply k) ∷ found x ks)
+  stores : (x : Target) (k : Kind) (w : List Item) (ks : List Kinds) → VariableFine s m i x k → Wk w ks → Wk (Do (StoreOp x) ∷ w) (Value (Simply k) ∷ found x ks)
   stores (ToCell j key) k w ks c x = ([], ks, value_stored k ks refl (c, refl) refl, x)
   stores ToAddress k w ks c x = absurd c
   stores (ToText line) k w ks c x = absurd c
   stores (ToTextOf j key line) k w ks c x = ([], ks, value_stored k (Value (Simply kind.Text) ∷ ks) refl (c.1, refl) refl, x)
 
   -- an integer is no text
-  stores_integer : (x : Target) (w : List Item) (ks : List Kinds) → VariableFine s (see sights o) m i x kind.Integer → Wk w ks → Wk (Do (StoreOp x) ∷ w) (Value (Simply kind.Integer) ∷ ks)
+  stores_integer : (x : Target) (w : List Item) (ks : List Kinds) → VariableFine s m i x kind.Integer → Wk w ks → Wk (Do (StoreOp x) ∷ w) (Value (Simply kind.Integer) ∷ ks)
   stores_integer (ToCell j key) w ks c x = stores (ToCell j key) kind.Integer w ks c x
   stores_integer ToAddress w ks c x = absurd c
   stores_integer (ToText line) w ks c x = absurd c
   stores_integer (ToTextOf j key line) w ks c x = let e = c.1 in absurd (cc)
 
-  reads : (x : Target) (k : Kind) (w : List Item) (ks : List Kinds) → VariableFine s (see sights o) m i x k → Wk w (Value (Simply k) ∷ ks) → Wk (reading x w) ks
+  reads : (x : Target) (k : Kind) (w : List Item) (ks : List Kinds) → VariableFine s m i x k → Wk w (Value (Simply k) ∷ ks) → Wk (reading x w) ks
   reads (ToCell j key) k w ks c x = ([], Value (Simply k) ∷ ks, (simple k, (Simply k, refl, in_whole c.before c.whole c.holds c.there), refl, refl), x)
   reads ToAddress k w ks c x = absurd c
   reads (ToText line) k w ks c x = absurd c
   reads (ToTextOf j key line) k w ks c x = let y = c.0 in ([], Value (Simply k) ∷ ks, (simple k, (Simply k, refl, in_whole y.before y.whole y.holds y.there), refl, refl), x)
 
-  pub elements_goes : (x : Target) (es : List Element) (a : Statement) (k : Kind) → VariableFine s (see sights o) m i x k → ElementsAre s t k es → StatementIs s t a → Goes P (elements s l o m i w vals rest x es a)
+  pub elements_goes : (x : Target) (es : List Element) (a : Statement) (k : Kind) → VariableFine s m i x k → ElementsAre s t k es → StatementIs s t a → Goes P (elements s l o m i w vals rest x es a)
   elements_goes x [] a k v e y = goes w work
   elements_goes x (syntax.Once e ∷ es) a k v f y =
       ticked P l o (λ p. go p m i (finding x (Do (Eval (close s m i e)) ∷ Do (StoreOp x) ∷ Do (Exec a) ∷ Do (ElementsOp x es a) ∷ w)) vals rest) (λ t' w'.
@@ -201,14 +201,14 @@ module _ (s : Source) (ok : Typed s) (l : Limits) (o : World) (sights : List Sig
       goes (Do (WhileElementOp x e c a) ∷ Do (ElementsOp x es a) ∷ w) ([], ks, (refl, refl, refl, (k, v, g.0, g.1, y)), ([], ks, (refl, refl, refl, (k, v, f.1, y)), work))
   elements_goes x (syntax.Step start token step limit ∷ es) a k v f y =
       let g = f.0 in
-      let v' = subst (VariableFine s (see sights o) m i x) g.0 v in
+      let v' = subst (VariableFine s m i x) g.0 v in
       goes (Do (Eval (close s m i start)) ∷ Do (StoreOp x) ∷ Do (Eval (close s m i step)) ∷ Do (StepTestOp x (line_at s token) step limit a) ∷ Do (ElementsOp x es a) ∷ w)
       (evals start (Simply kind.Integer) (Do (StoreOp x) ∷ Do (Eval (close s m i step)) ∷ Do (StepTestOp x (line_at s token) step limit a) ∷ Do (ElementsOp x es a) ∷ w) ks g.1
       (stores_integer x (Do (Eval (close s m i step)) ∷ Do (StepTestOp x (line_at s token) step limit a) ∷ Do (ElementsOp x es a) ∷ w) ks v'
       (evals step (Simply kind.Integer) (Do (StepTestOp x (line_at s token) step limit a) ∷ Do (ElementsOp x es a) ∷ w) ks g.2
       ([], ks, (refl, refl, refl, v', g.2, g.3, y), ([], ks, (refl, refl, refl, (k, v, f.1, y)), work)))))
 
-  pub while_goes : (x : Target) (e c : Expression) (a : Statement) (k : Kind) → VariableFine s (see sights o) m i x k → ExprIs s (Some t) e (Simply k) → ExprIs s (Some t) c (Simply kind.Boolean) → StatementIs s t a → Goes P (while_element s l o m i w vals rest x e c a)
+  pub while_goes : (x : Target) (e c : Expression) (a : Statement) (k : Kind) → VariableFine s m i x k → ExprIs s (Some t) e (Simply k) → ExprIs s (Some t) c (Simply kind.Boolean) → StatementIs s t a → Goes P (while_element s l o m i w vals rest x e c a)
   while_goes x e c a k v f g y =
       ticked P l o (λ p. go p m i (finding x (Do (Eval (close s m i e)) ∷ Do (StoreOp x) ∷ Do (Eval (close s m i c)) ∷ Do (BranchOp a (BackOp (WhileElementOp x e c a))) ∷ w)) vals rest) (λ t' w'.
       goes (finding x (Do (Eval (close s m i e)) ∷ Do (StoreOp x) ∷ Do (Eval (close s m i c)) ∷ Do (BranchOp a (BackOp (WhileElementOp x e c a))) ∷ w)) (finds x k (Do (Eval (close s m i e)) ∷ Do (StoreOp x) ∷ Do (Eval (close s m i c)) ∷ Do (BranchOp a (BackOp (WhileElementOp x e c a))) ∷ w) ks v
@@ -217,7 +217,7 @@ module _ (s : Source) (ok : Typed s) (l : Limits) (o : World) (sights : List Sig
       (evals c (Simply kind.Boolean) (Do (BranchOp a (BackOp (WhileElementOp x e c a))) ∷ w) ks g
       ([], ks, (refl, refl, refl, y, (refl, refl, refl, (k, v, f, g, y))), work))))))
 
-  pub step_goes : (x : Target) (line : ℕ) (step limit : Expression) (a : Statement) (left : List Kinds) → ks ≡ Value (Simply kind.Integer) ∷ left → VariableFine s (see sights o) m i x kind.Integer → ExprIs s (Some t) step (Simply kind.Integer) → ExprIs s (Some t) limit (Simply kind.Integer) → StatementIs s t a → (w : List Item) → Wk w left → Goes P (step_tested s l o m i w vals rest x line step limit a)
+  pub step_goes : (x : Target) (line : ℕ) (step limit : Expression) (a : Statement) (left : List Kinds) → ks ≡ Value (Simply kind.Integer) ∷ left → VariableFine s m i x kind.Integer → ExprIs s (Some t) step (Simply kind.Integer) → ExprIs s (Some t) limit (Simply kind.Integer) → StatementIs s t a → (w : List Item) → Wk w left → Goes P (step_tested s l o m i w vals rest x line step limit a)
   step_goes x line step limit a left is v f g y w work =
       ticked P l o (λ p. go p m i (reading x (Do (Eval (close s m i limit)) ∷ Do (StepOp line) ∷ Do (BranchOp a (RaiseOp x line step limit a)) ∷ w)) vals rest) (λ t' w'.
       goes (reading x (Do (Eval (close s m i limit)) ∷ Do (StepOp line) ∷ Do (BranchOp a (RaiseOp x line step limit a)) ∷ w)) (subst (λ z. Wk (reading x (Do (Eval (close s m i limit)) ∷ Do (StepOp line) ∷ Do (BranchOp a (RaiseOp x line step limit a)) ∷ w)) z) (sym is)
@@ -225,7 +225,7 @@ module _ (s : Source) (ok : Typed s) (l : Limits) (o : World) (sights : List Sig
       (evals limit (Simply kind.Integer) (Do (StepOp line) ∷ Do (BranchOp a (RaiseOp x line step limit a)) ∷ w) (Value (Simply kind.Integer) ∷ Value (Simply kind.Integer) ∷ left) g
       ([], Value (Simply kind.Boolean) ∷ left, (left, refl, refl, refl), ([], left, (refl, refl, refl, y, (refl, refl, refl, (v, f, g, y))), work))))))
 
-  pub raise_goes : (x : Target) (line : ℕ) (step limit : Expression) (a : Statement) → VariableFine s (see sights o) m i x kind.Integer → ExprIs s (Some t) step (Simply kind.Integer) → ExprIs s (Some t) limit (Simply kind.Integer) → StatementIs s t a → Goes P (raised s o m i w vals rest x line step limit a)
+  pub raise_goes : (x : Target) (line : ℕ) (step limit : Expression) (a : Statement) → VariableFine s m i x kind.Integer → ExprIs s (Some t) step (Simply kind.Integer) → ExprIs s (Some t) limit (Simply kind.Integer) → StatementIs s t a → Goes P (raised s o m i w vals rest x line step limit a)
   raise_goes x line step limit a v f g y =
       goes (Do (Eval (close s m i step)) ∷ Do AgainOp ∷ reading x (Do (TwoOp (dyadic.Calculate calculation.Add) line) ∷ Do (StoreOp x) ∷ Do (BackOp (StepTestOp x line step limit a)) ∷ w))
       (evals step (Simply kind.Integer) (Do AgainOp ∷ reading x (Do (TwoOp (dyadic.Calculate calculation.Add) line) ∷ Do (StoreOp x) ∷ Do (BackOp (StepTestOp x line step limit a)) ∷ w)) ks f (

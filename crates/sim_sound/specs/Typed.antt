@@ -43,9 +43,11 @@ use Rattle.sim_meaning.specs.Texts.{BlockText, ProcedureText, Text, constant_of,
 
 -- ---- cells
 
--- What is held by a cell or named by an expression: a plain value of a kind, or an array of such values.
+-- What is held by a cell or named by an expression: a plain value of a kind; a reference to an object of a class, by the class's text; an
+-- array of plain values.
 pub data Holds : Type 0 where
   Simply : Kind → Holds
+  Refers : (class : ℕ) → Holds
   ArrayOf : Kind → Holds
 
 abbrev pub formal_holds : Mode → FormalKind → Option SimType → Option Holds
@@ -139,6 +141,7 @@ ConstantNames s d (Then e es) h = ⊥
 
 abbrev pub HeldNames : Source → Option ℕ → DeclNo → Expressions → (Indices : Type 0) → Option Holds → Holds → Type 0
 HeldNames s from d es Indices (Some (Simply k)) h = VariableNames s from d es (Simply k) h
+HeldNames s from d es Indices (Some (Refers c)) h = VariableNames s from d es (Refers c) h
 HeldNames s from d es Indices (Some (ArrayOf k)) h = ArrayNames s from d es Indices k h
 HeldNames s from d es Indices None h = ⊥
 
