@@ -10,6 +10,7 @@ use Rattle.sim_scope.specs.declared.scopes.Declaration.{Declaration}
 use Rattle.sim_scope.specs.declared.types.Entry.{Entry}
 use Rattle.sim_scope.specs.declared.types.Entry.TheVariants as entry
 use Rattle.sim_scope.specs.declared.types.SimType.{SimType}
+use Rattle.sim_scope.specs.declared.types.SimType.TheVariants as t
 use Rattle.sim_scope.specs.Actuals.{result_in, result_matches}
 use Rattle.sim_scope.specs.Along.{first_along}
 use Rattle.sim_scope.specs.Levels.{base, class_block}
@@ -62,9 +63,18 @@ level_for s row = if is_virtual row.entry then base s row.block else Some row.bl
 unfoldable pub virtual_for : Tables → Declaration → Option DeclNo
 virtual_for s row = virtual_from s row.name (level_for s row)
 
+-- a class that S7 refuses is not known: what is declared with it keeps the type of `none`
+abbrev pub is_unknown : Option SimType → Bool
+is_unknown (Some t.NoneType) = true
+is_unknown _ = false
+
+-- types are compared only where both are known
+abbrev pub results_fit : Tables → (wanted given : Option SimType) → Bool
+results_fit s wanted given = is_unknown wanted || is_unknown given || result_matches s wanted given
+
 -- S8: it is a procedure of the same type, or of a subclass where that is a reference
 abbrev pub fits_virtual : Tables → Entry → Option Entry → Bool
-fits_virtual s (entry.Procedure result block) virtual = result_matches s (result_in virtual) result
+fits_virtual s (entry.Procedure result block) virtual = results_fit s (result_in virtual) result
 fits_virtual s e virtual = false
 
 abbrev pub match_fault : Tables → Declaration → Option DeclNo → List Fault

@@ -5,7 +5,7 @@ ghost use Rattle.sim_scope.specs.Operators.{is_same};
 ghost use Rattle.sim_scope.specs.Runs.{Runs};
 ghost use Rattle.sim_scope.specs.Scopes.{entry_of as entry_spec, is_virtual};
 ghost use Rattle.prefix_bind.specs.Prefixes.{least_of, noted};
-ghost use Rattle.virtual_match.specs.Matching.{Matches, all_match_faults, declared_along, fits_virtual, is_procedure, level_for, match_at, match_fault, match_faults, match_in, match_of, match_of_declared, name_of, virtual_for, virtual_from};
+ghost use Rattle.virtual_match.specs.Matching.{Matches, all_match_faults, declared_along, fits_virtual, is_procedure, is_unknown, level_for, match_at, match_fault, match_faults, match_in, match_of, match_of_declared, name_of, results_fit, virtual_for, virtual_from};
 
 use prefix_bind::noted_if;
 use sim_base::{DeclNo, Rule};
@@ -181,12 +181,29 @@ fn result_matches(scopes: &Scopes, wanted: Option<SimType>, given: Option<SimTyp
     }
 }
 
+/// Whether a type is that of references to a class which is not known.
+fn is_unknown(ty: Option<SimType>) -> bool
+    ensures { result ≡ is_unknown ty }
+{
+    match ty {
+        Some(SimType::NoneType) => true,
+        _ => false,
+    }
+}
+
+/// Whether a result is of the type that is wanted, where both are known.
+fn results_fit(scopes: &Scopes, wanted: Option<SimType>, given: Option<SimType>) -> bool
+    ensures { result ≡ results_fit scopes.now wanted given }
+{
+    is_unknown(wanted) || is_unknown(given) || result_matches(scopes, wanted, given)
+}
+
 /// Whether a declaration is a procedure with a result that fits its virtual.
 fn fits_virtual(scopes: &Scopes, entry: Entry, wanted: Option<Entry>) -> bool
     ensures { result ≡ fits_virtual scopes.now entry wanted }
 {
     match entry {
-        Entry::Procedure { result, .. } => result_matches(scopes, result_in(wanted), result),
+        Entry::Procedure { result, .. } => results_fit(scopes, result_in(wanted), result),
         Entry::Variable(_) => false,
         Entry::Constant(_) => false,
         Entry::Array { .. } => false,
