@@ -1,4 +1,4 @@
-# Completion of simula and simula-show for bash: a command, then a source.
+# Completion of simula and simula-show for bash: a command, then options of a run and a source.
 _simula() {
     local word=${COMP_WORDS[COMP_CWORD]} commands="run check" first=1
     [ "${COMP_WORDS[0]##*/}" = simula-show ] && commands="run check explain"
@@ -12,7 +12,9 @@ _simula() {
         mapfile -t COMPREPLY < <(compgen -W "run check" -- "$word")
     elif [ "$COMP_CWORD" -eq 1 ]; then
         mapfile -t COMPREPLY < <(compgen -W "$commands" -- "$word")
-    elif [ "$COMP_CWORD" -eq $((first + 1)) ]; then
+    elif [ "${COMP_WORDS[first]}" = run ] && [[ $word = -* ]]; then
+        mapfile -t COMPREPLY < <(compgen -W "--storage --ticks --in-length --out-length" -- "$word")
+    elif [ "$COMP_CWORD" -eq $((first + 1)) ] || [ "${COMP_WORDS[first]}" = run ]; then
         case ${COMP_WORDS[first]} in
             run | check | try)
                 mapfile -t COMPREPLY < <(compgen -f -X '!*.sim' -- "$word"; compgen -d -S / -- "$word")

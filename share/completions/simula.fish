@@ -1,4 +1,4 @@
-# Completion of simula and simula-show for fish: a command, then a source.
+# Completion of simula and simula-show for fish: a command, then options of a run and a source.
 complete -c simula -f
 complete -c simula -n '__fish_use_subcommand' -a run -d 'Run a program'
 complete -c simula -n '__fish_use_subcommand' -a check -d 'Name the first rule that it breaks'
@@ -8,3 +8,9 @@ complete -c simula-show -n '__fish_use_subcommand' -a run -d 'Run a program, wit
 complete -c simula-show -n '__fish_use_subcommand' -a check -d 'Check a program, with the cause of a message'
 complete -c simula-show -n '__fish_use_subcommand' -a explain -d 'What the manual says of a message'
 complete -c simula-show -n '__fish_seen_subcommand_from run check' -a '(__fish_complete_suffix .sim)'
+for program in simula simula-show
+    complete -c $program -n '__fish_seen_subcommand_from run' -l storage -x -d 'Words of storage, 1000 to 50000000'
+    complete -c $program -n '__fish_seen_subcommand_from run' -l ticks -x -d 'Ticks of the run'
+    complete -c $program -n '__fish_seen_subcommand_from run' -l in-length -x -d 'Characters of a line of the input, to 10000'
+    complete -c $program -n '__fish_seen_subcommand_from run' -l out-length -x -d 'Characters of a line of the output, to 10000'
+end

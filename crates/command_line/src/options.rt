@@ -30,7 +30,7 @@ impl Setting {
         }
     }
 
-    // The least value.
+    // The least value. The range of each option is that which `Limits` names in words for its field; a limit is given nowhere else.
     fn least(self) -> u64
         ensures { result ≡ least self }
     {

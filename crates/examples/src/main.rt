@@ -3,7 +3,8 @@
 //! the folder of models at the top.
 //!
 //! A collection is a file of `data/` with a first line that says what is in it, and then for each source a line
-//! `== NAME` and the lines of the source. Lines behind `>> ` are the lines of its input. A line behind `>*N ` stands N times in the source.
+//! `== NAME` and the lines of the source. Lines behind `>> ` are the lines of its input, lines behind `>- ` the options of its run. A line behind
+//! `>*N ` stands N times in the source.
 #![tactic(auto)]
 
 use sim_driver::{Status, simula};
@@ -69,9 +70,9 @@ fn main(rt: HostRuntime) -> io::Result<()> {
 // Shows what a command does with each source of a collection.
 fn show_cases(rt: &HostRuntime, command: &str, name: &str) -> io::Result<()> {
     let text = fs::read_to_string(rt, name)?;
-    for case in cases_of(rt.alloc(), text.as_str())? {
+    for case in cases_of(rt.alloc(), command, text.as_str())? {
         println!(rt; "== {}", case.name)?;
-        let status = answer_case(rt, command, case)?;
+        let status = answer_case(rt, case)?;
         show_status(rt, status)?;
     }
     Ok(())
@@ -85,17 +86,20 @@ fn show_status(rt: &HostRuntime, status: Status) -> io::Result<()> {
 // A source of a collection, with the lines of its input.
 #[derive(Drop)]
 struct Case {
+    // The command, and its options.
+    words: Vec<String>,
     name: String,
     source: Vec<u8>,
     input: Vec<u8>,
 }
 
-// The sources of a collection.
-fn cases_of(alloc: Global, text: &str) -> Result<Vec<Case>, AllocError> {
+// The sources of a collection, for a command.
+fn cases_of(alloc: Global, command: &str, text: &str) -> Result<Vec<Case>, AllocError> {
     let mut cases: Vec<Case> = Vec::new(alloc);
     for line in text.lines() {
         if let Some(name) = line.strip_prefix("== ") {
             cases.push(Case {
+                words: vec![in alloc; String::from_str(alloc, command)?]?,
                 name: String::from_str(alloc, name)?,
                 source: Vec::new(alloc),
                 input: Vec::new(alloc),
@@ -104,6 +108,8 @@ fn cases_of(alloc: Global, text: &str) -> Result<Vec<Case>, AllocError> {
             if let Some(input) = line.strip_prefix(">> ") {
                 case.input.extend_from_slice(input.as_bytes())?;
                 case.input.push(b'\n')?;
+            } else if let Some(option) = line.strip_prefix(">- ") {
+                case.words.push(String::from_str(alloc, option)?)?;
             } else {
                 let (times, line) = repeated(line);
                 for _ in 0..times {
@@ -156,15 +162,16 @@ fn run_model(rt: &HostRuntime, name: &str, input: Option<&str>) -> io::Result<St
     ))
 }
 
-// The same of a source that stands in memory, with this command.
-fn answer_case(rt: &HostRuntime, command: &str, case: Case) -> io::Result<Status> {
+// The same of a source that stands in memory, with its command.
+fn answer_case(rt: &HostRuntime, case: Case) -> io::Result<Status> {
     let alloc = rt.alloc();
     let Case {
+        mut words,
         name,
         source,
         input,
     } = case;
-    let words = vec![in alloc; String::from_str(alloc, command)?, name.clone()?]?;
+    words.push(name.clone()?)?;
     let Ok(mut files) = MemFiles::new(alloc, &[(name, source)], &[]) else {
         return Ok(Status::Memory);
     };

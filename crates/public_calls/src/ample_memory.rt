@@ -3,11 +3,12 @@
 ghost use Rattle.std.specs.Prelude.{◌≡◌, true};
 ghost use Rattle.sim_expr_parser.specs.Parsing.{IsSource};
 
+use command_line::Command;
 use inspect_types::connect;
 use param_modes::{fits, heading_of};
 use prefix_bind::levels;
 use sim_base::{ByteString, DeclNo, Token, TokenKind, TokenNo};
-use sim_driver::{Command, bind};
+use sim_driver::bind;
 use sim_expr_parser::{kind_at_token, parse_expr};
 use sim_lexer::lex;
 use sim_scope::{Scopes, SimType};

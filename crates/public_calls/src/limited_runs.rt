@@ -1,9 +1,10 @@
-// Programs run under limits of their own, by the call that compiles and runs. The command line has no options for them yet.
+// Programs run under limits of their own, by the call that compiles and runs, with fewer words than an option may give.
 
 ghost use Rattle.std.specs.Prelude.{◌<◌, length};
 
+use command_line::Command;
 use sim_base::{Limits, Line};
-use sim_driver::{Command, bind};
+use sim_driver::bind;
 use sim_ports::{MemSink, MemSource};
 use sim_run::{RunEnd, compile_and_run};
 use std::alloc::Global;

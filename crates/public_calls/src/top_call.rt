@@ -1,4 +1,5 @@
-// Whole commands over files, input, output and diagnostic output in memory: the words, the limit of a source, and calls that fail.
+// Whole commands over files, input, output and diagnostic output in memory: the words with their options, the limit of a source, and calls
+// that fail.
 // Whole sources stand in the data of the crate `examples`.
 
 use sim_driver::{Status, simula};
@@ -94,19 +95,86 @@ pub fn check(
 
 #[test]
 fn words(rt: HostRuntime) {
-    let usage = b"usage: simula run|check FILE\n".as_slice();
+    let usage =
+        b"usage: simula run [--storage W] [--ticks N] [--in-length N] [--out-length N] FILE, check FILE\n".as_slice();
     let unread = b"cannot read the file\n".as_slice();
     let rows = [
         ([].as_slice(), 5, b"".as_slice(), usage),
         (&["run"], 5, b"", usage),
         (&["ru", "source.sim"], 5, b"", usage),
         (&["run", "source.sim", "source.sim"], 5, b"", usage),
+        (&["check", "--ticks", "5", "source.sim"], 5, b"", usage),
+        (
+            &["run", "--ticks=5", "--ticks=5", "source.sim"],
+            5,
+            b"",
+            usage,
+        ),
+        (&["run", "--storage", "999", "source.sim"], 5, b"", usage),
+        (&["run", "--", "--ticks=5", "source.sim"], 5, b"", usage),
         (&["check", "other.sim"], 6, b"", unread),
         (&["run", "source.sim"], 0, b"  42\n", b""),
         (&["check", "source.sim"], 0, b"", b""),
     ];
     for (row, (words, status, out, diag)) in rows.into_iter().enumerate() {
         let setting = sound(b"begin outint(42,4); outimage end");
+        let wanted = Wanted { status, out, diag };
+        check(&rt, rt.alloc(), row, words, setting, wanted);
+    }
+}
+
+// The program takes 1001 words and 4 ticks, and reads a line of 81 characters.
+#[test]
+fn options(rt: HostRuntime) {
+    let too_long = b"line 1: E31 input line longer than the image\n".as_slice();
+    let exhausted = b"line 1: storage exhausted, 5 of 1000 words used, 996 wanted\n".as_slice();
+    let ticks = b"tick limit 3 reached\n".as_slice();
+    let rows = [
+        (
+            ["run", "source.sim"].as_slice(),
+            2,
+            b"    80   132\n".as_slice(),
+            too_long,
+        ),
+        (
+            &["run", "--in-length", "81", "--ticks=4", "source.sim"],
+            0,
+            b"    81   132\n",
+            b"",
+        ),
+        (
+            &[
+                "run",
+                "--out-length=12",
+                "source.sim",
+                "--in-length=100",
+                "--storage=1001",
+            ],
+            0,
+            b"   100    12\n",
+            b"",
+        ),
+        (
+            &["run", "--ticks", "3", "source.sim"],
+            4,
+            b"    80   132\n",
+            ticks,
+        ),
+        (
+            &["run", "--storage", "1000", "source.sim"],
+            3,
+            b"",
+            exhausted,
+        ),
+    ];
+    let line = [b'x'; 81];
+    for (row, (words, status, out, diag)) in rows.into_iter().enumerate() {
+        let setting = Setting {
+            input: &line,
+            ..sound(
+                b"begin integer array a(1:991); outint(sysin.length,6); outint(length,6); inimage end",
+            )
+        };
         let wanted = Wanted { status, out, diag };
         check(&rt, rt.alloc(), row, words, setting, wanted);
     }
@@ -246,16 +314,4 @@ fn inputs_that_fail(rt: HostRuntime) {
         let wanted = Wanted { status, out, diag };
         check(&rt, rt.alloc(), row, &words, setting, wanted);
     }
-}
-
-// The status that no short source comes to.
-#[test]
-fn tick_limit(rt: HostRuntime) -> Result<(), Fail> {
-    let status = Status::TickLimit {
-        ticks: 1_000_000_000,
-    };
-    assert_eq!(rt; status.number(), 4);
-    let shown = format!(in rt.alloc(); "{status}")?;
-    assert_eq!(rt; shown.as_str(), "tick limit 1000000000 reached");
-    Ok(())
 }

@@ -1,24 +1,25 @@
 -- The answer to a request about a source, by what the source means.
 use Rattle.std.proofs.Common.{◌≡◌, ℕ, List, Option, refl, sym, ◌∙◌, ap, subst}
 use Rattle.std.specs.Io.KnownBytes.{Appends}
+use Rattle.sim_base.specs.declared.limits.Limits.{Limits}
 use Rattle.sim_ports.specs.Bytes.{AddsPrefix}
 use Rattle.sim_driver.specs.Answer.{Answer, Gives, IsSourceAnswer, meant}
 use Rattle.sim_driver.specs.SourceMeaning.{Meaning, SourceMeans}
 use Rattle.sim_driver.specs.Status.{status_of}
 use Rattle.sim_driver.specs.declared.status.Ending.{Ending}
 use Rattle.sim_driver.specs.declared.status.Status.{Status}
-use Rattle.sim_driver.specs.declared.words.Command.{Command}
+use Rattle.command_line.specs.declared.words.Command.{Command}
 use Rattle.sim_driver.proofs.Prefixes.{AddsPrefix-whole}
 
 -- what means something has an answer
-pub answered : (command : Command) (source input : List ℕ) → (meaning : Meaning) × SourceMeans command source input meaning → (answer : Answer) × IsSourceAnswer command source input answer
-answered command source input (meaning, means) = (meant meaning, record { meaning = meaning; means = means; same = refl })
+pub answered : (command : Command) (l : Limits) (source input : List ℕ) → (meaning : Meaning) × SourceMeans command l source input meaning → (answer : Answer) × IsSourceAnswer command l source input answer
+answered command l source input (meaning, means) = (meant meaning, record { meaning = meaning; means = means; same = refl })
 
 -- what ended and wrote as each meaning says gave the answer
-pub given : (command : Command) (source input : List ℕ) (ending : Ending) (status : Status) (old new : Option (List ℕ)) (answer : Answer) → status ≡ status_of ending
-    → ((meaning : Meaning) → SourceMeans command source input meaning → (ending ≡ meaning.ending) × Appends old new meaning.output)
-    → IsSourceAnswer command source input answer → Gives answer status old new
-given command source input ending status old new answer is does means =
+pub given : (command : Command) (l : Limits) (source input : List ℕ) (ending : Ending) (status : Status) (old new : Option (List ℕ)) (answer : Answer) → status ≡ status_of ending
+    → ((meaning : Meaning) → SourceMeans command l source input meaning → (ending ≡ meaning.ending) × Appends old new meaning.output)
+    → IsSourceAnswer command l source input answer → Gives answer status old new
+given command l source input ending status old new answer is does means =
     let done = does means.meaning means.means in
     record {
       ends = is ∙ ap status_of done.0 ∙ sym (ap (λ (a : Answer). a.status) means.same);
@@ -26,15 +27,15 @@ given command source input ending status old new answer is does means =
     }
 
 -- what begins the output of each meaning begins that of the answer
-pub begun : (command : Command) (source input : List ℕ) (old new : Option (List ℕ)) (answer : Answer)
-    → ((meaning : Meaning) → SourceMeans command source input meaning → AddsPrefix old new meaning.output)
-    → IsSourceAnswer command source input answer → AddsPrefix old new answer.output
-begun command source input old new answer part means =
+pub begun : (command : Command) (l : Limits) (source input : List ℕ) (old new : Option (List ℕ)) (answer : Answer)
+    → ((meaning : Meaning) → SourceMeans command l source input meaning → AddsPrefix old new meaning.output)
+    → IsSourceAnswer command l source input answer → AddsPrefix old new answer.output
+begun command l source input old new answer part means =
     subst (λ (a : Answer). AddsPrefix old new a.output) (sym means.same) (part means.meaning means.means)
 
 -- what was written whole begins itself
-pub begun_whole : (command : Command) (source input : List ℕ) (ending : Ending) (old new : Option (List ℕ)) (answer : Answer)
-    → ((meaning : Meaning) → SourceMeans command source input meaning → (ending ≡ meaning.ending) × Appends old new meaning.output)
-    → IsSourceAnswer command source input answer → AddsPrefix old new answer.output
-begun_whole command source input ending old new answer does means =
-    begun command source input old new answer (λ meaning is. AddsPrefix-whole old new meaning.output (does meaning is).1) means
+pub begun_whole : (command : Command) (l : Limits) (source input : List ℕ) (ending : Ending) (old new : Option (List ℕ)) (answer : Answer)
+    → ((meaning : Meaning) → SourceMeans command l source input meaning → (ending ≡ meaning.ending) × Appends old new meaning.output)
+    → IsSourceAnswer command l source input answer → AddsPrefix old new answer.output
+begun_whole command l source input ending old new answer does means =
+    begun command l source input old new answer (λ meaning is. AddsPrefix-whole old new meaning.output (does meaning is).1) means

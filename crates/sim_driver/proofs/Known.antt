@@ -29,8 +29,8 @@ use Rattle.sim_run.specs.RunEnds.{IsRunnable}
 use Rattle.sim_driver.specs.Compiling.{Answers, Bad, BindsAs, BoundCompiles, CheckBinds, CheckRejects, ChecksAs, CheckedCompiles, Compiled, Deep, IsBad, IsDeep, IsParsed, LexedCompiles, Parsed, ParsedCompiles, Rejected, Same, SourceBinds, SourceCompiles, SourceRejects, TokensCompile, TokensReject, TreeBinds, TreeCompiles, TreeCompilesIf, TreeRejects, Whole, lacks_form, source_with, token_line}
 use Rattle.sim_driver.specs.declared.compiling.Refusal.{Refusal}
 use Rattle.sim_driver.specs.declared.compiling.Refusal.TheVariants as refusal
-use Rattle.sim_driver.specs.declared.words.Command.{Command}
-use Rattle.sim_driver.specs.declared.words.Command.TheVariants.{Check, Run}
+use Rattle.command_line.specs.declared.words.Command.{Command}
+use Rattle.command_line.specs.declared.words.Command.TheVariants.{Check, Run}
 
 -- what holds, holds of an Ok
 pub holds_on_ok : {T E P : Type 0} (r : Result T E) → P → OnOk r P

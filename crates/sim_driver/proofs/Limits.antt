@@ -3,6 +3,7 @@ use Rattle.std.proofs.Common.{◌≡◌, ◌<◌, ℕ, List, Option, length, tak
 use Rattle.std.proofs.lemmas.Bool.{cases_lt}
 use Rattle.std.proofs.lemmas.List.{take_all, take-take}
 use Rattle.sim_base.specs.Place.{line_at}
+use Rattle.sim_base.specs.declared.limits.Limits.{Limits}
 use Rattle.sim_base.specs.declared.numbering.Line.{Line}
 use Rattle.sim_base.specs.declared.rule.Rule.{Rule}
 use Rattle.sim_base.specs.declared.rule.Rule.TheVariants.{SourceTooLong}
@@ -11,8 +12,8 @@ use Rattle.sim_scope.specs.Source.{Source}
 use Rattle.sim_driver.specs.Answer.{Answer, IsSourceAnswer}
 use Rattle.sim_driver.specs.Compiling.{Compiled, LexedCompiles, Rejected, Runnable, SourceCompiles}
 use Rattle.sim_driver.specs.SourceMeaning.{IsCutOff, Meaning, SourceMeans}
-use Rattle.sim_driver.specs.declared.words.Command.{Command}
-use Rattle.sim_driver.specs.declared.words.Command.TheVariants.{Run}
+use Rattle.command_line.specs.declared.words.Command.{Command}
+use Rattle.command_line.specs.declared.words.Command.TheVariants.{Run}
 
 -- what is too long reads as that alone
 only_too_long : (source : List ℕ) (lexed : Lexed) → 1048576 < length source → Reads source lexed → lexed ≡ Broken SourceTooLong 1048576
@@ -56,26 +57,26 @@ to_limited command source compiled is =
       | inr short ↦ subst (λ bytes. SourceCompiles command bytes compiled) (sym (take_all 1048577 source (omega arith))) is
     ]
 
-means_from : (command : Command) (source bytes input : List ℕ) (meaning : Meaning) → bytes ≡ take 1048577 source → SourceMeans command bytes input meaning → SourceMeans command source input meaning
-means_from command source bytes input meaning same is =
+means_from : (command : Command) (l : Limits) (source bytes input : List ℕ) (meaning : Meaning) → bytes ≡ take 1048577 source → SourceMeans command l bytes input meaning → SourceMeans command l source input meaning
+means_from command l source bytes input meaning same is =
     record { compiled = is.compiled; compiles = from_limited command source is.compiled (subst (λ b. SourceCompiles command b is.compiled) same is.compiles); means = is.means }
 
-means_to : (command : Command) (source bytes input : List ℕ) (meaning : Meaning) → bytes ≡ take 1048577 source → SourceMeans command source input meaning → SourceMeans command bytes input meaning
-means_to command source bytes input meaning same is =
+means_to : (command : Command) (l : Limits) (source bytes input : List ℕ) (meaning : Meaning) → bytes ≡ take 1048577 source → SourceMeans command l source input meaning → SourceMeans command l bytes input meaning
+means_to command l source bytes input meaning same is =
     record { compiled = is.compiled; compiles = subst (λ b. SourceCompiles command b is.compiled) (sym same) (to_limited command source is.compiled is.compiles); means = is.means }
 
 -- an answer of the bytes that were read is one of the source
-pub answer_from : (command : Command) (source bytes input : List ℕ) → bytes ≡ take 1048577 source → (answer : Answer) × IsSourceAnswer command bytes input answer
-    → (answer : Answer) × IsSourceAnswer command source input answer
-answer_from command source bytes input same (answer, is) = (answer, record { meaning = is.meaning; means = means_from command source bytes input is.meaning same is.means; same = is.same })
+pub answer_from : (command : Command) (l : Limits) (source bytes input : List ℕ) → bytes ≡ take 1048577 source → (answer : Answer) × IsSourceAnswer command l bytes input answer
+    → (answer : Answer) × IsSourceAnswer command l source input answer
+answer_from command l source bytes input same (answer, is) = (answer, record { meaning = is.meaning; means = means_from command l source bytes input is.meaning same is.means; same = is.same })
 
 -- an answer of the source is one of the bytes that were read
-pub answer_to : (command : Command) (source bytes input : List ℕ) (answer : Answer) → bytes ≡ take 1048577 source → IsSourceAnswer command source input answer → IsSourceAnswer command bytes input answer
-answer_to command source bytes input answer same is = record { meaning = is.meaning; means = means_to command source bytes input is.meaning same is.means; same = is.same }
+pub answer_to : (command : Command) (l : Limits) (source bytes input : List ℕ) (answer : Answer) → bytes ≡ take 1048577 source → IsSourceAnswer command l source input answer → IsSourceAnswer command l bytes input answer
+answer_to command l source bytes input answer same is = record { meaning = is.meaning; means = means_to command l source bytes input is.meaning same is.means; same = is.same }
 
 -- the same of a run that was cut off
-pub cut_from : (source bytes input : List ℕ) (old new : Option (List ℕ)) → bytes ≡ take 1048577 source → IsCutOff bytes input old new → IsCutOff source input old new
-cut_from source bytes input old new same (s, compiles, at) = (s, from_limited Run source (Runnable s) (subst (λ b. SourceCompiles Run b (Runnable s)) same compiles), at)
+pub cut_from : (command : Command) (l : Limits) (source bytes input : List ℕ) (old new : Option (List ℕ)) → bytes ≡ take 1048577 source → IsCutOff command l bytes input old new → IsCutOff command l source input old new
+cut_from command l source bytes input old new same (asked, s, compiles, at) = (asked, s, from_limited Run source (Runnable s) (subst (λ b. SourceCompiles Run b (Runnable s)) same compiles), at)
 
 -- and of one that is rejected
 pub rejected_to : (source bytes : List ℕ) (rule : Rule) (line : Line) → bytes ≡ take 1048577 source → SourceCompiles Run source (Rejected rule line) → SourceCompiles Run bytes (Rejected rule line)

@@ -12,50 +12,50 @@ use Rattle.sim_run.specs.RunEnds.{AtAMoment, Begins, Broken, Ran, TakesNothing}
 use Rattle.sim_run.proofs.OneEnd.{one_end}
 use Rattle.sim_scope.specs.Source.{Source}
 use Rattle.sim_driver.specs.Compiling.{Compiled, Rejected, Runnable, Sound, SourceBinds, SourceCompiles, SourceRejects}
-use Rattle.sim_driver.specs.SourceMeaning.{BoundMeans, IsCutOff, Meaning, Means, RunMeans, SourceMeans, ending_of, limits}
+use Rattle.sim_driver.specs.SourceMeaning.{BoundMeans, IsCutOff, Meaning, Means, RunMeans, SourceMeans, ending_of}
 use Rattle.sim_driver.specs.declared.status.Ending.{Ending}
 use Rattle.sim_driver.specs.declared.status.Ending.TheVariants.{Normal, Refused}
-use Rattle.sim_driver.specs.declared.words.Command.{Command}
-use Rattle.sim_driver.specs.declared.words.Command.TheVariants.{Check, Run}
+use Rattle.command_line.specs.declared.words.Command.{Command}
+use Rattle.command_line.specs.declared.words.Command.TheVariants.{Check, Run}
 
 -- ---- a run
 
 -- what was run to its end has a meaning
-pub ran_means : (s : Source) (input : List ℕ) (end : RunEnd) (old new : Option (List ℕ)) → Ran s limits input end old new → (meaning : Meaning) × BoundMeans Run s input meaning
-ran_means s input end old new ran = (
-  record { ending = ending_of end; output = ran.output },
+pub ran_means : (l : Limits) (s : Source) (input : List ℕ) (end : RunEnd) (old new : Option (List ℕ)) → Ran s l input end old new → (meaning : Meaning) × BoundMeans Run l s input meaning
+ran_means l s input end old new ran = (
+  record { ending = ending_of l end; output = ran.output },
   record { compiled = Runnable s; compiles = refl; means = record { end = end; ends = ran.ends; same = refl } },
 )
 
-run_of : (s : Source) (input : List ℕ) (meaning : Meaning) → BoundMeans Run s input meaning → RunMeans s input meaning
-run_of s input meaning is = subst (λ (c : Compiled). Means input c meaning) is.compiles is.means
+run_of : (l : Limits) (s : Source) (input : List ℕ) (meaning : Meaning) → BoundMeans Run l s input meaning → RunMeans l s input meaning
+run_of l s input meaning is = subst (λ (c : Compiled). Means l input c meaning) is.compiles is.means
 
 -- it ended and wrote as every meaning says
-pub ran_does : (s : Source) (input : List ℕ) (end : RunEnd) (ending : Ending) (old new : Option (List ℕ)) → Ran s limits input end old new → ending ≡ ending_of end
-    → (meaning : Meaning) → BoundMeans Run s input meaning → (ending ≡ meaning.ending) × Appends old new meaning.output
-ran_does s input end ending old new ran says meaning is =
-    let means = run_of s input meaning is in
-    let same = one_end s limits input end means.end ran.output meaning.output ran.ends means.ends in
-    (says ∙ ap ending_of same.0 ∙ sym means.same, subst (λ xs. Appends old new xs) same.1 ran.writes)
+pub ran_does : (l : Limits) (s : Source) (input : List ℕ) (end : RunEnd) (ending : Ending) (old new : Option (List ℕ)) → Ran s l input end old new → ending ≡ ending_of l end
+    → (meaning : Meaning) → BoundMeans Run l s input meaning → (ending ≡ meaning.ending) × Appends old new meaning.output
+ran_does l s input end ending old new ran says meaning is =
+    let means = run_of l s input meaning is in
+    let same = one_end s l input end means.end ran.output meaning.output ran.ends means.ends in
+    (says ∙ ap (ending_of l) same.0 ∙ sym means.same, subst (λ xs. Appends old new xs) same.1 ran.writes)
 
 -- what failed wrote a part of it
-pub failed_begins : (s : Source) (input : List ℕ) (old new : Option (List ℕ)) → Begins s limits input old new → (meaning : Meaning) → BoundMeans Run s input meaning → AddsPrefix old new meaning.output
-failed_begins s input old new part meaning is =
-    let means = run_of s input meaning is in
+pub failed_begins : (l : Limits) (s : Source) (input : List ℕ) (old new : Option (List ℕ)) → Begins s l input old new → (meaning : Meaning) → BoundMeans Run l s input meaning → AddsPrefix old new meaning.output
+failed_begins l s input old new part meaning is =
+    let means = run_of l s input meaning is in
     part means.end meaning.output means.ends
 
--- what is known of a run that failed, by its cause and under these limits
-pub broken_by : (s : Source) (l : Limits) (input : List ℕ) (old new : Option (List ℕ)) (e f : NotRun) → e ≡ f → l ≡ limits → Broken s l input old new (Err e) → Broken s limits input old new (Err f)
-broken_by s l input old new e f is same broken = subst (λ x. Broken s limits input old new (Err x)) is (subst (λ (k : Limits). Broken s k input old new (Err e)) same broken)
+-- what is known of a run that failed, by its cause
+pub broken_by : (l : Limits) (s : Source) (input : List ℕ) (old new : Option (List ℕ)) (e f : NotRun) → e ≡ f → Broken s l input old new (Err e) → Broken s l input old new (Err f)
+broken_by l s input old new e f is broken = subst (λ x. Broken s l input old new (Err x)) is broken
 
 -- ---- what is checked and not run
 
-pub checked_means : (s : Source) (input : List ℕ) → (meaning : Meaning) × BoundMeans Check s input meaning
-checked_means s input = (record { ending = Normal; output = [] }, record { compiled = Sound; compiles = refl; means = refl })
+pub checked_means : (l : Limits) (s : Source) (input : List ℕ) → (meaning : Meaning) × BoundMeans Check l s input meaning
+checked_means l s input = (record { ending = Normal; output = [] }, record { compiled = Sound; compiles = refl; means = refl })
 
-pub checked_does : (s : Source) (input : List ℕ) (old : Option (List ℕ)) (meaning : Meaning) → BoundMeans Check s input meaning → (Normal ≡ meaning.ending) × Appends old old meaning.output
-checked_does s input old meaning is =
-    let sound : Means input Sound meaning = subst (λ (c : Compiled). Means input c meaning) is.compiles is.means in
+pub checked_does : (l : Limits) (s : Source) (input : List ℕ) (old : Option (List ℕ)) (meaning : Meaning) → BoundMeans Check l s input meaning → (Normal ≡ meaning.ending) × Appends old old meaning.output
+checked_does l s input old meaning is =
+    let sound : Means l input Sound meaning = subst (λ (c : Compiled). Means l input c meaning) is.compiles is.means in
     subst (λ (m : Meaning). (Normal ≡ m.ending) × Appends old old m.output) (sym sound) (refl, Appends-nil old)
 
 -- ---- what was cut off, and what is rejected
@@ -70,17 +70,17 @@ untouched_by Run source s rule line binds idle compiles = absurd (not_rejected s
 untouched_by Check source s rule line binds idle compiles = idle (λ is. cc is)
 
 -- and one that runs a program does what is known of the run of that program
-pub takes_by : {P : Type 0} (command : Command) (source input : List ℕ) (s t : Source) → SourceBinds command source t → ((command ≡ Run → ⊥) → P) → (TakesNothing t limits input → P) → SourceCompiles Run source (Runnable s) → TakesNothing s limits input → P
-takes_by Run source input s t binds idle takes compiles never = takes (subst (λ u. TakesNothing u limits input) (same_program ((binds (Runnable s)).there compiles)) never)
+pub takes_by : {P : Type 0} (command : Command) (l : Limits) (source input : List ℕ) (s t : Source) → SourceBinds command source t → ((command ≡ Run → ⊥) → P) → (TakesNothing t l input → P) → SourceCompiles Run source (Runnable s) → TakesNothing s l input → P
+takes_by Run l source input s t binds idle takes compiles never = takes (subst (λ u. TakesNothing u l input) (same_program ((binds (Runnable s)).there compiles)) never)
   where
     same_program : {s t : Source} → Runnable s ≡ Runnable t → s ≡ t
     same_program is = cc is
-takes_by Check source input s t binds idle takes compiles never = idle (λ is. cc is)
+takes_by Check l source input s t binds idle takes compiles never = idle (λ is. cc is)
 
-pub cut_by : {E P : Type 0} (command : Command) (source input : List ℕ) (s : Source) (old new : Option (List ℕ)) (r : Result Ending E) (e : E) → SourceBinds command source s → ((command ≡ Run → ⊥) → (r ≡ Ok Normal) × P) → r ≡ Err e → AtAMoment s limits input old new
-    → IsCutOff source input old new
-cut_by Run source input s old new r e binds idle is at = (s, (binds (Runnable s)).back refl, at)
-cut_by Check source input s old new r e binds idle is at = absurd (not_both (sym (idle (λ same. cc same)).0 ∙ is))
+pub cut_by : {E P : Type 0} (command : Command) (l : Limits) (source input : List ℕ) (s : Source) (old new : Option (List ℕ)) (r : Result Ending E) (e : E) → SourceBinds command source s → ((command ≡ Run → ⊥) → (r ≡ Ok Normal) × P) → r ≡ Err e → AtAMoment s l input old new
+    → IsCutOff command l source input old new
+cut_by Run l source input s old new r e binds idle is at = (refl, s, (binds (Runnable s)).back refl, at)
+cut_by Check l source input s old new r e binds idle is at = absurd (not_both (sym (idle (λ same. cc same)).0 ∙ is))
   where
     not_both : Ok Normal ≡ Err e → ⊥
     not_both same = cc
@@ -88,24 +88,24 @@ cut_by Check source input s old new r e binds idle is at = absurd (not_both (sym
 -- ---- a source
 
 -- the source means what its program means
-pub bound_means : (command : Command) (source input : List ℕ) (s : Source) → SourceBinds command source s → (meaning : Meaning) × BoundMeans command s input meaning → (meaning : Meaning) × SourceMeans command source input meaning
-bound_means command source input s binds (meaning, is) = (meaning, record { compiled = is.compiled; compiles = (binds is.compiled).back is.compiles; means = is.means })
+pub bound_means : (command : Command) (l : Limits) (source input : List ℕ) (s : Source) → SourceBinds command source s → (meaning : Meaning) × BoundMeans command l s input meaning → (meaning : Meaning) × SourceMeans command l source input meaning
+bound_means command l source input s binds (meaning, is) = (meaning, record { compiled = is.compiled; compiles = (binds is.compiled).back is.compiles; means = is.means })
 
-pub means_bound : (command : Command) (source input : List ℕ) (s : Source) → SourceBinds command source s → (meaning : Meaning) → SourceMeans command source input meaning → BoundMeans command s input meaning
-means_bound command source input s binds meaning is = record { compiled = is.compiled; compiles = (binds is.compiled).there is.compiles; means = is.means }
+pub means_bound : (command : Command) (l : Limits) (source input : List ℕ) (s : Source) → SourceBinds command source s → (meaning : Meaning) → SourceMeans command l source input meaning → BoundMeans command l s input meaning
+means_bound command l source input s binds meaning is = record { compiled = is.compiled; compiles = (binds is.compiled).there is.compiles; means = is.means }
 
-pub binds_ok : {E : Type 0} (command : Command) (source input : List ℕ) (s : Source) (r : Result Ending E) → SourceBinds command source s → OnOk r ((meaning : Meaning) × BoundMeans command s input meaning) → OnOk r ((meaning : Meaning) × SourceMeans command source input meaning)
-binds_ok command source input s (Ok x) binds means = bound_means command source input s binds means
-binds_ok command source input s (Err e) binds means = tt
+pub binds_ok : {E : Type 0} (command : Command) (l : Limits) (source input : List ℕ) (s : Source) (r : Result Ending E) → SourceBinds command source s → OnOk r ((meaning : Meaning) × BoundMeans command l s input meaning) → OnOk r ((meaning : Meaning) × SourceMeans command l source input meaning)
+binds_ok command l source input s (Ok x) binds means = bound_means command l source input s binds means
+binds_ok command l source input s (Err e) binds means = tt
 
 -- a source that is rejected
-pub rejected_means : (command : Command) (source input : List ℕ) (rule : Rule) (line : Line) → SourceRejects command source rule line → (meaning : Meaning) × SourceMeans command source input meaning
-rejected_means command source input rule line rejects =
+pub rejected_means : (command : Command) (l : Limits) (source input : List ℕ) (rule : Rule) (line : Line) → SourceRejects command source rule line → (meaning : Meaning) × SourceMeans command l source input meaning
+rejected_means command l source input rule line rejects =
     (record { ending = Refused rule line; output = [] }, record { compiled = Rejected rule line; compiles = (rejects (Rejected rule line)).back refl; means = refl })
 
-pub rejected_does : (command : Command) (source input : List ℕ) (rule : Rule) (line : Line) (old : Option (List ℕ)) → SourceRejects command source rule line
-    → (meaning : Meaning) → SourceMeans command source input meaning → (Refused rule line ≡ meaning.ending) × Appends old old meaning.output
-rejected_does command source input rule line old rejects meaning is =
+pub rejected_does : (command : Command) (l : Limits) (source input : List ℕ) (rule : Rule) (line : Line) (old : Option (List ℕ)) → SourceRejects command source rule line
+    → (meaning : Meaning) → SourceMeans command l source input meaning → (Refused rule line ≡ meaning.ending) × Appends old old meaning.output
+rejected_does command l source input rule line old rejects meaning is =
     let same : is.compiled ≡ Rejected rule line = (rejects is.compiled).there is.compiles in
-    let means : Means input (Rejected rule line) meaning = subst (λ (c : Compiled). Means input c meaning) same is.means in
+    let means : Means l input (Rejected rule line) meaning = subst (λ (c : Compiled). Means l input c meaning) same is.means in
     subst (λ (m : Meaning). (Refused rule line ≡ m.ending) × Appends old old m.output) (sym means) (refl, Appends-nil old)

@@ -25,8 +25,8 @@ use Rattle.sim_built.specs.Allowed.{IsChecked}
 use Rattle.sim_run.specs.RunEnds.{IsRunnable}
 use Rattle.sim_driver.specs.declared.compiling.Refusal.{Refusal}
 use Rattle.sim_driver.specs.declared.compiling.Refusal.TheVariants as refusal
-use Rattle.sim_driver.specs.declared.words.Command.{Command}
-use Rattle.sim_driver.specs.declared.words.Command.TheVariants.{Run, Check}
+use Rattle.command_line.specs.declared.words.Command.{Command}
+use Rattle.command_line.specs.declared.words.Command.TheVariants.{Run, Check}
 
 pub data Compiled : Type 0 where
   Runnable : Source → Compiled

@@ -10,54 +10,50 @@ use Rattle.sim_scope.specs.Source.{Source}
 use Rattle.sim_driver.specs.Compiling.{BoundCompiles, Compiled, Rejected, Runnable, SourceCompiles, Sound}
 use Rattle.sim_driver.specs.declared.status.Ending.{Ending}
 use Rattle.sim_driver.specs.declared.status.Ending.TheVariants.{Normal, Refused, RunFault, StorageExhausted, TickLimit}
-use Rattle.sim_driver.specs.declared.words.Command.{Command}
-use Rattle.sim_driver.specs.declared.words.Command.TheVariants.{Run}
+use Rattle.command_line.specs.declared.words.Command.{Command}
+use Rattle.command_line.specs.declared.words.Command.TheVariants.{Run}
 
 -- how a source ends, and the bytes that it writes
 pub record Meaning : Type 0 where
   pub ending : Ending
   pub output : List ℕ
 
--- the limits of a run with no options
-abbrev pub limits : Limits
-limits = record { storage = 4000000; ticks = 1000000000; in_length = 80; out_length = 132 }
-
 -- how a run ends, with the storage budget that it had
-abbrev pub ending_of : RunEnd → Ending
-ending_of end.Normal = Normal
-ending_of (end.RunFault error line) = RunFault error line
-ending_of (end.StorageExhausted line used wanted) = StorageExhausted line used limits.storage wanted
-ending_of (end.TickLimit ticks) = TickLimit ticks
+abbrev pub ending_of : Limits → RunEnd → Ending
+ending_of l end.Normal = Normal
+ending_of l (end.RunFault error line) = RunFault error line
+ending_of l (end.StorageExhausted line used wanted) = StorageExhausted line used l.storage wanted
+ending_of l (end.TickLimit ticks) = TickLimit ticks
 
--- the run of a program with this input, by its quasi-parallel meaning
-pub record RunMeans (s : Source) (input : List ℕ) (meaning : Meaning) : Type 0 where
+-- the run of a program under these limits with this input, by its quasi-parallel meaning
+pub record RunMeans (l : Limits) (s : Source) (input : List ℕ) (meaning : Meaning) : Type 0 where
   pub end : RunEnd
-  pub ends : RunEnds s limits input end meaning.output
-  pub same : meaning.ending ≡ ending_of end
+  pub ends : RunEnds s l input end meaning.output
+  pub same : meaning.ending ≡ ending_of l end
 
 -- the meaning of what a command makes of a source; one that is checked runs nothing
-abbrev pub Means : (input : List ℕ) → Compiled → Meaning → Type 0
-Means input (Rejected rule line) meaning = meaning ≡ record { ending = Refused rule line; output = [] }
-Means input Sound meaning = meaning ≡ record { ending = Normal; output = [] }
-Means input (Runnable s) meaning = RunMeans s input meaning
+abbrev pub Means : Limits → (input : List ℕ) → Compiled → Meaning → Type 0
+Means l input (Rejected rule line) meaning = meaning ≡ record { ending = Refused rule line; output = [] }
+Means l input Sound meaning = meaning ≡ record { ending = Normal; output = [] }
+Means l input (Runnable s) meaning = RunMeans l s input meaning
 
--- what a source means to a command, where the input holds these bytes
-pub record SourceMeans (command : Command) (source input : List ℕ) (meaning : Meaning) : Type 0 where
+-- what a source means to a command under these limits, where the input holds these bytes
+pub record SourceMeans (command : Command) (l : Limits) (source input : List ℕ) (meaning : Meaning) : Type 0 where
   pub compiled : Compiled
   pub compiles : SourceCompiles command source compiled
-  pub means : Means input compiled meaning
+  pub means : Means l input compiled meaning
 
--- what a program that breaks no rule means to a command
-pub record BoundMeans (command : Command) (s : Source) (input : List ℕ) (meaning : Meaning) : Type 0 where
+-- what a program that breaks no rule means to a command under these limits
+pub record BoundMeans (command : Command) (l : Limits) (s : Source) (input : List ℕ) (meaning : Meaning) : Type 0 where
   pub compiled : Compiled
   pub compiles : BoundCompiles command s compiled
-  pub means : Means input compiled meaning
+  pub means : Means l input compiled meaning
 
 -- It ended as the meaning says, with the whole output. Where it failed, what was written begins the output.
 abbrev pub Does : {E : Type 0} → Meaning → Option (List ℕ) → Option (List ℕ) → Result Ending E → Type 0
 Does meaning old new (Ok ending) = (ending ≡ meaning.ending) × Appends old new meaning.output
 Does meaning old new (Err failure) = AddsPrefix old new meaning.output
 
--- What was written is all that the run of the source's program had written at some moment.
-abbrev pub IsCutOff : (source input : List ℕ) → (old new : Option (List ℕ)) → Type 0
-IsCutOff source input old new = (s : Source) × SourceCompiles Run source (Runnable s) × AtAMoment s limits input old new
+-- The command is `run`, and what was written is all that the run of the source's program had written at some moment under these limits.
+abbrev pub IsCutOff : Command → Limits → (source input : List ℕ) → (old new : Option (List ℕ)) → Type 0
+IsCutOff command l source input old new = (command ≡ Run) × (s : Source) × SourceCompiles Run source (Runnable s) × AtAMoment s l input old new

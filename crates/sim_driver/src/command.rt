@@ -1,6 +1,8 @@
 // Does what the words ask for, but for the line on the diagnostic output.
 ghost use Rattle.std.specs.Prelude.{◌≡◌, ◌≤◌, ◌<◌, ◌+◌, ◌^◌, ◌-◌, ◌⊎◌, Err, Ok, length, None, Some, true, IfSome, IsSome, OnOk, List, Option, ℕ};
 ghost use Rattle.std.specs.Io.KnownBytes.{Keeps};
+ghost use Rattle.command_line.specs.Words.{texts};
+ghost use Rattle.sim_base.specs.declared.limits.Limits.{Limits as AnyLimits};
 ghost use Rattle.sim_base.specs.declared.numbering.Line.{Line as AnyLine};
 ghost use Rattle.sim_base.specs.declared.rule.Rule.{Rule as AnyRule};
 ghost use Rattle.sim_ports.specs.Bytes.{AddsPrefix};
@@ -12,15 +14,15 @@ ghost use Rattle.sim_driver.specs.Answer.{Answer, Gives, IsAnswer, IsSourceAnswe
 ghost use Rattle.sim_driver.specs.Compiling.{Rejected, Runnable, SourceCompiles};
 ghost use Rattle.sim_driver.specs.OutputAfter.{InputAfter, OutputAfter};
 ghost use Rattle.sim_driver.specs.Reading.{TakesAtMost};
-ghost use Rattle.sim_driver.specs.SourceMeaning.{BoundMeans, Does, IsCutOff, Meaning, SourceMeans, ending_of as ending_of_run, limits};
+ghost use Rattle.sim_driver.specs.SourceMeaning.{BoundMeans, Does, IsCutOff, Meaning, SourceMeans, ending_of as ending_of_run};
 ghost use Rattle.sim_driver.specs.Status.{is_answer};
-ghost use Rattle.sim_driver.specs.Words.{AsksRun, file_of, texts, TellsFile};
+ghost use Rattle.sim_driver.specs.Words.{AsksRun, AsksRunWith, TellsFile, WasCutOff, file_of};
 
 use crate::compiling::{Refusal, bind};
 use crate::failure::RunFailure;
 use crate::reading::{ReadFailure, read_source};
 use crate::status::{Ending, Status};
-use crate::words::{Command, Request, request_of};
+use command_line::{Command, Request, request_of};
 use sim_base::Limits;
 use sim_lexer::SOURCE_LIMIT;
 use sim_ports::{Files, Sink, Source};
@@ -55,17 +57,23 @@ pub fn run_command<F: Files, I: Source, O: Sink>(
         → IsAnswer (texts words.now) source given answer → AddsPrefix (O.written out.old) (O.written out.new) answer.output }
     ensures files_later { F.faults files.old ≤ F.faults files.new }
     ensures cut { (source given : List ℕ) → TellsFile (F.content files.old) (texts words.now) source → I.left input.old ≡ Some given → result ≡ Status.InputFault
-        → IsCutOff source given (O.written out.old) (O.written out.new) }
+        → WasCutOff (texts words.now) source given (O.written out.old) (O.written out.new) }
     ensures only_run { (AsksRun (texts words.now) → ⊥) → input.new ≡ input.old }
     ensures untouched { (source : List ℕ) (rule : AnyRule) (line : AnyLine) → TellsFile (F.content files.old) (texts words.now) source
         → SourceCompiles Command.Run source (Rejected rule line) → input.new ≡ input.old }
-    ensures takes { (source given : List ℕ) (s : AnySource) → TellsFile (F.content files.old) (texts words.now) source → I.left input.old ≡ Some given
-        → SourceCompiles Command.Run source (Runnable s) → TakesNothing s limits given → input.new ≡ input.old }
+    ensures takes { (l : AnyLimits) (source given : List ℕ) (s : AnySource) → AsksRunWith (texts words.now) l → TellsFile (F.content files.old) (texts words.now) source
+        → I.left input.old ≡ Some given → SourceCompiles Command.Run source (Runnable s) → TakesNothing s l given → input.new ≡ input.old }
     ensures out_later { O.faults out.old ≤ O.faults out.new }
     ensures input_later { I.faults input.old ≤ I.faults input.new }
 {
     match request_of(words) {
-        Some(Request { command, file }) => answer_request(alloc, command, file, files, input, out),
+        Some(
+            Request {
+                command,
+                limits,
+                file,
+            },
+        ) => answer_request(alloc, command, &limits, file, files, input, out),
         None => Status::Usage,
     }
 }
@@ -74,6 +82,7 @@ pub fn run_command<F: Files, I: Source, O: Sink>(
 fn answer_request<F: Files, I: Source, O: Sink>(
     alloc: Global,
     command: Command,
+    limits: &Limits,
     file: &str,
     files: &mut F,
     input: &mut I,
@@ -89,24 +98,24 @@ fn answer_request<F: Files, I: Source, O: Sink>(
     ensures read_to { (source : List ℕ) → F.content files.old file.now ≡ Some source
         → IsOpen (F.selected files.new) → TakesAtMost (SOURCE_LIMIT + 1) source (F.left files.new) }
     ensures answered { (source given : List ℕ) → F.content files.old file.now ≡ Some source → I.left input.old ≡ Some given → is_answer result ≡ true
-        → (answer : Answer) × IsSourceAnswer command source given answer }
+        → (answer : Answer) × IsSourceAnswer command limits.now source given answer }
     ensures answer { (source given : List ℕ) (answer : Answer) → F.content files.old file.now ≡ Some source → I.left input.old ≡ Some given
-        → IsSourceAnswer command source given answer → is_answer result ≡ true → Gives answer result (O.written out.old) (O.written out.new) }
+        → IsSourceAnswer command limits.now source given answer → is_answer result ≡ true → Gives answer result (O.written out.old) (O.written out.new) }
     ensures prefix { (source given : List ℕ) (answer : Answer) → F.content files.old file.now ≡ Some source → I.left input.old ≡ Some given
-        → IsSourceAnswer command source given answer → AddsPrefix (O.written out.old) (O.written out.new) answer.output }
+        → IsSourceAnswer command limits.now source given answer → AddsPrefix (O.written out.old) (O.written out.new) answer.output }
     ensures files_later { F.faults files.old ≤ F.faults files.new }
     ensures cut { (source given : List ℕ) → F.content files.old file.now ≡ Some source → I.left input.old ≡ Some given → result ≡ Status.InputFault
-        → IsCutOff source given (O.written out.old) (O.written out.new) }
+        → IsCutOff command limits.now source given (O.written out.old) (O.written out.new) }
     ensures only_run { (command ≡ Command.Run → ⊥) → input.new ≡ input.old }
     ensures untouched { (source : List ℕ) (rule : AnyRule) (line : AnyLine) → F.content files.old file.now ≡ Some source
         → SourceCompiles Command.Run source (Rejected rule line) → input.new ≡ input.old }
     ensures takes { (source given : List ℕ) (s : AnySource) → F.content files.old file.now ≡ Some source → I.left input.old ≡ Some given
-        → SourceCompiles Command.Run source (Runnable s) → TakesNothing s limits given → input.new ≡ input.old }
+        → SourceCompiles Command.Run source (Runnable s) → TakesNothing s limits.now given → input.new ≡ input.old }
     ensures out_later { O.faults out.old ≤ O.faults out.new }
     ensures input_later { I.faults input.old ≤ I.faults input.new }
 {
     match read_source(alloc, files, file) {
-        Ok(source) => answer_source(alloc, command, &source, input, out),
+        Ok(source) => answer_source(alloc, command, limits, &source, input, out),
         Err(ReadFailure::File) => Status::FileFault,
         Err(ReadFailure::Memory) => Status::Memory,
     }
@@ -116,6 +125,7 @@ fn answer_request<F: Files, I: Source, O: Sink>(
 fn answer_source<I: Source, O: Sink>(
     alloc: Global,
     command: Command,
+    limits: &Limits,
     source: &[u8],
     input: &mut I,
     out: &mut O,
@@ -126,18 +136,18 @@ fn answer_source<I: Source, O: Sink>(
     ensures input_fault { result ≡ Status.InputFault → Rose (I.faults input.old) (I.faults input.new) }
     ensures write_fault { result ≡ Status.WriteFault → Rose (O.faults out.old) (O.faults out.new) }
     ensures stops { (O.faults out.new ≡ O.faults out.old) ⊎ StopsAt O.written O.faults out.old out.new }
-    ensures answered { (given : List ℕ) → I.left input.old ≡ Some given → is_answer result ≡ true → (answer : Answer) × IsSourceAnswer command source.now given answer }
-    ensures answer { (given : List ℕ) (answer : Answer) → I.left input.old ≡ Some given → IsSourceAnswer command source.now given answer → is_answer result ≡ true
+    ensures answered { (given : List ℕ) → I.left input.old ≡ Some given → is_answer result ≡ true → (answer : Answer) × IsSourceAnswer command limits.now source.now given answer }
+    ensures answer { (given : List ℕ) (answer : Answer) → I.left input.old ≡ Some given → IsSourceAnswer command limits.now source.now given answer → is_answer result ≡ true
         → Gives answer result (O.written out.old) (O.written out.new) }
-    ensures prefix { (given : List ℕ) (answer : Answer) → I.left input.old ≡ Some given → IsSourceAnswer command source.now given answer → AddsPrefix (O.written out.old) (O.written out.new) answer.output }
-    ensures cut { (given : List ℕ) → I.left input.old ≡ Some given → result ≡ Status.InputFault → IsCutOff source.now given (O.written out.old) (O.written out.new) }
+    ensures prefix { (given : List ℕ) (answer : Answer) → I.left input.old ≡ Some given → IsSourceAnswer command limits.now source.now given answer → AddsPrefix (O.written out.old) (O.written out.new) answer.output }
+    ensures cut { (given : List ℕ) → I.left input.old ≡ Some given → result ≡ Status.InputFault → IsCutOff command limits.now source.now given (O.written out.old) (O.written out.new) }
     ensures only_run { (command ≡ Command.Run → ⊥) → input.new ≡ input.old }
     ensures untouched { (rule : AnyRule) (line : AnyLine) → SourceCompiles Command.Run source.now (Rejected rule line) → input.new ≡ input.old }
-    ensures takes { (given : List ℕ) (s : AnySource) → I.left input.old ≡ Some given → SourceCompiles Command.Run source.now (Runnable s) → TakesNothing s limits given → input.new ≡ input.old }
+    ensures takes { (given : List ℕ) (s : AnySource) → I.left input.old ≡ Some given → SourceCompiles Command.Run source.now (Runnable s) → TakesNothing s limits.now given → input.new ≡ input.old }
     ensures later { O.faults out.old ≤ O.faults out.new }
     ensures input_later { I.faults input.old ≤ I.faults input.new }
 {
-    match bind_and_do(alloc, command, source, input, out) {
+    match bind_and_do(alloc, command, limits, source, input, out) {
         Ok(ending) => ending.status(),
         Err(RunFailure::Input) => Status::InputFault,
         Err(RunFailure::Output) => Status::WriteFault,
@@ -149,22 +159,23 @@ fn answer_source<I: Source, O: Sink>(
 fn bind_and_do<I: Source, O: Sink>(
     alloc: Global,
     command: Command,
+    limits: &Limits,
     source: &[u8],
     input: &mut I,
     out: &mut O,
 ) -> Result<Ending, RunFailure>
     requires { length source.now < 2 ^ 32 - 1 }
-    ensures known { (given : List ℕ) → I.left input.old ≡ Some given → OnOk result ((meaning : Meaning) × SourceMeans command source.now given meaning) }
-    ensures does { (given : List ℕ) (meaning : Meaning) → I.left input.old ≡ Some given → SourceMeans command source.now given meaning → Does meaning (O.written out.old) (O.written out.new) result }
-    ensures cut { (given : List ℕ) → I.left input.old ≡ Some given → result ≡ Err RunFailure.Input → IsCutOff source.now given (O.written out.old) (O.written out.new) }
+    ensures known { (given : List ℕ) → I.left input.old ≡ Some given → OnOk result ((meaning : Meaning) × SourceMeans command limits.now source.now given meaning) }
+    ensures does { (given : List ℕ) (meaning : Meaning) → I.left input.old ≡ Some given → SourceMeans command limits.now source.now given meaning → Does meaning (O.written out.old) (O.written out.new) result }
+    ensures cut { (given : List ℕ) → I.left input.old ≡ Some given → result ≡ Err RunFailure.Input → IsCutOff command limits.now source.now given (O.written out.old) (O.written out.new) }
     ensures only_run { (command ≡ Command.Run → ⊥) → input.new ≡ input.old }
     ensures untouched { (rule : AnyRule) (line : AnyLine) → SourceCompiles Command.Run source.now (Rejected rule line) → input.new ≡ input.old }
-    ensures takes { (given : List ℕ) (s : AnySource) → I.left input.old ≡ Some given → SourceCompiles Command.Run source.now (Runnable s) → TakesNothing s limits given → input.new ≡ input.old }
+    ensures takes { (given : List ℕ) (s : AnySource) → I.left input.old ≡ Some given → SourceCompiles Command.Run source.now (Runnable s) → TakesNothing s limits.now given → input.new ≡ input.old }
     ensures output { OutputAfter O.written O.faults out.old out.new result }
     ensures input { InputAfter (I.faults input.old) (I.faults input.new) result }
 {
     match bind(alloc, command, source) {
-        Ok(bound) => do_bound(alloc, command, &bound, input, out),
+        Ok(bound) => do_bound(alloc, command, limits, &bound, input, out),
         Err(Refusal::Broken { rule, line }) => Ok(Ending::Refused { rule, line }),
         Err(Refusal::Memory) => Err(RunFailure::Memory),
     }
@@ -174,21 +185,22 @@ fn bind_and_do<I: Source, O: Sink>(
 fn do_bound<I: Source, O: Sink>(
     alloc: Global,
     command: Command,
+    limits: &Limits,
     bound: &Bound,
     input: &mut I,
     out: &mut O,
 ) -> Result<Ending, RunFailure>
     requires { command ≡ Command.Run → IsRunnable (source_of bound.now) }
-    ensures known { (given : List ℕ) → I.left input.old ≡ Some given → OnOk result ((meaning : Meaning) × BoundMeans command (source_of bound.now) given meaning) }
-    ensures does { (given : List ℕ) (meaning : Meaning) → I.left input.old ≡ Some given → BoundMeans command (source_of bound.now) given meaning → Does meaning (O.written out.old) (O.written out.new) result }
-    ensures cut { (given : List ℕ) → I.left input.old ≡ Some given → result ≡ Err RunFailure.Input → AtAMoment (source_of bound.now) limits given (O.written out.old) (O.written out.new) }
+    ensures known { (given : List ℕ) → I.left input.old ≡ Some given → OnOk result ((meaning : Meaning) × BoundMeans command limits.now (source_of bound.now) given meaning) }
+    ensures does { (given : List ℕ) (meaning : Meaning) → I.left input.old ≡ Some given → BoundMeans command limits.now (source_of bound.now) given meaning → Does meaning (O.written out.old) (O.written out.new) result }
+    ensures cut { (given : List ℕ) → I.left input.old ≡ Some given → result ≡ Err RunFailure.Input → AtAMoment (source_of bound.now) limits.now given (O.written out.old) (O.written out.new) }
     ensures only_run { (command ≡ Command.Run → ⊥) → (result ≡ Ok Ending.Normal) × (input.new ≡ input.old) }
-    ensures takes { (given : List ℕ) → I.left input.old ≡ Some given → TakesNothing (source_of bound.now) limits given → input.new ≡ input.old }
+    ensures takes { (given : List ℕ) → I.left input.old ≡ Some given → TakesNothing (source_of bound.now) limits.now given → input.new ≡ input.old }
     ensures output { OutputAfter O.written O.faults out.old out.new result }
     ensures input { InputAfter (I.faults input.old) (I.faults input.new) result }
 {
     match command {
-        Command::Run => run(alloc, bound, input, out),
+        Command::Run => run(alloc, limits, bound, input, out),
         Command::Check => Ok(Ending::Normal),
     }
 }
@@ -196,36 +208,30 @@ fn do_bound<I: Source, O: Sink>(
 // Runs a program.
 fn run<I: Source, O: Sink>(
     alloc: Global,
+    limits: &Limits,
     bound: &Bound,
     input: &mut I,
     out: &mut O,
 ) -> Result<Ending, RunFailure>
     requires { IsRunnable (source_of bound.now) }
-    ensures known { (given : List ℕ) → I.left input.old ≡ Some given → OnOk result ((meaning : Meaning) × BoundMeans Command.Run (source_of bound.now) given meaning) }
-    ensures does { (given : List ℕ) (meaning : Meaning) → I.left input.old ≡ Some given → BoundMeans Command.Run (source_of bound.now) given meaning → Does meaning (O.written out.old) (O.written out.new) result }
-    ensures cut { (given : List ℕ) → I.left input.old ≡ Some given → result ≡ Err RunFailure.Input → AtAMoment (source_of bound.now) limits given (O.written out.old) (O.written out.new) }
-    ensures takes { (given : List ℕ) → I.left input.old ≡ Some given → TakesNothing (source_of bound.now) limits given → input.new ≡ input.old }
+    ensures known { (given : List ℕ) → I.left input.old ≡ Some given → OnOk result ((meaning : Meaning) × BoundMeans Command.Run limits.now (source_of bound.now) given meaning) }
+    ensures does { (given : List ℕ) (meaning : Meaning) → I.left input.old ≡ Some given → BoundMeans Command.Run limits.now (source_of bound.now) given meaning → Does meaning (O.written out.old) (O.written out.new) result }
+    ensures cut { (given : List ℕ) → I.left input.old ≡ Some given → result ≡ Err RunFailure.Input → AtAMoment (source_of bound.now) limits.now given (O.written out.old) (O.written out.new) }
+    ensures takes { (given : List ℕ) → I.left input.old ≡ Some given → TakesNothing (source_of bound.now) limits.now given → input.new ≡ input.old }
     ensures output { OutputAfter O.written O.faults out.old out.new result }
     ensures input { InputAfter (I.faults input.old) (I.faults input.new) result }
 {
-    match compile_and_run(alloc, bound, &default_limits(), input, out) {
-        Ok(end) => Ok(ending_of(end)),
+    match compile_and_run(alloc, bound, limits, input, out) {
+        Ok(end) => Ok(ending_of(limits, end)),
         Err(NotRun::Memory) => Err(RunFailure::Memory),
         Err(NotRun::Input) => Err(RunFailure::Input),
         Err(NotRun::Output) => Err(RunFailure::Output),
     }
 }
 
-// The limits of a run with no options.
-fn default_limits() -> Limits
-    ensures { result ≡ limits }
-{
-    Limits::without_options()
-}
-
 // How a run ends, with the storage budget that it had.
-fn ending_of(end: RunEnd) -> Ending
-    ensures { result ≡ ending_of_run end }
+fn ending_of(limits: &Limits, end: RunEnd) -> Ending
+    ensures { result ≡ ending_of_run limits.now end }
 {
     match end {
         RunEnd::Normal => Ending::Normal,
@@ -233,7 +239,7 @@ fn ending_of(end: RunEnd) -> Ending
         RunEnd::StorageExhausted { line, used, wanted } => Ending::StorageExhausted {
             line,
             used,
-            budget: default_limits().storage,
+            budget: limits.storage,
             wanted,
         },
         RunEnd::TickLimit { ticks } => Ending::TickLimit { ticks },

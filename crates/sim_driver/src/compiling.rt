@@ -6,9 +6,9 @@ ghost use Rattle.sim_scope.specs.Source.{source_of};
 ghost use Rattle.sim_tree.specs.SyntaxOfProgram.{program_syntax};
 ghost use Rattle.sim_tree.specs.Tree.{IsTree};
 ghost use Rattle.sim_driver.specs.Compiling.{Answers, BindsAs, CheckRejects, ChecksAs, IsProgram, SourceRejects, TokensReject, TreeRejects, lacks_form, token_line};
-ghost use Rattle.sim_driver.specs.declared.words.Command.{Command as AnyCommand};
+ghost use Rattle.command_line.specs.declared.words.Command.{Command as AnyCommand};
 
-use crate::words::Command;
+use command_line::Command;
 use sim_base::{Line, Rule, Token, TokenNo, line_of};
 use sim_built::laws::allowed_programs_run;
 use sim_expr_parser::SyntaxRefusal;

@@ -8,9 +8,7 @@ mod reading;
 mod speaking;
 mod status;
 mod top;
-mod words;
 
 pub use compiling::{Refusal, bind};
 pub use status::Status;
 pub use top::simula;
-pub use words::Command;

@@ -136,7 +136,9 @@ impl fmt::Display for Status {
                 line.0
             ),
             Status::TickLimit { ticks } => write!(f, "tick limit {ticks} reached"),
-            Status::Usage => f.write_str("usage: simula run|check FILE"),
+            Status::Usage => f.write_str(
+                "usage: simula run [--storage W] [--ticks N] [--in-length N] [--out-length N] FILE, check FILE",
+            ),
             Status::FileFault => f.write_str("cannot read the file"),
             Status::InputFault => f.write_str("input fault"),
             Status::WriteFault => f.write_str("output fault"),

@@ -8,14 +8,15 @@ ghost use Rattle.sim_driver.specs.Answer.{Answer, Gives, IsAnswer};
 ghost use Rattle.sim_run.specs.RunEnds.{TakesNothing};
 ghost use Rattle.sim_scope.specs.Source.{Source as AnySource};
 ghost use Rattle.sim_driver.specs.Compiling.{Rejected, Runnable, SourceCompiles};
-ghost use Rattle.sim_driver.specs.SourceMeaning.{IsCutOff, limits};
 ghost use Rattle.sim_driver.specs.Reading.{TakesAtMost};
 ghost use Rattle.sim_driver.specs.Speaking.{HasItsCause, Says};
 ghost use Rattle.sim_driver.specs.Status.{is_answer, is_told, line_text};
-ghost use Rattle.sim_driver.specs.Words.{AsksRun, file_of, texts, TellsFile};
+ghost use Rattle.sim_driver.specs.Words.{AsksRun, AsksRunWith, TellsFile, WasCutOff, file_of};
+ghost use Rattle.command_line.specs.Words.{texts};
+ghost use Rattle.sim_base.specs.declared.limits.Limits.{Limits as AnyLimits};
 ghost use Rattle.sim_base.specs.declared.numbering.Line.{Line as AnyLine};
 ghost use Rattle.sim_base.specs.declared.rule.Rule.{Rule as AnyRule};
-ghost use Rattle.sim_driver.specs.declared.words.Command.TheVariants.{Run};
+ghost use Rattle.command_line.specs.declared.words.Command.TheVariants.{Run};
 ghost use Rattle.sim_driver.specs.declared.status.Status.{Status as AnyStatus};
 
 use crate::command::run_command;
@@ -25,8 +26,8 @@ use sim_lexer::SOURCE_LIMIT;
 use sim_ports::{Files, Sink, Source};
 use std::alloc::Global;
 
-/// Does what the words of the command line ask for. `run FILE` runs the source in the file, and its output goes to `out`;
-/// `check FILE` runs nothing. One line to `diag` says how it ended, but for a normal end.
+/// Does what the words of the command line ask for. `run FILE` runs the source in the file, under the limits that its options set, and its
+/// output goes to `out`; `check FILE` runs nothing. One line to `diag` says how it ended, but for a normal end.
 pub fn simula<F: Files, I: Source, O: Sink, D: Sink>(
     alloc: Global,
     words: &[String],
@@ -38,7 +39,7 @@ pub fn simula<F: Files, I: Source, O: Sink, D: Sink>(
     requires { F.selected files.old ≡ None }
 
     // Where the file and the input tell their bytes and nothing failed, the status, the output and the line are those of the
-    // answer, unless memory was wanting.
+    // answer, for a run that of the source's meaning under the limits that the words ask for, unless memory was wanting.
     ensures headline { (source given : List ℕ) (answer : Answer) → TellsFile (F.content files.old) (texts words.now) source
         → I.left input.old ≡ Some given → IsAnswer (texts words.now) source given answer
         → Steady (F.faults files.old) (F.faults files.new) → Steady (I.faults input.old) (I.faults input.new)
@@ -84,18 +85,18 @@ pub fn simula<F: Files, I: Source, O: Sink, D: Sink>(
         × HasItsCause (texts words.now) said (Rose (F.faults files.old) (F.faults files.new)) (Rose (I.faults input.old) (I.faults input.new)) (Rose (O.faults out.old) (O.faults out.new))
         × Says said result (D.written diag.old) (D.written diag.new) (D.faults diag.old) (D.faults diag.new) }
 
-    // Where the input failed, all is written that the program's run had written at some moment.
+    // Where the input failed, a run was asked for, and all is written that it had written at some moment.
     ensures cut { (source given : List ℕ) → TellsFile (F.content files.old) (texts words.now) source → I.left input.old ≡ Some given → result ≡ Status.InputFault
-        → IsCutOff source given (O.written out.old) (O.written out.new) }
+        → WasCutOff (texts words.now) source given (O.written out.old) (O.written out.new) }
 
     // The input is as it was where no run is asked for, and where a rule refuses the source.
     ensures only_run { (AsksRun (texts words.now) → ⊥) → input.new ≡ input.old }
     ensures untouched { (source : List ℕ) (rule : AnyRule) (line : AnyLine) → TellsFile (F.content files.old) (texts words.now) source
         → SourceCompiles Run source (Rejected rule line) → input.new ≡ input.old }
 
-    // And the input is as it was where the program's run takes nothing of it.
-    ensures takes { (source given : List ℕ) (s : AnySource) → TellsFile (F.content files.old) (texts words.now) source → I.left input.old ≡ Some given
-        → SourceCompiles Run source (Runnable s) → TakesNothing s limits given → input.new ≡ input.old }
+    // And the input is as it was where the program's run takes nothing of it under the limits that the words ask for.
+    ensures takes { (l : AnyLimits) (source given : List ℕ) (s : AnySource) → AsksRunWith (texts words.now) l → TellsFile (F.content files.old) (texts words.now) source
+        → I.left input.old ≡ Some given → SourceCompiles Run source (Runnable s) → TakesNothing s l given → input.new ≡ input.old }
 {
     let status = run_command(alloc, words, files, input, out);
     write_status_line(alloc, status, diag)

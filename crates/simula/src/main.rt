@@ -1,4 +1,4 @@
-//! Runs a Simula program: `simula run FILE`.
+//! Runs a Simula program: `simula run FILE`, with options before or behind FILE.
 #![tactic(auto)]
 
 use sim_driver::{Status, simula};

@@ -1,8 +1,11 @@
-use Rattle.std.proofs.Common.{[], Option, refl, subst}
+use Rattle.std.proofs.Common.{[], Option, refl, sym, subst}
+use Rattle.command_line.specs.Given.{asked}
+use Rattle.command_line.specs.Words.{Request, texts}
+use Rattle.sim_base.specs.declared.limits.Limits.{Limits}
+use Rattle.sim_run.specs.RunEnds.{TakesNothing}
 use Rattle.sim_driver.specs.Answer.{Answer, IsAnswerFor}
-use Rattle.sim_driver.specs.Words.{Request, texts}
 use Rattle.sim_driver.specs.declared.status.Status.TheVariants.{Usage}
-use Rattle.sim_driver.proofs.Requests.{answer_of, tells_file}
+use Rattle.sim_driver.proofs.Requests.{answer_of, cut_of, limits_of_request, tells_file}
 use Rattle.sim_driver.proofs.command.run_command.Goals as goal
 
 pub returns-in-None-clause-answered : goal.returns-in-None-clause-answered
@@ -13,18 +16,26 @@ returns-in-None-clause-answered g c source given tells told is =
 pub returns-in-Some-clause-answered : goal.returns-in-Some-clause-answered
 returns-in-Some-clause-answered g c source given tells told is =
     let words = texts c.args.words.now in
-    let request : Request = record { command = c.in-Some.field-0.command; file = c.in-Some.field-0.file.now } in
+    let request : Request = asked c.in-Some.field-0 in
     answer_of words source given request c.in-Some.ensures
     (c.answer_request.ensures.answered source given (tells_file (g.F.Files.content c.args.files.now) words source request c.in-Some.ensures tells) told is)
+
+pub returns-in-Some-clause-cut : goal.returns-in-Some-clause-cut
+returns-in-Some-clause-cut g c source given tells told is =
+    let words = texts c.args.words.now in
+    let request : Request = asked c.in-Some.field-0 in
+    cut_of words source given request _ _ c.in-Some.ensures
+    (c.answer_request.ensures.cut source given (tells_file (g.F.Files.content c.args.files.now) words source request c.in-Some.ensures tells) told is)
 
 pub returns-in-Some-clause-untouched : goal.returns-in-Some-clause-untouched
 returns-in-Some-clause-untouched g c source rule line tells compiles =
     let words = texts c.args.words.now in
-    let request : Request = record { command = c.in-Some.field-0.command; file = c.in-Some.field-0.file.now } in
+    let request : Request = asked c.in-Some.field-0 in
     c.answer_request.ensures.untouched source rule line (tells_file (g.F.Files.content c.args.files.now) words source request c.in-Some.ensures tells) compiles
 
 pub returns-in-Some-clause-takes : goal.returns-in-Some-clause-takes
-returns-in-Some-clause-takes g c source given s tells told compiles never =
+returns-in-Some-clause-takes g c l source given s asks tells told compiles never =
     let words = texts c.args.words.now in
-    let request : Request = record { command = c.in-Some.field-0.command; file = c.in-Some.field-0.file.now } in
-    c.answer_request.ensures.takes source given s (tells_file (g.F.Files.content c.args.files.now) words source request c.in-Some.ensures tells) told compiles never
+    let request : Request = asked c.in-Some.field-0 in
+    c.answer_request.ensures.takes source given s (tells_file (g.F.Files.content c.args.files.now) words source request c.in-Some.ensures tells) told compiles
+    (subst (λ (k : Limits). TakesNothing s k given) (sym (limits_of_request words l request c.in-Some.ensures asks)) never)
