@@ -1,5 +1,5 @@
 -- A call is judged as its actuals fit the heading.
-use Rattle.std.proofs.Common.{◌≡◌, ℕ, Bool, true, false, List, [], ◌∷◌, length, Option, Some, None, refl, sym, ap, ◌∙◌, if◌then◌else◌}
+use Rattle.std.proofs.Common.{◌≡◌, ℕ, Bool, true, false, ◌||◌, ◌&&◌, not, List, [], ◌∷◌, length, Option, Some, None, refl, sym, ap, ◌∙◌, if◌then◌else◌}
 use Rattle.std.specs.Prelude.{nat_eq, slice_get}
 use Rattle.sim_base.specs.declared.numbering.DeclNo.{DeclNo}
 use Rattle.sim_base.specs.declared.rule.Rule.TheVariants as r
@@ -11,21 +11,21 @@ use Rattle.sim_scope.specs.declared.outcome.Extent.TheVariants.{Statement}
 use Rattle.sim_scope.specs.declared.outcome.Outcome.{Outcome}
 use Rattle.sim_scope.specs.declared.outcome.Outcome.TheVariants as outcome
 use Rattle.sim_scope.specs.declared.scopes.Declaration.{Declaration}
+use Rattle.sim_scope.specs.declared.scopes.Denotation.{Denotation}
 use Rattle.sim_scope.specs.declared.scopes.Denotation.TheVariants.{Declared}
 use Rattle.sim_scope.specs.declared.types.Entry.{Entry}
 use Rattle.sim_scope.specs.declared.types.Entry.TheVariants as entry
 use Rattle.sim_scope.specs.declared.types.Formal.{Formal}
 use Rattle.sim_scope.specs.declared.types.SimType.{SimType}
-use Rattle.sim_scope.specs.declared.types.SimType.TheVariants as type
 use Rattle.sim_scope.specs.Actuals.{actual, formal_or_none, more, parameter_at, parameter_of, with_actual}
-use Rattle.sim_scope.specs.Calls.{applied, declared_applied, misfitting_or, resulting, typed_if}
+use Rattle.sim_scope.specs.Calls.{applied, declared_applied, misfitting_or, occurs, resulting, typed_if}
 use Rattle.sim_scope.specs.Expressions.{actuals, judge}
 use Rattle.sim_scope.specs.Found.{Broken}
-use Rattle.sim_scope.specs.Judged.{gives, next, telling}
+use Rattle.sim_scope.specs.Judged.{Judged, bars, gives, next, telling}
 use Rattle.sim_scope.specs.Least.{faults}
 use Rattle.sim_scope.specs.Outcomes.{breaks, call_of}
 use Rattle.sim_scope.specs.Levels.{class_block, class_block_in}
-use Rattle.sim_scope.specs.References.{formal_count, formal_count_of, generates, is_only_prefix, new_object, new_of, unless_prefix}
+use Rattle.sim_scope.specs.References.{class_type, formal_count, formal_count_of, generated, generates, is_only_prefix, new_object}
 use Rattle.sim_scope.specs.Scopes.{entry_in, entry_of, formals_of}
 use Rattle.sim_scope.specs.Tables.{Tables}
 use Rattle.sim_types.proofs.Steps.{next_same}
@@ -102,12 +102,20 @@ unfolding breaks telling
 misfits_generated naming None ty = refl
 misfits_generated naming (Some fault) ty = refl
 
-generated : (naming token : ℕ) (a : Actuals) (ty : SimType) (b only : Bool) → only ≡ false
-    → faults (if b then unless_prefix only token (misfitting_or a.misfit (generates naming ty)) else breaks token r.WrongNumber).events ≡ faults (if b then misfit_events a.misfit else Broken token r.WrongNumber ∷ [])
-unfolding breaks telling
-generated naming token a ty true true is = absurd (cc)
-generated naming token a ty true false is = misfits_generated naming a.misfit ty
-generated naming token a ty false only is = refl
+-- what is judged of the class and the number
+judged_new : (naming token : ℕ) (class : Denotation) (a : Actuals) (wrong only : Bool) → Judged Outcome
+judged_new naming token class a wrong only = next (bars wrong token r.WrongNumber) (λ p. next (bars only token r.OnlyForPrefixing) (λ q. generated naming class a (p || q || false)))
+
+generated_as : (naming token : ℕ) (class : Denotation) (a : Actuals) (b only : Bool) → only ≡ false → a.typed ≡ true
+    → faults (judged_new naming token class a (a.typed && not b) only).events ≡ faults (if b then misfit_events a.misfit else Broken token r.WrongNumber ∷ [])
+unfolding judged_new bars next gives telling
+generated_as naming token class a true true is typed = absurd (cc)
+generated_as naming token class a false true is typed = absurd (cc)
+generated_as naming token class a true false is typed =
+    ap (λ w. faults (judged_new naming token class a (w && false) false).events) typed
+    ∙ ap (λ w. faults (if w then misfitting_or a.misfit (generates naming (class_type class)) else gives outcome.Refused).events) typed
+    ∙ misfits_generated naming a.misfit (class_type class)
+generated_as naming token class a false false is typed = ap (λ w. faults (judged_new naming token class a (w && true) false).events) typed
 
 block_of_heading : (s : Tables) (d : DeclNo) (fs : List Formal) (h : HasClassHeading s d fs) → class_block s d ≡ Some h.block
 unfolding class_block entry_of
@@ -121,11 +129,10 @@ counted : (s : Tables) (d : DeclNo) (fs : List Formal) → HasClassHeading s d f
 counted s d fs h = ap (formal_count_of s) (block_of_heading s d fs h) ∙ h.as_many
 
 pub as_generated : (s : Tables) (d : DeclNo) (fs : List Formal) (a : Actuals) (naming : ℕ) (name : Identifier) → HasClassHeading s d fs → is_only_prefix s (Declared d) ≡ false → a.typed ≡ true
-    → faults (new_object s naming name (Some (Declared d)) a).events ≡ faults (settled (length fs) name.token.0 a)
-unfolding new_object
+    → faults (new_object s naming name (occurs (Some (Declared d)) false) a).events ≡ faults (settled (length fs) name.token.0 a)
+unfolding new_object judged_new
 as_generated s d fs a naming name h only typed =
     let token = name.token.0 in
-    ap (λ b. faults (if b then new_of s naming token (Declared d) a else gives outcome.Refused).events) typed
-    ∙ generated naming token a (type.Ref d) (nat_eq (formal_count s (Declared d)) a.count) (is_only_prefix s (Declared d)) only
+    generated_as naming token (Declared d) a (nat_eq (formal_count s (Declared d)) a.count) (is_only_prefix s (Declared d)) only typed
     ∙ ap (λ n. faults (if nat_eq n a.count then misfit_events a.misfit else Broken token r.WrongNumber ∷ [])) (counted s d fs h)
     ∙ ap faults (sym (settles token (length fs) a typed))

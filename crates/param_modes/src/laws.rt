@@ -3,7 +3,7 @@ ghost use Rattle.std.specs.Prelude.{◌≡◌, List, ℕ, Option, Some, false, l
 ghost use Rattle.sim_base.specs.declared.numbering.DeclNo.{DeclNo};
 ghost use Rattle.sim_tree.specs.Syntax.{Expressions};
 ghost use Rattle.sim_tree.specs.declared.expr.Identifier.{Identifier};
-ghost use Rattle.sim_scope.specs.Calls.{applied};
+ghost use Rattle.sim_scope.specs.Calls.{applied, occurs};
 ghost use Rattle.sim_scope.specs.Expressions.{actuals};
 ghost use Rattle.sim_scope.specs.Least.{faults};
 ghost use Rattle.sim_scope.specs.References.{is_only_prefix, new_object};
@@ -32,5 +32,5 @@ pub fn calls_as_headings()
 pub fn generations_as_headings()
     ensures actuals { (s : Tables) (d : DeclNo) (fs : List Formal) (a : Actuals) (xs : Expressions) → HasClassHeading s d fs → actuals s Statement (Some (Declared d)) a xs ≡ held s fs a xs }
     ensures generation { (s : Tables) (d : DeclNo) (fs : List Formal) (a : Actuals) (naming : ℕ) (name : Identifier) → HasClassHeading s d fs → is_only_prefix s (Declared d) ≡ false → a.typed ≡ true
-        → faults (new_object s naming name (Some (Declared d)) a).events ≡ faults (settled (length fs) name.token.0 a) }
+        → faults (new_object s naming name (occurs (Some (Declared d)) false) a).events ≡ faults (settled (length fs) name.token.0 a) }
 {}

@@ -1,8 +1,9 @@
 -- Assignments, one judgement after another.
-use Rattle.std.proofs.Common.{◌≡◌, ◌<◌, ◌≤◌, ◌+◌, ◌-◌, ℕ, suc, List, [], ◌∷◌, refl, sym, ap, ◌∙◌, map, drop, length, arith}
+use Rattle.std.proofs.Common.{◌≡◌, ◌<◌, ◌≤◌, ◌+◌, ◌-◌, ◌||◌, not, ℕ, Bool, suc, List, [], ◌∷◌, refl, sym, ap, ◌∙◌, map, drop, length, arith}
 use Rattle.std.proofs.lemmas.List.{drop_more, drop_all}
 use Rattle.std.specs.Prelude.{slice_index_or}
 use Rattle.sim_base.specs.declared.numbering.TokenNo.{TokenNo}
+use Rattle.sim_base.specs.declared.rule.Rule.TheVariants as r
 use Rattle.sim_tree.specs.declared.expr.Expr.{Expr}
 use Rattle.sim_tree.specs.declared.stmt.Assigned.{Assigned}
 use Rattle.sim_tree.specs.declared.stmt.Assignment.{Assignment}
@@ -13,17 +14,26 @@ use Rattle.sim_scope.specs.declared.outcome.Extent.TheVariants.{Statement}
 use Rattle.sim_scope.specs.declared.outcome.LeftSides.{LeftSides}
 use Rattle.sim_scope.specs.declared.outcome.Outcome.{Outcome}
 use Rattle.sim_scope.specs.declared.outcome.Side.{Side}
-use Rattle.sim_scope.specs.Assignments.{LeftSide, Nothing, assigned, assigned_to, call_assigned, compared, first_sign, last_value, left_side, left_sides, lefts, no_lefts, sign_agrees, target, with_left}
+use Rattle.sim_scope.specs.declared.types.SimType.{SimType}
+use Rattle.sim_scope.specs.Assignments.{LeftSide, Nothing, assigned, assigned_to, call_assigned, compared, first_sign, last_value, left_side, left_sides, lefts, no_lefts, side_unless, sign_agrees, takes, target, targets, with_left}
 use Rattle.sim_scope.specs.ExpressionWalk.{Finds, FindsSide}
 use Rattle.sim_scope.specs.Expressions.{judge, judge_side}
 use Rattle.sim_scope.specs.Found.{Findings, found}
-use Rattle.sim_scope.specs.Judged.{Judges, next}
+use Rattle.sim_scope.specs.Judged.{Judges, bars, next}
 use Rattle.sim_scope.specs.Outcomes.{called}
 use Rattle.sim_scope.specs.Runs.{Runs}
 use Rattle.sim_scope.specs.Statements.{assignment_events}
 use Rattle.sim_scope.specs.Tables.{Tables}
 use Rattle.sim_static.specs.StatementWalk.{FindsLeft, FindsLefts, IsLast, OwesLefts, left_of, of_assignment}
 use Rattle.sim_types.proofs.Steps.{judges_as, judges_gives, judges_next}
+
+pub targets_in_steps : (sign : Assignment) (t : TokenNo) (variable : Bool) (ty : SimType) (f g h k : Findings) (p q a b : Bool) (x : Side) → p ≡ not (takes sign ty) → Judges f g a (bars p t.0 r.WrongType)
+    → q ≡ not variable → Judges g h b (bars q t.0 r.LeftSideIsNoVariable) → Judges h k x (side_unless t.0 ty (a || b)) → Judges f k x (targets sign t.0 variable ty)
+unfolding targets
+targets_in_steps sign t variable ty f g h k p q a b x taken one none two three =
+    judges_next (bars (not (takes sign ty)) t.0 r.WrongType) (λ a. next (bars (not variable) t.0 r.LeftSideIsNoVariable) (λ b. side_unless t.0 ty (a || b)))
+    (judges_as one (ap (λ z. bars z t.0 r.WrongType) taken))
+    (judges_next (bars (not variable) t.0 r.LeftSideIsNoVariable) (λ b. side_unless t.0 ty (a || b)) (judges_as two (ap (λ z. bars z t.0 r.LeftSideIsNoVariable) none)) three)
 
 pub call_assigned_in_steps : (s : Tables) (sign : Assignment) (t : TokenNo) (f g h : Findings) (o u : Outcome) (x : Side) → Judges f g u (called s o) → Judges g h x (assigned_to sign t.0 u) → Judges f h x (call_assigned s sign t.0 o)
 unfolding call_assigned
@@ -44,13 +54,13 @@ from_drop : {A : Type 0} (xs : List A) (i : ℕ) (x : A) → i < length xs → x
 from_drop xs i x le is = drop_more xs i x le ∙ ap (λ y. y ∷ drop (i + 1) xs) (sym is)
 
 pub lefts_next : (s : Tables) (first : Assignment) (v : Side) (f g h : Findings) (a b c : LeftSides) (ls : List LeftSide) (l m : Expr) (ps : List Assigned) (i : ℕ) (p : Assigned) (x : Side)
-    → OwesLefts s first v f a ls g b (left_sides (syntax_of l) (map right_side_syntax (drop i ps))) → i < length ps → p ≡ slice_index_or ps i p → FindsLeft s g h first p l x → c ≡ with_left s p.sign v b x → m ≡ p.value
+    → OwesLefts s first v f a ls g b (left_sides (syntax_of l) (map right_side_syntax (drop i ps))) → i < length ps → p ≡ slice_index_or ps i p → FindsLeft s g h first p l x → c ≡ with_left s v b x → m ≡ p.value
     → OwesLefts s first v f a ls h c (left_sides (syntax_of m) (map right_side_syntax (drop (i + 1) ps)))
 unfolding OwesLefts FindsLeft lefts
 lefts_next s first v f g h a b c ls l m ps i p x owed le at one is same k d later =
     owed k d (judges_as
-    (judges_next (left_side s first (left_of p l)) (λ x. lefts s first v (with_left s p.sign v b x) (left_sides (syntax_of p.value) (map right_side_syntax (drop (i + 1) ps)))) one
-    (judges_as later (ap (λ z. lefts s first v z (left_sides (syntax_of m) (map right_side_syntax (drop (i + 1) ps)))) is ∙ ap (λ z. lefts s first v (with_left s p.sign v b x) (left_sides (syntax_of z) (map right_side_syntax (drop (i + 1) ps)))) same)))
+    (judges_next (left_side s first (left_of p l)) (λ x. lefts s first v (with_left s v b x) (left_sides (syntax_of p.value) (map right_side_syntax (drop (i + 1) ps)))) one
+    (judges_as later (ap (λ z. lefts s first v z (left_sides (syntax_of m) (map right_side_syntax (drop (i + 1) ps)))) is ∙ ap (λ z. lefts s first v (with_left s v b x) (left_sides (syntax_of z) (map right_side_syntax (drop (i + 1) ps)))) same)))
     (ap (λ z. lefts s first v b (left_sides (syntax_of l) (map right_side_syntax z))) (sym (from_drop ps i p le at))))
 
 pub lefts_end : (s : Tables) (first : Assignment) (v : Side) (f g : Findings) (b : LeftSides) (l m : Expr) (ps : List Assigned) (i : ℕ) → first ≡ first_sign (map right_side_syntax ps)

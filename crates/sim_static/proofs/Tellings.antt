@@ -1,5 +1,5 @@
 -- The last round, construct by construct.
-use Rattle.std.proofs.Common.{◌≡◌, ◌<◌, ℕ, List, [], ◌∷◌, ◌++◌, Option, Some, None, refl, sym, ap, ◌∙◌, map, length}
+use Rattle.std.proofs.Common.{◌≡◌, ◌<◌, ℕ, Bool, List, [], ◌∷◌, ◌++◌, Option, Some, None, refl, sym, ap, ◌∙◌, map, length}
 use Rattle.std.specs.Prelude.{false, option_map}
 use Rattle.std.specs.declared.alloc.Global.{Global}
 use Rattle.std.specs.declared.boxed.Box.{Box}
@@ -38,6 +38,7 @@ use Rattle.sim_tree.proofs.ProgramSyntaxLemmas.{syntax-when}
 use Rattle.sim_scope.specs.declared.outcome.Actuals.{Actuals}
 use Rattle.sim_scope.specs.declared.outcome.Extent.{Extent}
 use Rattle.sim_scope.specs.declared.outcome.Extent.TheVariants as extent
+use Rattle.sim_scope.specs.declared.outcome.Occurrence.{Occurrence}
 use Rattle.sim_scope.specs.declared.outcome.Outcome.{Outcome}
 use Rattle.sim_scope.specs.declared.outcome.Side.{Side}
 use Rattle.sim_scope.specs.declared.scopes.Denotation.{Denotation}
@@ -53,14 +54,14 @@ use Rattle.sim_scope.specs.Expressions.{actuals, judge, judge_side}
 use Rattle.sim_scope.specs.Found.{Findings, found}
 use Rattle.sim_scope.specs.Judged.{Judged, Judges, next}
 use Rattle.sim_scope.specs.Outcomes.{called}
-use Rattle.sim_scope.specs.References.{block_of_class, class_named}
+use Rattle.sim_scope.specs.References.{class_fits, class_named}
 use Rattle.sim_scope.specs.Runs.{Runs, each}
-use Rattle.sim_scope.specs.Statements.{activate_events, activates, arm_class_fits, arm_events, arm_fits, array_events, assignment_events, call_alone, class_connected, class_events, class_prefix_events, class_used, connected_by, call_events, control_events, controlled, element_events, first_step, first_value, in_simulation, inspect_events, inspect_when_events, judging, needs, needs_reference, pair_events, prefix_at, prefix_used, prefixed_events, prefixed_with, process_at, process_events, program_prefix_events, required, result_events, schedule_events, simple, stands, starts, taken_by, type_events, variable_events}
+use Rattle.sim_scope.specs.Statements.{activate_events, activates, arm_connected, arm_events, arm_fits, array_events, assignment_events, call_alone, class_events, class_prefix_events, class_used, connected_by, call_events, control_events, controlled, element_events, first_step, first_value, in_simulation, inspect_events, inspect_when_events, judging, needs, needs_reference, pair_events, prefix_at, prefix_used, prefixed_events, prefixed_with, process_at, process_events, program_prefix_events, required, result_events, schedule_events, simple, stands, starts, taken_by, type_events, variable_events}
 use Rattle.sim_scope.specs.Scopes.{binding, found_in}
 use Rattle.sim_scope.specs.Tables.{Tables}
 use Rattle.sim_scope.specs.Walk.{arm_classes, of_statement, of_branch, of_arm, of_block, of_whole, of_declaration}
 use Rattle.sim_scope.proofs.Walks.{runs_both, runs_as, runs_none, leads_all, leads_next, leads_end, run_empty, run_block, run_block_of_class, run_body_of_class, run_prefixed, run_inner, run_call, run_assignment, run_if, run_while, run_for, run_for_reference, run_inspect, run_inspect_when, run_activation, run_some, run_no_branch, run_arm, run_compound, run_whole_block, run_whole, run_class_body, run_variables, run_arrays, run_procedure, run_class}
-use Rattle.sim_static.specs.StatementWalk.{arm_known, of_activation, of_arm_class, of_class_prefix, of_inspect, of_inspect_when, of_prefix, of_process, of_program_prefix, of_timing, of_assignment, of_call, of_element, of_first_step, of_first_value, of_pair, of_reference_element, of_required, of_segment}
+use Rattle.sim_static.specs.StatementWalk.{of_activation, of_arm_class, of_class_prefix, of_inspect, of_inspect_when, of_prefix, of_process, of_program_prefix, of_timing, of_assignment, of_call, of_element, of_first_step, of_first_value, of_pair, of_reference_element, of_required, of_segment}
 use Rattle.sim_types.proofs.Steps.{judges_as, judges_next}
 
 pub ruleset loops = (leads_all, leads_next, leads_end)
@@ -74,9 +75,9 @@ pub stands_in_steps : (t : Tables) (i : TokenNo) (f g h : Findings) (o u : Outco
 unfolding stands
 stands_in_steps t i f g h o u n one two = judges_next (called t o) (call_alone i.0) one two
 
-pub controlled_in_steps : (t : Tables) (sign : Assignment) (x : Identifier) (f g h : Findings) (d : Option Denotation) (a : Option SimType) → Judges f g d (bound t extent.Statement x) → Judges g h a (simple t sign x.token.0 d) → Judges f h a (controlled t sign x)
+pub controlled_in_steps : (t : Tables) (sign : Assignment) (x : Identifier) (f g h : Findings) (o : Occurrence) (a : Option SimType) → Judges f g o (bound t extent.Statement x) → Judges g h a (simple t sign x.token.0 o.denotes) → Judges f h a (controlled t sign x)
 unfolding controlled
-controlled_in_steps t sign x f g h d a one two = judges_next (bound t extent.Statement x) (simple t sign x.token.0) one two
+controlled_in_steps t sign x f g h o a one two = judges_next (bound t extent.Statement x) (λ o. simple t sign x.token.0 o.denotes) one two
 
 pub tell_required : (t : Tables) (m : Extent) (f g h : Findings) (w : SimType) (e : Expr) (x : Side) (n : Nothing) → FindsSide t m f g x e → Judges g h n (needs w x) → Runs found f h (of_required t m w e)
 unfolding FindsSide of_required required
@@ -200,12 +201,12 @@ pub tell_object : (t : Tables) (f g h : Findings) (i : TokenNo) (e : Expr) (x : 
 unfolding FindsSide of_inspect inspect_events
 tell_object t f g h i e x n one two = runs_judged f h n _ (judges_next (judge_side t extent.Statement (syntax_of e)) (connected_by t i.0) one two)
 
-pub arm_known_in_steps : (t : Tables) (f g h : Findings) (i j : TokenNo) (class : Denotation) (ty : SimType) (m n : Nothing) (b : Option ℕ) → Judges f g m (arm_class_fits t j.0 class ty) → b ≡ block_of_class t class → Judges g h n (class_connected t i.0 b)
-    → Judges f h n (arm_known t i.0 j.0 class ty)
-arm_known_in_steps t f g h i j class ty m n b one same two =
-    judges_next (arm_class_fits t j.0 class ty) (λ n. class_connected t i.0 (block_of_class t class)) one (judges_as two (ap (class_connected t i.0) same))
+pub arm_in_steps : (t : Tables) (f g h : Findings) (i : TokenNo) (x : Side) (c : Identifier) (o : Occurrence) (b : Bool) (n : Nothing) → Judges f g b (class_fits t c.token.0 o.denotes x.ty) → Judges g h n (arm_connected t i.0 o.denotes)
+    → Judges f h n (arm_fits t i.0 x c o)
+unfolding arm_fits
+arm_in_steps t f g h i x c o b n one two = judges_next (class_fits t c.token.0 o.denotes x.ty) (λ b. arm_connected t i.0 o.denotes) one two
 
-pub tell_arm_class : (t : Tables) (f g h : Findings) (i : TokenNo) (x : Side) (w : When) (d : Option Denotation) (n : Nothing) → Judges f g d (class_named t extent.Statement w.class) → Judges g h n (arm_fits t i.0 x w.class d)
+pub tell_arm_class : (t : Tables) (f g h : Findings) (i : TokenNo) (x : Side) (w : When) (d : Occurrence) (n : Nothing) → Judges f g d (class_named t extent.Statement w.class) → Judges g h n (arm_fits t i.0 x w.class d)
     → Runs found f h (of_arm_class t i.0 x w)
 unfolding of_arm_class arm_events
 tell_arm_class t f g h i x w d n one two = runs_judged f h n _ (judges_next (class_named t extent.Statement w.class) (arm_fits t i.0 x w.class) one two)
@@ -332,7 +333,7 @@ unfolding judging
 tell_whole t b n c k ds l same f also_ g = run_whole found (judging t) b n c c k ds l same f also_ g (runs_none found c)
 
 -- Declarations.
-pub runs_class : (t : Tables) (f g : Findings) (class : Identifier) (d : Option Denotation) (o : Option ℕ) (e : Denotation) (x : Option Denotation) → d ≡ binding t class.token.0 class.name → o ≡ found_in t class.token.0 class.name → d ≡ Some e
+pub runs_class : (t : Tables) (f g : Findings) (class : Identifier) (d : Option Denotation) (o : Option ℕ) (e : Denotation) (x : Occurrence) → d ≡ binding t class.token.0 class.name → o ≡ found_in t class.token.0 class.name → d ≡ Some e
     → Judges f g x (used_in class.token.0 o e false) → Runs found f g (class_events t class)
 unfolding class_events
 runs_class t f g class d o e x denotes at is h =

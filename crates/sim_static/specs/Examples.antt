@@ -15,7 +15,7 @@ use Rattle.sim_tree.specs.declared.stmt.Constant.TheVariants as constant
 use Rattle.sim_tree.specs.declared.stmt.Mode.TheVariants as mode
 use Rattle.sim_tree.specs.declared.stmt.TypeName.{TypeName}
 use Rattle.sim_tree.specs.declared.stmt.TypeName.TheVariants as type_name
-use Rattle.sim_tree.specs.Syntax.{Inner, Activate, Also, Arrays, Assign, Begin, Binary, BooleanValue, Call, Compound, Constant, Declaration, Declarations, DeclareClass, DeclareProcedure, Dot, Empty, Expression, For, Inspect, InspectWhen, IntegerValue, Interface, Moded, Named, New, NoArm, NoDeclaration, NoMore, NoStatement, Now, Once, Prefixed, Procedure, Simple, Specification, Specified, Statement, Statements, This, Variables, When, With, expressions}
+use Rattle.sim_tree.specs.Syntax.{Inner, Activate, Also, Arrays, Assign, Begin, Binary, BooleanValue, Call, Compound, Constant, Declaration, Declarations, DeclareClass, DeclareProcedure, Dot, Empty, Expression, For, Inspect, InspectWhen, IntegerValue, Interface, Moded, Named, New, NoArm, NoDeclaration, NoMore, NoObject, NoStatement, Now, Once, Prefixed, Procedure, Simple, Specification, Specified, Statement, Statements, This, Variables, When, With, expressions}
 use Rattle.prefix_bind.specs.Prefixes.{prefix_faults}
 use Rattle.sim_scope.specs.declared.types.BlockKind.TheVariants as kind
 use Rattle.sim_scope.specs.declared.types.Entry.{Entry}
@@ -339,10 +339,73 @@ pub record Classes : Type 0 where
   --                                                                    11
   pub no_simulation : Refuses r.ActivationOutsideSimulation 11 (source (class 1 a plain (Empty 4) 4 ∷ reference 5 a c ∷ []) (Activate 11 activation.Activate (alone 12 c) Now ∷ []) 13)
   pub a_simulation : Allows (prefixed_source (codes "simulation") (subclass 2 (codes "process") a plain (Empty 6) 6 ∷ reference 7 a c ∷ []) (Activate 13 activation.Activate (alone 14 c) Now ∷ []) 15)
-  -- S21, class only for prefixing:  begin simset class a; ; new a end  and  begin class a; ; new a end
-  --                                                             7
-  pub only_a_prefix : Refuses r.OnlyForPrefixing 7 (source (subclass 1 (codes "simset") a plain (Empty 5) 5 ∷ []) (Call (new 6 a) ∷ []) 8)
-  pub a_generation : Allows (source (class 1 a plain (Empty 4) 4 ∷ []) (Call (new 5 a) ∷ []) 7)
+  -- S21, class only for prefixing:  begin simulation class a; ; new a end  and  begin simset class a; ; new a end
+  --                                                                 7
+  pub only_a_prefix : Refuses r.OnlyForPrefixing 7 (source (subclass 1 (codes "simulation") a plain (Empty 5) 5 ∷ []) (Call (new 6 a) ∷ []) 8)
+  pub a_generation : Allows (source (subclass 1 (codes "simset") a plain (Empty 5) 5 ∷ []) (Call (new 6 a) ∷ []) 8)
+
+-- `type procedure x;`, with a body
+abbrev pub function : TypeName → (n : ℕ) → List ℕ → Statement → (end : ℕ) → Declaration
+function type n letters body end =
+    DeclareProcedure (Some type) n (record { name = name (n + 1) letters; formals = []; modes = []; specifications = [] }) body end
+
+abbrev pub referring : ℕ → List ℕ → TypeName
+referring n class = type_name.Reference (token n) (name (n + 2) class)
+
+-- `virtual: ref(x) procedure y;`, with `ref` at a token
+abbrev pub with_typed_virtual : ℕ → (class letters : List ℕ) → Interface
+with_typed_virtual n class letters = record { protections = []; virtuals = record { result = Some (referring n class); token = n + 4; names = name (n + 5) letters ∷ [] } ∷ [] }
+
+-- `class a; begin class b; ; procedure p; ; end; ref(a) c;`, from the token 1 on
+abbrev pub holding_a_class : List Declaration
+holding_a_class = class 1 a plain (body 4 (class 5 b plain (Empty 8) 8 ∷ plain_procedure 9 p ∷ []) [] 13) 14 ∷ reference 15 a c ∷ []
+
+-- Rules that hold together: at one token the first of the table is the answer, and an untyped part silences only types, numbers and kinds.
+pub record Together : Type 0 where
+  -- S12 in front of S22:  begin integer b; integer array a(1:b(1)); end
+  --                                                          10
+  pub kind_and_bound : Refuses r.WrongKind 10 (source (variable 1 b ∷ array 4 a (of 10 b (number 12 1 ∷ [])) ∷ []) [] 16)
+  -- S15 in front of S17:  begin class a; begin class b; ; procedure p; ; end; ref(a) c; c.p(1) end
+  --                                                                                       23
+  pub number_and_classes : Refuses r.WrongNumber 23 (source holding_a_class (Call (Dot 22 (alone 21 c) (name 23 p) (expressions (number 25 1 ∷ []))) ∷ []) 27)
+  -- S17 in front of N1, with  c.sin
+  pub classes_and_name : Refuses r.ClassWithClasses 23 (source holding_a_class (Call (Dot 22 (alone 21 c) (name 23 (codes "sin")) NoMore) ∷ []) 24)
+  -- S13 in front of S14:  begin integer a = 1; a :- 2 end
+  --                                            6
+  pub sign_and_constant : Refuses r.WrongType 6 (source (constant_of 1 a 1 ∷ []) (refer (alone 6 a) 7 (number 8 2) ∷ []) 9)
+  -- The sign is judged whatever is assigned:  begin boolean a; a :- b end
+  --                                                            4
+  pub sign_alone : Refuses r.WrongType 4 (source (truth_variable 1 a ∷ []) (refer (alone 4 a) 5 (alone 6 b) ∷ []) 7)
+  -- S23 with an untyped actual:  begin sysin(b) end
+  --                                    1
+  pub stream_with_untyped : Refuses r.StandardNameLeftOut 1 (source [] (Call (of 1 (codes "sysin") (alone 3 b ∷ [])) ∷ []) 5)
+  -- S17 of an arm, whatever is inspected:  begin class a; begin class b; ; end; inspect 1 when a do end
+  --                                                                             11
+  pub arm_with_classes : Refuses r.ClassWithClasses 11 (source (class 1 a plain (body 4 (class 5 b plain (Empty 8) 8 ∷ []) [] 9) 10 ∷ []) (InspectWhen 11 (number 12 1) (When 13 (name 14 a) 15 (Empty 16) 16 NoArm) NoStatement ∷ []) 16)
+  -- S17 of a class prefixed by `simset`:  begin simset class a; begin integer b; end; ref(a) c; c.b := 1 end
+  --                                                                                               19
+  pub classes_of_simset : Refuses r.ClassWithClasses 19 (source (subclass 1 (codes "simset") a plain (body 5 (variable 6 b ∷ []) [] 9) 10 ∷ reference 11 a c ∷ []) (set (Dot 18 (alone 17 c) (name 19 b) NoMore) 20 (number 21 1) ∷ []) 22)
+  -- S7 of a constant:  begin ref(b) a = 1; end
+  --                              3
+  pub constant_of_no_class : Refuses r.QualificationIsNoClass 3 (source (Variables (referring 1 b) (record { name = name 5 a; value = Some (constant.Integer None (token 7) (pos 1)) } ∷ []) ∷ []) [] 9)
+  -- S7 and no S8:  begin class b; ; class a; virtual: ref(q) procedure p; begin ref(b) procedure p; ; end; end
+  --                                                       12
+  pub unknown_virtual : Refuses r.QualificationIsNoClass 12 (source (class 1 b plain (Empty 4) 4 ∷ class 5 a (with_typed_virtual 10 q p) (body 17 (function (referring 18 b) 22 p (Empty 25) 25 ∷ []) [] 26) 27 ∷ []) [] 28)
+
+-- `class a; ; a class b; ; a class c; ; class p; virtual: ref(a) procedure q; begin ref(b) procedure q; q :- new x; end; end`, from the token 1 on
+abbrev pub match_with : List ℕ → Checked
+match_with x =
+    source (class 1 a plain (Empty 4) 4 ∷ subclass 5 a b plain (Empty 9) 9 ∷ subclass 10 a c plain (Empty 14) 14
+    ∷ class 15 p (with_typed_virtual 20 a q) (body 27 (function (referring 28 b) 32 q (refer (alone 35 q) 36 (new 37 x)) 39 ∷ []) [] 40) 41 ∷ []) [] 42
+
+-- The result of a procedure as a left side.
+pub record Results : Type 0 where
+  -- of a match it has the class of the match, and not that of the virtual: S16 at `new`
+  pub another_class : Refuses r.DifferentChains 37 (match_with c)
+  pub its_class : Allows (match_with b)
+  -- Through a connection the identifier is an attribute:  begin class a; begin ref(a) c; integer procedure p; inspect c do p := 1; end; end
+  --                                                                                                                        18
+  pub through_a_connection : Refuses r.LeftSideIsNoVariable 18 (source (class 1 a plain (body 4 (reference 5 a c ∷ function (integer 11) 12 p (Inspect 15 (alone 16 c) 17 (set (alone 18 p) 19 (number 20 1)) 21 NoStatement) 21 ∷ []) [] 22) 23 ∷ []) [] 24)
 
 -- What is seen of objects and classes.
 pub record Objects : Type 0 where
@@ -354,6 +417,10 @@ pub record Objects : Type 0 where
   --                                       1
   pub detach_outside : Refuses r.NotDeclared 1 (source [] (Call (alone 1 (codes "detach")) ∷ []) 2)
   pub detach_inside : Allows (source (class 1 a plain (Call (alone 4 (codes "detach"))) 5 ∷ []) [] 6)
+  -- A connection without a class shows none:  begin inspect none do detach end  and  begin class a; inspect none do detach; end
+  --                                                                 4
+  pub detach_of_nothing : Refuses r.NotDeclared 4 (source [] (Inspect 1 (Constant NoObject 2) 3 (Call (alone 4 (codes "detach"))) 5 NoStatement ∷ []) 5)
+  pub detach_further_out : Allows (source (class 1 a plain (Inspect 4 (Constant NoObject 5) 6 (Call (alone 7 (codes "detach"))) 8 NoStatement) 8 ∷ []) [] 9)
   -- S11, hidden further in:  begin class a; protected b; begin integer b; end; a class c; hidden b; ; c class p; b := 1; end
   --                                                                                                              25
   pub hidden_further_in : Refuses r.NotAccessible 25 (source (class 1 a (with_protection 4 b) (body 7 (variable 8 b ∷ []) [] 11) 12 ∷ subclass 13 a c (with_hiding 17 b) (Empty 20) 20 ∷ subclass 21 c p plain (set (alone 25 b) 26 (number 27 1)) 28 ∷ []) [] 29)
@@ -418,6 +485,8 @@ pub record WorkedRules : Type 0 where
   pub declared : Declared
   pub bodies : Bodies
   pub classes : Classes
+  pub together : Together
+  pub results : Results
   pub objects : Objects
   pub places : Places
   pub left_out : LeftOut

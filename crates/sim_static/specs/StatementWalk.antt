@@ -18,14 +18,12 @@ use Rattle.sim_tree.specs.SyntaxOfProgram.{arm_syntax, arms, right_side_syntax, 
 use Rattle.sim_scope.specs.declared.outcome.Extent.{Extent}
 use Rattle.sim_scope.specs.declared.outcome.LeftSides.{LeftSides}
 use Rattle.sim_scope.specs.declared.outcome.Side.{Side}
-use Rattle.sim_scope.specs.declared.scopes.Denotation.{Denotation}
 use Rattle.sim_scope.specs.declared.types.SimType.{SimType}
-use Rattle.sim_scope.specs.Assignments.{LeftSide, Nothing, first_sign, last_value, left_side, left_sides, lefts, no_lefts}
+use Rattle.sim_scope.specs.Assignments.{LeftSide, first_sign, last_value, left_side, left_sides, lefts, no_lefts}
 use Rattle.sim_scope.specs.Found.{Event, Findings, found}
-use Rattle.sim_scope.specs.Judged.{Judged, Judges, next}
-use Rattle.sim_scope.specs.References.{block_of_class}
+use Rattle.sim_scope.specs.Judged.{Judges}
 use Rattle.sim_scope.specs.Runs.{Runs}
-use Rattle.sim_scope.specs.Statements.{activate_events, arm_class_fits, arm_events, array_events, assignment_events, call_events, class_connected, class_prefix_events, element_events, first_step, first_value, inspect_events, inspect_when_events, pair_events, prefixed_events, process_events, program_prefix_events, required, schedule_events}
+use Rattle.sim_scope.specs.Statements.{activate_events, arm_events, array_events, assignment_events, call_events, class_prefix_events, element_events, first_step, first_value, inspect_events, inspect_when_events, pair_events, prefixed_events, process_events, program_prefix_events, required, schedule_events}
 use Rattle.sim_scope.specs.Tables.{Tables}
 use Rattle.sim_scope.specs.Walk.{arm_classes}
 
@@ -91,10 +89,6 @@ of_class_prefix s p token = class_prefix_events s p token
 -- connections
 unfoldable pub of_inspect : Tables → (token : ℕ) → Expr → List Event
 of_inspect s token x = inspect_events s token (syntax_of x)
-
--- the class of an arm, where it and the object are known
-abbrev pub arm_known : Tables → (token class_token : ℕ) → Denotation → SimType → Judged Nothing
-arm_known s token class_token class ty = next (arm_class_fits s class_token class ty) (λ n. class_connected s token (block_of_class s class))
 
 unfoldable pub of_arm_class : Tables → (token : ℕ) → Side → When → List Event
 of_arm_class s token x arm = arm_events s token x arm.class

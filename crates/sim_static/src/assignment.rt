@@ -2,16 +2,17 @@
 ghost use Rattle.std.specs.Prelude.{◌≡◌, map};
 ghost use Rattle.sim_tree.specs.SyntaxOf.{syntax_of};
 ghost use Rattle.sim_tree.specs.SyntaxOfProgram.{right_side_syntax};
-ghost use Rattle.sim_scope.specs.Assignments.{assigned_to, call_assigned, compared, first_sign, no_target, own_result, fault_unless, procedure_assigned, result_assigned, same_sign, sign_agrees, standard_assigned, takes, target, targets, told, types_assigned, value_assigned, with_left, is_text_copied};
+ghost use Rattle.sim_scope.specs.Assignments.{assigned_to, call_assigned, compared, first_sign, no_target, own_result, fault_unless, procedure_assigned, result_assigned, same_sign, side_unless, sign_agrees, standard_assigned, takes, target, targets, told, types_assigned, value_assigned, with_left, is_text_copied};
 ghost use Rattle.sim_scope.specs.Judged.{Judges};
 ghost use Rattle.sim_static.specs.StatementWalk.{FindsLeft, FindsLefts, IsLast, Tells, of_assignment};
 
-use sim_base::{Rule, TokenNo};
+use sim_base::{DeclNo, Rule, TokenNo};
 use sim_scope::{
-    Extent, Fault, Found, LeftSides, Outcome, Scopes, Side, SimType, StandardName, entry_of, lesser,
+    Barred, Extent, Fault, Found, LeftSides, Outcome, Scopes, Side, SimType, StandardName,
+    entry_of, lesser,
 };
 use sim_tree::{Assigned, Assignment, Expr, first_token};
-use sim_types::{called, is_stream, judge, misfit_of, operand, result_in};
+use sim_types::{bars, called, is_stream, judge, misfit_of, operand, result_in};
 
 #[tactic(auto, unfolding(sim_scope::specs::Assignments::no_target, sim_scope::specs::Judged::telling, sim_scope::specs::Runs::run))]
 fn no_target(found: &mut Found, first: TokenNo, rule: Rule) -> Side
@@ -21,14 +22,25 @@ fn no_target(found: &mut Found, first: TokenNo, rule: Rule) -> Side
     Side { first, ty: None }
 }
 
-#[tactic(auto, unfolding(sim_scope::specs::Assignments::targets, sim_scope::specs::Judged::gives, sim_scope::specs::Runs::run))]
-fn targets(found: &mut Found, first: TokenNo, ty: SimType) -> Side
-    ensures { Judges found.old found.new result (targets first.0 ty) }
+/// A left side of a type, unless a rule bars it.
+#[tactic(auto, unfolding(sim_scope::specs::Judged::gives, sim_scope::specs::Runs::run))]
+fn side_unless(found: &mut Found, first: TokenNo, ty: SimType, barred: bool) -> Side
+    ensures { Judges found.old found.new result (side_unless first.0 ty barred) }
 {
     Side {
         first,
-        ty: Some(ty),
+        ty: if barred { None } else { Some(ty) },
     }
+}
+
+/// A left side of a type: its sign takes that type (`S13`), and it is a variable (`S14`).
+#[tactic(auto, using(crate::proofs::AssignmentSteps::targets_in_steps))]
+fn targets(found: &mut Found, sign: Assignment, first: TokenNo, variable: bool, ty: SimType) -> Side
+    ensures { Judges found.old found.new result (targets sign first.0 variable ty) }
+{
+    let wrong = bars(found, !takes(sign, ty), first, Rule::WrongType);
+    let none = bars(found, !variable, first, Rule::LeftSideIsNoVariable);
+    side_unless(found, first, ty, wrong || none)
 }
 
 /// Whether a sign copies the characters of a text.
@@ -44,11 +56,7 @@ fn is_text_copied(sign: Assignment, ty: SimType) -> bool
 fn value_assigned(found: &mut Found, sign: Assignment, first: TokenNo, ty: SimType) -> Side
     ensures { Judges found.old found.new result (value_assigned sign first.0 ty) }
 {
-    if is_text_copied(sign, ty) {
-        targets(found, first, ty)
-    } else {
-        no_target(found, first, Rule::LeftSideIsNoVariable)
-    }
+    targets(found, sign, first, is_text_copied(sign, ty), ty)
 }
 
 /// A left side that is no identifier of a procedure.
@@ -57,12 +65,14 @@ fn assigned_to(found: &mut Found, sign: Assignment, first: TokenNo, outcome: Out
     ensures { Judges found.old found.new result (assigned_to sign first.0 outcome) }
 {
     match outcome {
-        Outcome::Variable(ty) => targets(found, first, ty),
+        Outcome::Variable(ty) => targets(found, sign, first, true, ty),
         Outcome::Value(ty) => value_assigned(found, sign, first, ty),
         Outcome::Called(ty) => value_assigned(found, sign, first, ty),
-        Outcome::Constant(_) => no_target(found, first, Rule::LeftSideIsNoVariable),
+        Outcome::Constant(ty) => targets(found, sign, first, false, ty),
         Outcome::Array(_) => no_target(found, first, Rule::WrongKind),
         Outcome::Class => no_target(found, first, Rule::WrongKind),
+        Outcome::Barred(Barred::Array(_)) => no_target(found, first, Rule::WrongKind),
+        Outcome::Barred(Barred::Class) => no_target(found, first, Rule::WrongKind),
         Outcome::NoValue => no_target(found, first, Rule::WrongType),
         Outcome::NoValueInParentheses => no_target(found, first, Rule::WrongType),
         _ => Side { first, ty: None },
@@ -98,7 +108,7 @@ fn result_assigned(
             if is_text_copied(sign, ty) {
                 call_assigned(scopes, found, sign, first, outcome)
             } else {
-                no_target(found, first, Rule::LeftSideIsNoVariable)
+                targets(found, sign, first, false, ty)
             }
         }
         None => no_target(found, first, Rule::WrongType),
@@ -106,11 +116,16 @@ fn result_assigned(
 }
 
 /// The result of a procedure as a left side in its own text.
-fn own_result(found: &mut Found, first: TokenNo, result_type: Option<SimType>) -> Side
-    ensures { Judges found.old found.new result (own_result first.0 result_type) }
+fn own_result(
+    found: &mut Found,
+    sign: Assignment,
+    first: TokenNo,
+    result_type: Option<SimType>,
+) -> Side
+    ensures { Judges found.old found.new result (own_result sign first.0 result_type) }
 {
     match result_type {
-        Some(ty) => targets(found, first, ty),
+        Some(ty) => targets(found, sign, first, true, ty),
         None => no_target(found, first, Rule::WrongType),
     }
 }
@@ -122,15 +137,19 @@ fn procedure_assigned(
     sign: Assignment,
     first: TokenNo,
     outcome: Outcome,
-    own: bool,
-    result_type: Option<SimType>,
+    declaration: DeclNo,
+    own: Option<DeclNo>,
 ) -> Side
-    ensures { Judges found.old found.new result (procedure_assigned scopes.now sign first.0 outcome own result_type) }
+    ensures { Judges found.old found.new result (procedure_assigned scopes.now sign first.0 outcome declaration own) }
 {
-    if own {
-        own_result(found, first, result_type)
-    } else {
-        result_assigned(scopes, found, sign, first, outcome, result_type)
+    match own {
+        Some(procedure) => {
+            own_result(found, sign, first, result_in(entry_of(scopes, procedure)))
+        }
+        None => {
+            let result_type = result_in(entry_of(scopes, declaration));
+            result_assigned(scopes, found, sign, first, outcome, result_type)
+        }
     }
 }
 
@@ -168,10 +187,7 @@ fn target(
             declaration,
             own,
             ..
-        } => {
-            let result = result_in(entry_of(scopes, declaration));
-            procedure_assigned(scopes, found, sign, first, outcome, own, result)
-        }
+        } => { procedure_assigned(scopes, found, sign, first, outcome, declaration, own) }
         Outcome::Standard { name, .. } => {
             standard_assigned(scopes, found, sign, first, outcome, name)
         }
@@ -208,6 +224,7 @@ pub(crate) fn takes(sign: Assignment, ty: SimType) -> bool
         (Assignment::Value, SimType::NoneType) => false,
         (Assignment::Value, _) => true,
         (Assignment::Reference, SimType::Ref(_)) => true,
+        (Assignment::Reference, SimType::NoneType) => true,
         (Assignment::Reference, SimType::Text) => true,
         (Assignment::Reference, _) => false,
     }
@@ -223,38 +240,23 @@ fn fault_unless(token: TokenNo, rule: Option<Rule>) -> Option<Fault>
 }
 
 /// What does not fit between a left side and the value: `S13`, and `S16` at the value where both are references.
-fn types_assigned(scopes: &Scopes, sign: Assignment, left: Side, value: Side) -> Option<Fault>
-    ensures { result ≡ types_assigned scopes.now sign left value left.ty value.ty }
+fn types_assigned(scopes: &Scopes, left: Side, value: Side) -> Option<Fault>
+    ensures { result ≡ types_assigned scopes.now value left.ty value.ty }
 {
     match (left.ty, value.ty) {
-        (Some(wanted), Some(ty)) => {
-            if takes(sign, wanted) {
-                fault_unless(value.first, misfit_of(scopes, wanted, ty))
-            } else {
-                Some(Fault {
-                    token: left.first,
-                    rule: Rule::WrongType,
-                })
-            }
-        }
+        (Some(wanted), Some(ty)) => { fault_unless(value.first, misfit_of(scopes, wanted, ty)) }
         _ => None,
     }
 }
 
 /// One more left side among those so far.
 #[tactic(auto, unfolding(sim_scope::specs::Assignments::with_left))]
-fn with_left(
-    scopes: &Scopes,
-    sign: Assignment,
-    value: Side,
-    sides: LeftSides,
-    left: Side,
-) -> LeftSides
-    ensures { result ≡ with_left scopes.now sign value sides left }
+fn with_left(scopes: &Scopes, value: Side, sides: LeftSides, left: Side) -> LeftSides
+    ensures { result ≡ with_left scopes.now value sides left }
 {
     LeftSides {
         typed: sides.typed && left.ty.is_some(),
-        misfit: match types_assigned(scopes, sign, left, value) {
+        misfit: match types_assigned(scopes, left, value) {
             Some(fault) => lesser(sides.misfit, fault),
             None => sides.misfit,
         },
@@ -336,7 +338,7 @@ fn left_sides(
     let mut side = left;
     for part in parts {
         let target = left_side(scopes, found, first, part, side);
-        sides = with_left(scopes, part.sign, value, sides, target);
+        sides = with_left(scopes, value, sides, target);
         side = &part.value;
     }
     sides

@@ -2,13 +2,15 @@
 ghost use Rattle.std.specs.Prelude.{◌≡◌};
 ghost use Rattle.sim_scope.specs.Judged.{Judges};
 ghost use Rattle.sim_scope.specs.Runs.{each};
-ghost use Rattle.sim_scope.specs.Statements.{arm_class_fits, arm_fits, class_connected, connected_by, needs_reference};
-ghost use Rattle.sim_static.specs.StatementWalk.{Tells, arm_known, of_arm_class, of_inspect, of_inspect_when};
+ghost use Rattle.sim_scope.specs.Statements.{arm_connected, arm_fits, class_connected, connected_by, needs_reference};
+ghost use Rattle.sim_static.specs.StatementWalk.{Tells, of_arm_class, of_inspect, of_inspect_when};
 
 use sim_base::{Rule, TokenNo};
-use sim_scope::{Denotation, Extent, Found, Scopes, Side, SimType, class_block, has_classes};
+use sim_scope::{
+    Denotation, Extent, Found, Occurrence, Scopes, Side, SimType, class_block, has_classes,
+};
 use sim_tree::{Expr, Identifier, When};
-use sim_types::{block_of_class, chained_with, class_named, is_only_prefix, is_reference, operand};
+use sim_types::{block_of_class, class_fits, class_named, is_reference, operand};
 
 /// `S17`: no level of a class that is connected declares a class. This is broken at `inspect`.
 #[tactic(auto, unfolding(sim_scope::specs::Assignments::fine, sim_scope::specs::Assignments::wrong, sim_scope::specs::Judged::gives, sim_scope::specs::Judged::telling, sim_scope::specs::Runs::run))]
@@ -46,55 +48,30 @@ pub(crate) fn inspect(scopes: &Scopes, found: &mut Found, token: TokenNo, object
     connected_by(scopes, found, token, value);
 }
 
-/// The class of an arm lies on one prefix chain with the object (`S16`), and is not only for prefixing (`S21`).
-#[tactic(auto, unfolding(sim_scope::specs::Assignments::fine, sim_scope::specs::Assignments::wrong, sim_scope::specs::Judged::gives, sim_scope::specs::Judged::telling, sim_scope::specs::Runs::run))]
-fn arm_class_fits(
-    scopes: &Scopes,
-    found: &mut Found,
-    token: TokenNo,
-    class: Denotation,
-    ty: SimType,
-)
-    ensures { Judges found.old found.new result (arm_class_fits scopes.now token.0 class ty) }
+/// The class of an arm has no class at any level, whatever is inspected.
+#[tactic(auto, unfolding(sim_scope::specs::Assignments::fine, sim_scope::specs::Judged::gives, sim_scope::specs::Runs::run))]
+fn arm_connected(scopes: &Scopes, found: &mut Found, token: TokenNo, class: Option<Denotation>)
+    ensures { Judges found.old found.new result (arm_connected scopes.now token.0 class) }
 {
-    if !chained_with(scopes, class, ty) {
-        found.note(token, Rule::DifferentChains);
-    } else if is_only_prefix(scopes, class) {
-        found.note(token, Rule::OnlyForPrefixing);
+    if let Some(class) = class {
+        class_connected(scopes, found, token, block_of_class(scopes, class));
     }
 }
 
-/// The class of an arm, where it and the object are known.
-fn arm_known(
-    scopes: &Scopes,
-    found: &mut Found,
-    token: TokenNo,
-    name: TokenNo,
-    class: Denotation,
-    ty: SimType,
-)
-    ensures { Judges found.old found.new result (arm_known scopes.now token.0 name.0 class ty) }
-{
-    arm_class_fits(scopes, found, name, class, ty);
-    class_connected(scopes, found, token, block_of_class(scopes, class));
-}
-
-#[tactic(auto, unfolding(sim_scope::specs::Statements::arm_fits, sim_scope::specs::Assignments::fine, sim_scope::specs::Judged::gives, sim_scope::specs::Runs::run))]
+/// The class of an arm lies on one prefix chain with the object (`S16`), and is not only for prefixing (`S21`).
+#[tactic(auto, using(crate::proofs::Tellings::arm_in_steps))]
 fn arm_fits(
     scopes: &Scopes,
     found: &mut Found,
     token: TokenNo,
     object: Side,
     name: &Identifier,
-    class: Option<Denotation>,
+    class: Occurrence,
 )
     ensures { Judges found.old found.new result (arm_fits scopes.now token.0 object name.now class) }
 {
-    if let (Some(ty), Some(class)) = (object.ty, class) {
-        if is_reference(ty) {
-            arm_known(scopes, found, token, name.token, class, ty);
-        }
-    }
+    class_fits(scopes, found, name.token, class.denotes, object.ty);
+    arm_connected(scopes, found, token, class.denotes);
 }
 
 /// The object of a connection with `when` is a reference.

@@ -127,8 +127,8 @@ fn controlled(
 ) -> Option<SimType>
     ensures { Judges found.old found.new result (controlled_by scopes.now sign name.now) }
 {
-    let denotation = bound(scopes, Extent::Statement, found, name);
-    simple(scopes, found, sign, name.token, denotation)
+    let occurrence = bound(scopes, Extent::Statement, found, name);
+    simple(scopes, found, sign, name.token, occurrence.denotes)
 }
 
 /// A rule that is broken, where there is one.

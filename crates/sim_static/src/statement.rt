@@ -5,7 +5,7 @@ ghost use Rattle.sim_scope.specs.Statements.{call_alone, needs, stands};
 ghost use Rattle.sim_static.specs.StatementWalk.{Tells, of_call, of_required};
 
 use sim_base::{Rule, TokenNo};
-use sim_scope::{Extent, Found, Outcome, Scopes, Side, SimType};
+use sim_scope::{Barred, Extent, Found, Outcome, Scopes, Side, SimType};
 use sim_tree::{Expr, first_token};
 use sim_types::{called, is_same, judge, operand};
 
@@ -44,6 +44,8 @@ fn call_alone(found: &mut Found, first: TokenNo, outcome: Outcome)
         Outcome::Refused => {}
         Outcome::NoValue => {}
         Outcome::Called(_) => {}
+        Outcome::Barred(Barred::Procedure { .. }) => {}
+        Outcome::Barred(Barred::Standard { .. }) => {}
         _ => found.note(first, Rule::WrongKind),
     }
 }

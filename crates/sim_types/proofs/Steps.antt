@@ -1,21 +1,25 @@
 -- One judgement after another.
-use Rattle.std.proofs.Common.{◌≡◌, ℕ, ◌+◌, Bool, List, [], ◌∷◌, ◌++◌, Option, refl, sym, ap, ◌∙◌, subst, append_assoc, append-nil}
+use Rattle.std.proofs.Common.{◌≡◌, ℕ, ◌+◌, ◌||◌, Bool, List, [], ◌∷◌, ◌++◌, Option, refl, sym, ap, ◌∙◌, subst, append_assoc, append-nil}
 use Rattle.sim_base.specs.declared.numbering.TokenNo.{TokenNo}
+use Rattle.sim_base.specs.declared.rule.Rule.TheVariants as r
 use Rattle.sim_tree.specs.declared.expr.Identifier.{Identifier}
 use Rattle.sim_scope.specs.declared.outcome.Actual.{Actual}
 use Rattle.sim_scope.specs.declared.outcome.Actuals.{Actuals}
 use Rattle.sim_scope.specs.declared.outcome.Extent.{Extent}
+use Rattle.sim_scope.specs.declared.outcome.Barred.{Barred}
+use Rattle.sim_scope.specs.declared.outcome.Occurrence.{Occurrence}
 use Rattle.sim_scope.specs.declared.outcome.Outcome.{Outcome}
+use Rattle.sim_scope.specs.declared.outcome.Outcome.TheVariants as is
 use Rattle.sim_scope.specs.declared.outcome.Parameter.{Parameter}
 use Rattle.sim_scope.specs.declared.outcome.Side.{Side}
 use Rattle.sim_scope.specs.declared.scopes.Denotation.{Denotation}
 use Rattle.sim_scope.specs.declared.types.SimType.{SimType}
-use Rattle.sim_scope.specs.Actuals.{actual, as_value, more, parameter_at, value_fits, with_actual}
-use Rattle.sim_scope.specs.Calls.{attribute_by_value, attribute_of_value, bound, located, used_in, used_or_barred}
+use Rattle.sim_scope.specs.Actuals.{actual, as_value, barred_actual, barred_alone, more, parameter_at, untyped, value_fits, with_actual}
+use Rattle.sim_scope.specs.Calls.{attribute_by_value, attribute_in, attribute_of_value, barred_if, bound, located, remote_as, remote_at, used_in, used_or_barred}
 use Rattle.sim_scope.specs.Found.{Event, Findings, after, found}
-use Rattle.sim_scope.specs.Judged.{Judged, Judges, gives, next}
-use Rattle.sim_scope.specs.Outcomes.{called, in_parentheses, parenthesized, side, side_of, type_in, value_of, valued}
-use Rattle.sim_scope.specs.References.{as_class, class_named}
+use Rattle.sim_scope.specs.Judged.{Judged, Judges, bars, gives, next}
+use Rattle.sim_scope.specs.Outcomes.{called, in_parentheses, parenthesized, side, side_of, type_in, value_of, valued, without_type}
+use Rattle.sim_scope.specs.References.{as_class, class_barred, class_fits, class_named, class_type, class_value, generated, is_no_reference, is_nowhere, is_only_prefix, member, new_of, only_prefix, other_chain, qualified, this_barred, this_fits, this_found, this_value, truth_of, wrong_number}
 use Rattle.sim_scope.specs.Runs.{run}
 use Rattle.sim_scope.specs.Tables.{Tables}
 
@@ -63,7 +67,7 @@ pub judges_then : {A B : Type 0} {f g : Findings} {x : A} {y : B} (j : Judged A)
 judges_then {A} {B} {f} {g} {x} {y} j k one e =
     judges_next j (λ z. gives (k z)) one (subst (λ z. Judges g g z (gives (k x))) (sym e) (judges_gives g (k x)))
 
-pub used_in_steps : (t : TokenNo) (o : Option ℕ) (d : Denotation) (barred : Bool) (f g h : Findings) (x : Option Denotation) → Judges f g tt (located t.0 o) → Judges g h x (used_or_barred t.0 d barred) → Judges f h x (used_in t.0 o d barred)
+pub used_in_steps : (t : TokenNo) (o : Option ℕ) (d : Denotation) (barred : Bool) (f g h : Findings) (x : Occurrence) → Judges f g tt (located t.0 o) → Judges g h x (used_or_barred t.0 d barred) → Judges f h x (used_in t.0 o d barred)
 unfolding used_in
 used_in_steps t o d barred f g h x one two = judges_next (located t.0 o) (λ n. used_or_barred t.0 d barred) one two
 
@@ -83,11 +87,11 @@ pub as_value_in_steps : (s : Tables) (t : TokenNo) (p : Parameter) (f g : Findin
 unfolding as_value
 as_value_in_steps s t p f g o v y ty one e is = judges_then (valued s t.0 o) (λ v. value_fits s t.0 p (type_in v)) one (is ∙ ap (value_fits s t.0 p) e)
 
-pub attribute_in_steps : (s : Tables) (m : Extent) (n : Identifier) (t : TokenNo) (f g h : Findings) (o : Outcome) (x : Side) (d : Option Denotation) → Judges f g x (side s t.0 o) → Judges g h d (attribute_of_value s m n x) → Judges f h d (attribute_by_value s m n t.0 o)
+pub attribute_in_steps : (s : Tables) (m : Extent) (n : Identifier) (t : TokenNo) (f g h : Findings) (o : Outcome) (x : Side) (d : Occurrence) → Judges f g x (side s t.0 o) → Judges g h d (attribute_of_value s m n x) → Judges f h d (attribute_by_value s m n t.0 o)
 unfolding attribute_by_value
 attribute_in_steps s m n t f g h o x d one two = judges_next (side s t.0 o) (attribute_of_value s m n) one two
 
-pub class_named_in_steps : (s : Tables) (m : Extent) (n : Identifier) (f g h : Findings) (d c : Option Denotation) → Judges f g d (bound s m n) → Judges g h c (as_class s n.token.0 d) → Judges f h c (class_named s m n)
+pub class_named_in_steps : (s : Tables) (m : Extent) (n : Identifier) (f g h : Findings) (d c : Occurrence) → Judges f g d (bound s m n) → Judges g h c (as_class s n.token.0 d) → Judges f h c (class_named s m n)
 unfolding class_named
 class_named_in_steps s m n f g h d c one two = judges_next (bound s m n) (as_class s n.token.0) one two
 
@@ -99,3 +103,63 @@ more_in_steps s d a b t f g o p x at one is =
 pub more-count : (s : Tables) (d : Option Denotation) (a : Actuals) (first : ℕ) (o : Outcome) → (more s d a first o).value.count ≡ a.count + 1
 unfolding more next gives with_actual
 more-count s d a first o = refl
+
+-- several rules at one place, each by itself
+pub class_fits_in_steps : (s : Tables) (t : TokenNo) (class : Option Denotation) (ty : Option SimType) (f g h : Findings) (p q a b : Bool) → p ≡ other_chain s class ty → Judges f g a (bars p t.0 r.DifferentChains)
+    → q ≡ only_prefix s class → Judges g h b (bars q t.0 r.OnlyForPrefixing) → Judges f h (a || b) (class_fits s t.0 class ty)
+unfolding class_fits
+class_fits_in_steps s t class ty f g h p q a b other one only two =
+    judges_next (bars (other_chain s class ty) t.0 r.DifferentChains) (λ a. next (bars (only_prefix s class) t.0 r.OnlyForPrefixing) (λ b. gives (a || b)))
+    (judges_as one (ap (λ z. bars z t.0 r.DifferentChains) other))
+    (judges_then (bars (only_prefix s class) t.0 r.OnlyForPrefixing) (λ b. a || b) (judges_as two (ap (λ z. bars z t.0 r.OnlyForPrefixing) only)) refl)
+
+pub class_barred_in_steps : (s : Tables) (x : Side) (t : TokenNo) (o : Occurrence) (f g h : Findings) (p a b : Bool) → p ≡ is_no_reference x.ty → Judges f g a (bars p x.first.0 r.WrongType)
+    → Judges g h b (class_fits s t.0 o.denotes x.ty) → Judges f h (a || b || o.barred) (class_barred s x t.0 o)
+class_barred_in_steps s x t o f g h p a b none one two =
+    judges_next (bars (is_no_reference x.ty) x.first.0 r.WrongType) (λ a. next (class_fits s t.0 o.denotes x.ty) (λ b. gives (a || b || o.barred)))
+    (judges_as one (ap (λ z. bars z x.first.0 r.WrongType) none))
+    (judges_then (class_fits s t.0 o.denotes x.ty) (λ b. a || b || o.barred) two refl)
+
+pub member_in_steps : (s : Tables) (naming : TokenNo) (x : Side) (n : Identifier) (o : Occurrence) (f g h : Findings) (b : Bool) (y : Outcome) → Judges f g b (class_barred s x n.token.0 o)
+    → Judges g h y (class_value naming.0 b x.ty o.denotes truth_of) → Judges f h y (member s naming.0 x n o)
+unfolding member
+member_in_steps s naming x n o f g h b y one two = judges_next (class_barred s x n.token.0 o) (λ b. class_value naming.0 b x.ty o.denotes truth_of) one two
+
+pub qualified_in_steps : (s : Tables) (naming : TokenNo) (x : Side) (n : Identifier) (o : Occurrence) (f g h : Findings) (b : Bool) (y : Outcome) → Judges f g b (class_barred s x n.token.0 o)
+    → Judges g h y (class_value naming.0 b x.ty o.denotes class_type) → Judges f h y (qualified s naming.0 x n o)
+unfolding qualified
+qualified_in_steps s naming x n o f g h b y one two = judges_next (class_barred s x n.token.0 o) (λ b. class_value naming.0 b x.ty o.denotes class_type) one two
+
+pub this_fits_in_steps : (s : Tables) (m : Extent) (t : TokenNo) (class : Denotation) (block : Option ℕ) (f g h k : Findings) (p q u a b c : Bool) → p ≡ is_nowhere block → Judges f g a (bars p t.0 r.ThisOutsideItsClass)
+    → q ≡ is_only_prefix s class → Judges g h b (bars q t.0 r.OnlyForPrefixing) → u ≡ this_barred s m t.0 block → Judges h k c (bars u t.0 r.BoundDependsOnItsBlock) → Judges f k (a || b || c) (this_fits s m t.0 class block)
+unfolding this_fits
+this_fits_in_steps s m t class block f g h k p q u a b c nowhere one only two own three =
+    judges_next (bars (is_nowhere block) t.0 r.ThisOutsideItsClass) (λ a. next (bars (is_only_prefix s class) t.0 r.OnlyForPrefixing) (λ b. next (bars (this_barred s m t.0 block) t.0 r.BoundDependsOnItsBlock) (λ c. gives (a || b || c))))
+    (judges_as one (ap (λ z. bars z t.0 r.ThisOutsideItsClass) nowhere))
+    (judges_next (bars (is_only_prefix s class) t.0 r.OnlyForPrefixing) (λ b. next (bars (this_barred s m t.0 block) t.0 r.BoundDependsOnItsBlock) (λ c. gives (a || b || c)))
+    (judges_as two (ap (λ z. bars z t.0 r.OnlyForPrefixing) only))
+    (judges_then (bars (this_barred s m t.0 block) t.0 r.BoundDependsOnItsBlock) (λ c. a || b || c) (judges_as three (ap (λ z. bars z t.0 r.BoundDependsOnItsBlock) own)) refl))
+
+pub this_found_in_steps : (s : Tables) (m : Extent) (naming t : TokenNo) (class : Denotation) (barred : Bool) (block : Option ℕ) (f g h k : Findings) (b : Bool) (o : Outcome) → Judges f g tt (located naming.0 block)
+    → Judges g h b (this_fits s m t.0 class block) → Judges h k o (this_value naming.0 class (b || barred)) → Judges f k o (this_found s m naming.0 t.0 class barred block)
+this_found_in_steps s m naming t class barred block f g h k b o one two three =
+    judges_next (located naming.0 block) (λ n. next (this_fits s m t.0 class block) (λ b. this_value naming.0 class (b || barred))) one
+    (judges_next (this_fits s m t.0 class block) (λ b. this_value naming.0 class (b || barred)) two three)
+
+pub new_in_steps : (s : Tables) (naming t : TokenNo) (class : Denotation) (barred : Bool) (a : Actuals) (f g h k : Findings) (p q x y : Bool) (o : Outcome) → p ≡ wrong_number s class a → Judges f g x (bars p t.0 r.WrongNumber)
+    → q ≡ is_only_prefix s class → Judges g h y (bars q t.0 r.OnlyForPrefixing) → Judges h k o (generated naming.0 class a (x || y || barred)) → Judges f k o (new_of s naming.0 t.0 class barred a)
+new_in_steps s naming t class barred a f g h k p q x y o number one only two three =
+    judges_next (bars (wrong_number s class a) t.0 r.WrongNumber) (λ p. next (bars (is_only_prefix s class) t.0 r.OnlyForPrefixing) (λ q. generated naming.0 class a (p || q || barred)))
+    (judges_as one (ap (λ z. bars z t.0 r.WrongNumber) number))
+    (judges_next (bars (is_only_prefix s class) t.0 r.OnlyForPrefixing) (λ q. generated naming.0 class a (x || q || barred)) (judges_as two (ap (λ z. bars z t.0 r.OnlyForPrefixing) only)) three)
+
+pub remote_at_in_steps : (s : Tables) (m : Extent) (x : Identifier) (block : ℕ) (barred : Bool) (d : Option Denotation) (f g : Findings) (o p : Occurrence) → d ≡ attribute_in s x.token.0 block x.name → Judges f g o (remote_as s m x block d)
+    → p ≡ barred_if barred o → Judges f g p (remote_at s m x block barred)
+remote_at_in_steps s m x block barred d f g o p at one is =
+    judges_then (remote_as s m x block (attribute_in s x.token.0 block x.name)) (barred_if barred) (judges_as one (ap (remote_as s m x block) at)) is
+
+pub barred_actual_in_steps : (s : Tables) (t : TokenNo) (p : Parameter) (b : Barred) (f g : Findings) (x y : Actual) → Judges f g x (barred_alone s t.0 p b) → y ≡ untyped → Judges f g y (barred_actual s t.0 p b)
+barred_actual_in_steps s t p b f g x y one is = judges_then (barred_alone s t.0 p b) (λ x. untyped) one is
+
+pub without_type_in_steps : (j : Judged Outcome) (f g : Findings) (o : Outcome) → Judges f g o j → Judges f g is.Refused (next j without_type)
+without_type_in_steps j f g o one = judges_then j (λ o. is.Refused) one refl

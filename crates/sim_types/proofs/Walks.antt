@@ -23,6 +23,7 @@ use Rattle.sim_tree.specs.SyntaxOf.{Tail, Selection, Take, Cast, chain, FirstIs,
 use Rattle.sim_tree.proofs.SyntaxLemmas as v
 use Rattle.sim_scope.specs.declared.outcome.Actuals.{Actuals}
 use Rattle.sim_scope.specs.declared.outcome.Extent.{Extent}
+use Rattle.sim_scope.specs.declared.outcome.Occurrence.{Occurrence}
 use Rattle.sim_scope.specs.declared.outcome.Outcome.{Outcome}
 use Rattle.sim_scope.specs.declared.outcome.Side.{Side}
 use Rattle.sim_scope.specs.declared.scopes.Denotation.{Denotation}
@@ -129,9 +130,9 @@ find_product s m f g h x y a l t o p ts is ey et one first rest =
 pub find_named : (s : Tables) (m : Extent) (f g : Findings) (x : Expr) (n : Identifier) (l : Vec Expr Global) (es : List Expr) (o : Outcome) → x ≡ e.Named n l → es ≡ l.items → FindsNamed s m f g o n es → Finds s m f g o x
 unfolding judge FindsNamed
 find_named s m f g x n l es o is ee h =
-    found_as s m f g o x _ (ap syntax_of is ∙ v.syntax-Named n l) (judges_as h (ap (λ z. next (bound s m n) (λ d. next (actuals s m d no_actuals (expressions (map syntax_of z))) (used s n.token.0 n d))) ee))
+    found_as s m f g o x _ (ap syntax_of is ∙ v.syntax-Named n l) (judges_as h (ap (λ z. next (bound s m n) (λ d. next (actuals s m d.denotes no_actuals (expressions (map syntax_of z))) (used s n.token.0 n d))) ee))
 
-pub find_member : (s : Tables) (m : Extent) (f g h k : Findings) (x y : Expr) (a : Box Expr Global) (i : TokenNo) (r : Membership) (c : Identifier) (z : Side) (d : Option Denotation) (o : Outcome) → x ≡ e.Member a i r c → y ≡ a.value
+pub find_member : (s : Tables) (m : Extent) (f g h k : Findings) (x y : Expr) (a : Box Expr Global) (i : TokenNo) (r : Membership) (c : Identifier) (z : Side) (d : Occurrence) (o : Outcome) → x ≡ e.Member a i r c → y ≡ a.value
     → FindsSide s m f g z y → Judges g h d (class_named s m c) → Judges h k o (member s i.0 z c d) → Finds s m f k o x
 unfolding judge
 find_member s m f g h k x y a i r c z d o is ey one two' last =
@@ -147,7 +148,7 @@ selected_from s m x (Take i n args ∷ zs) =
     let t = first_of x in
     let J = judge s m x in
     let A = λ (o : Outcome). attribute s m n t o in
-    let U = λ (d : Option Denotation). next (actuals s m d no_actuals args) (used s i n d) in
+    let U = λ (d : Occurrence). next (actuals s m d.denotes no_actuals args) (used s i n d) in
     let C = λ (p : Outcome). selections s m t p zs in
     selected_from s m (Dot i x n args) zs
     ∙ next-next (next J A) U C
@@ -172,16 +173,16 @@ find_postfix s m f g h x y a l ss t o p is es ey one first rest =
     (ap (λ i. next (judge s m (syntax_of y)) (λ z. selections s m i z zs)) first ∙ sym (selected_from s m (syntax_of y) zs)
     ∙ sym (ap (λ z. judge s m (syntax_of z)) is ∙ ap (judge s m) (v.syntax-Postfix a l) ∙ ap (λ z. judge s m (selected (syntax_of a.value) (map selector_syntax z))) (sym es) ∙ ap (λ z. judge s m (selected (syntax_of z) zs)) (sym ey)))
 
-pub find_dot : (s : Tables) (m : Extent) (f g h k : Findings) (x : Selector) (i : TokenNo) (n : Identifier) (l : Vec Expr Global) (es : List Expr) (t : TokenNo) (left o : Outcome) (d : Option Denotation) (a : Actuals) → x ≡ selector.Dot i n l → es ≡ l.items
-    → Judges f g d (attribute s m n t.0 left) → FindsActuals s m g h d no_actuals a es → Judges h k o (used s i.0 n d a) → FindsTaken s m f k o t left x
+pub find_dot : (s : Tables) (m : Extent) (f g h k : Findings) (x : Selector) (i : TokenNo) (n : Identifier) (l : Vec Expr Global) (es : List Expr) (t : TokenNo) (left o : Outcome) (d : Occurrence) (a : Actuals) → x ≡ selector.Dot i n l → es ≡ l.items
+    → Judges f g d (attribute s m n t.0 left) → FindsActuals s m g h d.denotes no_actuals a es → Judges h k o (used s i.0 n d a) → FindsTaken s m f k o t left x
 unfolding FindsActuals FindsTaken
 find_dot s m f g h k x i n l es t left o d a is ee one all last =
     judges_as
-    (judges_next (attribute s m n t.0 left) (λ d. next (actuals s m d no_actuals (expressions (map syntax_of es))) (used s i.0 n d)) one
-    (judges_next (actuals s m d no_actuals (expressions (map syntax_of es))) (used s i.0 n d) all last))
+    (judges_next (attribute s m n t.0 left) (λ d. next (actuals s m d.denotes no_actuals (expressions (map syntax_of es))) (used s i.0 n d)) one
+    (judges_next (actuals s m d.denotes no_actuals (expressions (map syntax_of es))) (used s i.0 n d) all last))
     (ap (λ z. taken s m t.0 left (Take i.0 n (expressions (map syntax_of z)))) ee ∙ sym (ap (λ z. taken s m t.0 left (selector_syntax z)) is ∙ ap (taken s m t.0 left) (syntax-Dot i n l)))
 
-pub find_qua : (s : Tables) (m : Extent) (f g h k : Findings) (x : Selector) (i : TokenNo) (c : Identifier) (t : TokenNo) (left o : Outcome) (z : Side) (d : Option Denotation) → x ≡ selector.Qua i c
+pub find_qua : (s : Tables) (m : Extent) (f g h k : Findings) (x : Selector) (i : TokenNo) (c : Identifier) (t : TokenNo) (left o : Outcome) (z : Side) (d : Occurrence) → x ≡ selector.Qua i c
     → Judges f g z (side s t.0 left) → Judges g h d (class_named s m c) → Judges h k o (qualified s i.0 z c d) → FindsTaken s m f k o t left x
 unfolding FindsTaken
 find_qua s m f g h k x i c t left o z d is one two' last =
@@ -196,21 +197,21 @@ find_parentheses s m f g h x y i a t o p is ey one first two' =
     judges_as (judges_next (judge s m (syntax_of y)) (in_parentheses s t.0) one two')
     (ap (λ z. next (judge s m (syntax_of y)) (in_parentheses s z)) first ∙ ap (λ z. next (judge s m (syntax_of z)) (in_parentheses s (first_of (syntax_of z)))) ey ∙ sym (ap (judge s m) (ap syntax_of is ∙ v.syntax-Parentheses i a)))
 
-pub find_this : (s : Tables) (m : Extent) (f g h : Findings) (x : Expr) (i : TokenNo) (c : Identifier) (d : Option Denotation) (o : Outcome) → x ≡ e.This i c
+pub find_this : (s : Tables) (m : Extent) (f g h : Findings) (x : Expr) (i : TokenNo) (c : Identifier) (d : Occurrence) (o : Outcome) → x ≡ e.This i c
     → Judges f g d (class_named s m c) → Judges g h o (this_object s m i.0 c d) → Finds s m f h o x
 unfolding judge
 find_this s m f g h x i c d o is one last =
     found_as s m f h o x _ (ap syntax_of is ∙ v.syntax-This i c) (judges_next (class_named s m c) (this_object s m i.0 c) one last)
 
-pub find_new : (s : Tables) (m : Extent) (f g h k : Findings) (x : Expr) (i : TokenNo) (c : Identifier) (l : Vec Expr Global) (es : List Expr) (d : Option Denotation) (a : Actuals) (o : Outcome) → x ≡ e.New i c l → es ≡ l.items
-    → Judges f g d (class_named s m c) → FindsActuals s m g h d no_actuals a es → Judges h k o (new_object s i.0 c d a) → Finds s m f k o x
+pub find_new : (s : Tables) (m : Extent) (f g h k : Findings) (x : Expr) (i : TokenNo) (c : Identifier) (l : Vec Expr Global) (es : List Expr) (d : Occurrence) (a : Actuals) (o : Outcome) → x ≡ e.New i c l → es ≡ l.items
+    → Judges f g d (class_named s m c) → FindsActuals s m g h d.denotes no_actuals a es → Judges h k o (new_object s i.0 c d a) → Finds s m f k o x
 unfolding judge FindsActuals
 find_new s m f g h k x i c l es d a o is ee one all last =
     found_as s m f k o x _ (ap syntax_of is ∙ v.syntax-New i c l)
     (judges_as
-    (judges_next (class_named s m c) (λ d. next (actuals s m d no_actuals (expressions (map syntax_of es))) (new_object s i.0 c d)) one
-    (judges_next (actuals s m d no_actuals (expressions (map syntax_of es))) (new_object s i.0 c d) all last))
-    (ap (λ z. next (class_named s m c) (λ d. next (actuals s m d no_actuals (expressions (map syntax_of z))) (new_object s i.0 c d))) ee))
+    (judges_next (class_named s m c) (λ d. next (actuals s m d.denotes no_actuals (expressions (map syntax_of es))) (new_object s i.0 c d)) one
+    (judges_next (actuals s m d.denotes no_actuals (expressions (map syntax_of es))) (new_object s i.0 c d) all last))
+    (ap (λ z. next (class_named s m c) (λ d. next (actuals s m d.denotes no_actuals (expressions (map syntax_of z))) (new_object s i.0 c d))) ee))
 
 pub find_Integer : (s : Tables) (m : Extent) (f g : Findings) (x : Expr) (i : TokenNo) (n : ℤ) (o : Outcome) → x ≡ e.Integer i n → Judges f g o (has i.0 type.Integer) → Finds s m f g o x
 unfolding judge
@@ -349,12 +350,12 @@ pub owes_no_selected : (s : Tables) (m : Extent) (f g : Findings) (o p : Outcome
 unfolding OwesSelected FindsSelected
 owes_no_selected s m f g o p t zs rest owed is = owed g p (judges_as (judges_gives g p) (ap (λ r. selections s m t.0 p r) (sym is)))
 
-pub find_all : (s : Tables) (m : Extent) (f g h k : Findings) (n : Identifier) (es : List Expr) (d : Option Denotation) (a : Actuals) (o : Outcome)
-    → Judges f g d (bound s m n) → FindsActuals s m g h d no_actuals a es → Judges h k o (used s n.token.0 n d a) → FindsNamed s m f k o n es
+pub find_all : (s : Tables) (m : Extent) (f g h k : Findings) (n : Identifier) (es : List Expr) (d : Occurrence) (a : Actuals) (o : Outcome)
+    → Judges f g d (bound s m n) → FindsActuals s m g h d.denotes no_actuals a es → Judges h k o (used s n.token.0 n d a) → FindsNamed s m f k o n es
 unfolding FindsNamed FindsActuals
 find_all s m f g h k n es d a o one' all last =
-    judges_next (bound s m n) (λ d. next (actuals s m d no_actuals (expressions (map syntax_of es))) (used s n.token.0 n d)) one'
-    (judges_next (actuals s m d no_actuals (expressions (map syntax_of es))) (used s n.token.0 n d) all last)
+    judges_next (bound s m n) (λ d. next (actuals s m d.denotes no_actuals (expressions (map syntax_of es))) (used s n.token.0 n d)) one'
+    (judges_next (actuals s m d.denotes no_actuals (expressions (map syntax_of es))) (used s n.token.0 n d) all last)
 
 -- one more `not`, in front of the others
 pub no_nots : (s : Tables) (m : Extent) (f g : Findings) (o : Outcome) (y : Expr) (is : List TokenNo) → is ≡ [] → Finds s m f g o y → FindsNot s m f g o is y

@@ -1,13 +1,13 @@
 //! What an identifier denotes: alone, and behind a dot.
 ghost use Rattle.std.specs.Prelude.{◌≡◌, Some};
 ghost use Rattle.sim_scope.specs.Judged.{Judges};
-ghost use Rattle.sim_scope.specs.Calls.{attribute, attribute_by_value, attribute_found, attribute_in, attribute_missing, attribute_of_value, barred, bound as bound_to, detach_or_none, is_barred, is_fixed, is_own_level, located, missing, remote, remote_as, remote_in, remote_or_barred, used_in, used_or_barred};
+ghost use Rattle.sim_scope.specs.Calls.{attribute, attribute_by_value, attribute_found, attribute_in, attribute_missing, attribute_of_value, barred, barred_if, bound as bound_to, detach_or_none, is_barred, is_fixed, is_own_level, located, missing, nothing_there, occurs, remote, remote_as, remote_at, remote_in, used_in, used_or_barred};
 ghost use Rattle.sim_scope.specs.Scopes.{is_shown};
 
-use crate::outcomes::side;
+use crate::outcomes::{bars, side};
 use sim_base::{DeclNo, Rule, TokenNo};
 use sim_scope::{
-    Denotation, Entry, Extent, Found, Outcome, Scopes, Side, SimType, StandardName,
+    Denotation, Entry, Extent, Found, Occurrence, Outcome, Scopes, Side, SimType, StandardName,
     binding_and_block, block_at, class_block, declared_or_standard, has_classes, has_level,
     is_detach, is_passed_over, shown, sysin_attribute, sysout_attribute, text_attribute,
     undeclared,
@@ -61,6 +61,36 @@ fn is_barred(scopes: &Scopes, extent: Extent, token: TokenNo, denotation: Denota
     }
 }
 
+/// What is barred by one more rule.
+fn barred_if(barred: bool, occurrence: Occurrence) -> Occurrence
+    ensures { result ≡ barred_if barred occurrence }
+{
+    Occurrence {
+        denotes: occurrence.denotes,
+        barred: barred || occurrence.barred,
+    }
+}
+
+/// What denotes nothing.
+pub(crate) fn nothing_there() -> Occurrence
+    ensures { result ≡ nothing_there }
+{
+    Occurrence {
+        denotes: None,
+        barred: false,
+    }
+}
+
+/// What an identifier denotes, and whether a rule bars it from standing there.
+pub(crate) fn occurs(denotation: Denotation, barred: bool) -> Occurrence
+    ensures { result ≡ occurs (Some denotation) barred }
+{
+    Occurrence {
+        denotes: Some(denotation),
+        barred,
+    }
+}
+
 /// A use of an identifier, unless it may not stand there.
 #[tactic(auto, unfolding(sim_scope::specs::Judged::telling, sim_scope::specs::Runs::run))]
 fn used_or_barred(
@@ -68,16 +98,15 @@ fn used_or_barred(
     token: TokenNo,
     denotation: Denotation,
     barred: bool,
-) -> Option<Denotation>
+) -> Occurrence
     ensures { Judges found.old found.new result (used_or_barred token.0 denotation barred) }
 {
     if barred {
         found.note(token, Rule::BoundDependsOnItsBlock);
-        None
     } else {
         found.bind(token, denotation);
-        Some(denotation)
     }
+    occurs(denotation, barred)
 }
 
 /// The block in which an identifier is found, if it is found in one. Also that of `this`, at the token of that word.
@@ -98,7 +127,7 @@ pub fn used_in(
     block: Option<u32>,
     denotation: Denotation,
     barred: bool,
-) -> Option<Denotation>
+) -> Occurrence
     ensures { Judges found.old found.new result (used_in token.0 block denotation barred) }
 {
     located(found, token, block);
@@ -118,12 +147,7 @@ fn missing(passed: bool, name: &[u8]) -> Rule
 
 /// What an identifier denotes.
 #[tactic(auto, unfolding(sim_scope::specs::Calls::bound, sim_scope::specs::Judged::telling, sim_scope::specs::Runs::run))]
-pub fn bound(
-    scopes: &Scopes,
-    extent: Extent,
-    found: &mut Found,
-    name: &Identifier,
-) -> Option<Denotation>
+pub fn bound(scopes: &Scopes, extent: Extent, found: &mut Found, name: &Identifier) -> Occurrence
     ensures { Judges found.old found.new result (bound_to scopes.now extent name.now) }
 {
     let (denotation, block) = binding_and_block(scopes, name.token, name.name.as_bytes());
@@ -135,7 +159,7 @@ pub fn bound(
         None => {
             let passed = is_passed_over(scopes, name.token, name.name.as_bytes());
             found.note(name.token, missing(passed, name.name.as_bytes()));
-            None
+            nothing_there()
         }
     }
 }
@@ -146,17 +170,17 @@ fn attribute_found(
     found: &mut Found,
     name: &Identifier,
     attribute: Option<StandardName>,
-) -> Option<Denotation>
+) -> Occurrence
     ensures { Judges found.old found.new result (attribute_found name.now attribute) }
 {
     match attribute {
         Some(standard) => {
             found.bind(name.token, Denotation::Standard(standard));
-            Some(Denotation::Standard(standard))
+            occurs(Denotation::Standard(standard), false)
         }
         None => {
             found.note(name.token, undeclared(name.name.as_bytes()));
-            None
+            nothing_there()
         }
     }
 }
@@ -198,26 +222,7 @@ fn attribute_missing(scopes: &Scopes, block: u32, name: &Identifier) -> Rule
     missing(passed, name.name.as_bytes())
 }
 
-/// An attribute of an object, unless its class has classes (`S17`) or it may not stand there (`S22`).
-#[tactic(auto, unfolding(sim_scope::specs::Judged::telling, sim_scope::specs::Runs::run))]
-fn remote_or_barred(
-    scopes: &Scopes,
-    found: &mut Found,
-    token: TokenNo,
-    block: u32,
-    denotation: Denotation,
-    barred: bool,
-) -> Option<Denotation>
-    ensures { Judges found.old found.new result (remote_or_barred scopes.now token.0 block denotation barred) }
-{
-    if has_classes(scopes, block) {
-        found.note(token, Rule::ClassWithClasses);
-        None
-    } else {
-        used_or_barred(found, token, denotation, barred)
-    }
-}
-
+/// An attribute of an object, where the class shows one of this name.
 #[tactic(auto, unfolding(sim_scope::specs::Judged::telling, sim_scope::specs::Runs::run))]
 fn remote_as(
     scopes: &Scopes,
@@ -226,21 +231,40 @@ fn remote_as(
     name: &Identifier,
     block: u32,
     denotation: Option<Denotation>,
-) -> Option<Denotation>
+) -> Occurrence
     ensures { Judges found.old found.new result (remote_as scopes.now extent name.now block denotation) }
 {
     match denotation {
         Some(denotation) => {
             let barred = is_barred(scopes, extent, name.token, denotation);
-            remote_or_barred(scopes, found, name.token, block, denotation, barred)
+            used_or_barred(found, name.token, denotation, barred)
         }
         None => {
             found.note(name.token, attribute_missing(scopes, block, name));
-            None
+            nothing_there()
         }
     }
 }
 
+#[tactic(auto, using(crate::proofs::Steps::remote_at_in_steps))]
+fn remote_at(
+    scopes: &Scopes,
+    extent: Extent,
+    found: &mut Found,
+    name: &Identifier,
+    block: u32,
+    barred: bool,
+) -> Occurrence
+    ensures { Judges found.old found.new result (remote_at scopes.now extent name.now block barred) }
+{
+    let denotation = attribute_in(scopes, name.token, block, name.name.as_bytes());
+    barred_if(
+        barred,
+        remote_as(scopes, extent, found, name, block, denotation),
+    )
+}
+
+/// An attribute of an object, whose class has no classes (`S17`).
 #[tactic(auto, unfolding(sim_scope::specs::Judged::gives, sim_scope::specs::Runs::run))]
 fn remote_in(
     scopes: &Scopes,
@@ -248,15 +272,20 @@ fn remote_in(
     found: &mut Found,
     name: &Identifier,
     block: Option<u32>,
-) -> Option<Denotation>
+) -> Occurrence
     ensures { Judges found.old found.new result (remote_in scopes.now extent name.now block) }
 {
     match block {
         Some(block) => {
-            let denotation = attribute_in(scopes, name.token, block, name.name.as_bytes());
-            remote_as(scopes, extent, found, name, block, denotation)
+            let barred = bars(
+                found,
+                has_classes(scopes, block),
+                name.token,
+                Rule::ClassWithClasses,
+            );
+            remote_at(scopes, extent, found, name, block, barred)
         }
-        None => None,
+        None => nothing_there(),
     }
 }
 
@@ -268,7 +297,7 @@ fn remote(
     found: &mut Found,
     name: &Identifier,
     class: DeclNo,
-) -> Option<Denotation>
+) -> Occurrence
     ensures { Judges found.old found.new result (remote scopes.now extent name.now class) }
 {
     remote_in(scopes, extent, found, name, class_block(scopes, class))
@@ -282,7 +311,7 @@ fn attribute_of_value(
     found: &mut Found,
     name: &Identifier,
     value: Side,
-) -> Option<Denotation>
+) -> Occurrence
     ensures { Judges found.old found.new result (attribute_of_value scopes.now extent name.now value) }
 {
     match value.ty {
@@ -293,9 +322,9 @@ fn attribute_of_value(
         Some(SimType::Ref(class)) => remote(scopes, extent, found, name, class),
         Some(_) => {
             found.note(value.first, Rule::WrongType);
-            None
+            nothing_there()
         }
-        None => None,
+        None => nothing_there(),
     }
 }
 
@@ -306,7 +335,7 @@ fn attribute_of_outcome(
     name: &Identifier,
     first: TokenNo,
     outcome: Outcome,
-) -> Option<Denotation>
+) -> Occurrence
     ensures { Judges found.old found.new result (attribute_by_value scopes.now extent name.now first.0 outcome) }
 {
     let value = side(scopes, found, first, outcome);
@@ -322,7 +351,7 @@ pub(crate) fn attribute(
     name: &Identifier,
     first: TokenNo,
     outcome: Outcome,
-) -> Option<Denotation>
+) -> Occurrence
     ensures { Judges found.old found.new result (attribute scopes.now extent name.now first.0 outcome) }
 {
     match outcome {

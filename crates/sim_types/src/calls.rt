@@ -1,14 +1,15 @@
 //! What an identifier is: alone, and with actual parameters or subscripts.
 ghost use Rattle.std.specs.Prelude.{◌≡◌, Some, nat_eq};
 ghost use Rattle.sim_scope.specs.Judged.{Judges};
-ghost use Rattle.sim_scope.specs.Calls.{alone, applied, attribute_count, declared_alone, declared_applied, element_of, formal_alone, formal_applied, in_its_match, inside_match, is_undotted, match_at, match_found, parameter_count, procedure_alone, resulting, standard_applied, typed_if, used};
+ghost use Rattle.sim_scope.specs.Calls.{alone, applied, applied_untyped, attribute_count, barred_outcome, declared_alone, declared_applied, element_of, formal_alone, formal_applied, inside_match, is_connection_at, is_undotted, match_at, match_found, match_seen, own_of, own_undotted, parameter_count, procedure_alone, resulting, standard_applied, through_connection, typed_if, used, used_as};
 
 use crate::headings::{block_in, formals_of, is_inside};
 use crate::outcomes::{breaks, call_of, is_standard_class, is_stream, varies};
 use sim_base::{DeclNo, Rule, TokenNo};
 use sim_scope::{
-    Actuals, Denotation, Entry, Fault, Formal, FormalKind, Found, Outcome, Scopes, Signature,
-    SimType, StandardName, block_at, declaration_from, entry_of,
+    Actuals, Barred, Denotation, Entry, Fault, Formal, FormalKind, Found, Occurrence, Outcome,
+    Scopes, Signature, SimType, StandardName, block_at, declaration_from, entry_of, found_in,
+    is_connection_block,
 };
 use sim_tree::Identifier;
 
@@ -78,14 +79,58 @@ fn inside_match(scopes: &Scopes, token: TokenNo, declaration: Option<DeclNo>) ->
     }
 }
 
-/// Whether an identifier of a virtual stands in the text of its match, where it is the result as a left side.
-#[tactic(auto, unfolding(sim_scope::specs::Calls::in_its_match))]
-fn in_its_match(scopes: &Scopes, name: &Identifier) -> bool
-    ensures { result ≡ in_its_match scopes.now name.now }
+fn is_connection_at(scopes: &Scopes, block: Option<u32>) -> bool
+    ensures { result ≡ is_connection_at scopes.now block }
+{
+    match block {
+        Some(block) => is_connection_block(scopes, block),
+        None => false,
+    }
+}
+
+/// Whether the search comes to an identifier through a connection.
+#[tactic(auto, unfolding(sim_scope::specs::Calls::through_connection))]
+fn through_connection(scopes: &Scopes, name: &Identifier) -> bool
+    ensures { result ≡ through_connection scopes.now name.now }
+{
+    is_connection_at(scopes, found_in(scopes, name.token, name.name.as_bytes()))
+}
+
+/// A procedure, where an identifier that denotes it stands for its result as a left side.
+#[tactic(auto, unfolding(sim_scope::specs::Calls::own_of))]
+fn own_of(scopes: &Scopes, name: &Identifier, procedure: Option<DeclNo>) -> Option<DeclNo>
+    ensures { result ≡ own_of scopes.now name.now procedure }
+{
+    if inside_match(scopes, name.token, procedure) && !through_connection(scopes, name) {
+        procedure
+    } else {
+        None
+    }
+}
+
+/// The match that the search for an identifier of a virtual comes to.
+#[tactic(auto, unfolding(sim_scope::specs::Calls::match_seen))]
+fn match_seen(scopes: &Scopes, name: &Identifier) -> Option<DeclNo>
+    ensures { result ≡ match_seen scopes.now name.now }
 {
     let place = block_at(scopes, name.token);
     let declaration = declaration_from(scopes, Some(name.token.0), place, name.name.as_bytes());
-    inside_match(scopes, name.token, match_found(scopes, declaration))
+    match_found(scopes, declaration)
+}
+
+fn own_undotted(
+    scopes: &Scopes,
+    name: &Identifier,
+    undotted: bool,
+    procedure: Option<DeclNo>,
+) -> Option<DeclNo>
+    ensures { result ≡ own_undotted scopes.now name.now undotted procedure }
+{
+    if undotted {
+        own_of(scopes, name, procedure)
+    } else {
+        None
+    }
 }
 
 /// A declared identifier alone.
@@ -107,8 +152,8 @@ fn declared_alone(
             Outcome::Constant(ty)
         }
         Some(Entry::Array { element, .. }) => Outcome::Array(element),
-        Some(Entry::Procedure { result, block }) => {
-            let own = is_undotted(naming, name) && is_inside(scopes, name.token, block);
+        Some(Entry::Procedure { result, .. }) => {
+            let own = own_undotted(scopes, name, is_undotted(naming, name), Some(declaration));
             typed_if(
                 found,
                 naming,
@@ -118,7 +163,12 @@ fn declared_alone(
         }
         Some(Entry::Class { .. }) => Outcome::Class,
         Some(Entry::Virtual { result, .. }) => {
-            let own = is_undotted(naming, name) && in_its_match(scopes, name);
+            let own = own_undotted(
+                scopes,
+                name,
+                is_undotted(naming, name),
+                match_seen(scopes, name),
+            );
             typed_if(
                 found,
                 naming,
@@ -131,7 +181,7 @@ fn declared_alone(
                 found,
                 naming,
                 result,
-                procedure_alone(declaration, name, false),
+                procedure_alone(declaration, name, None),
             )
         }
         Some(Entry::Formal(formal)) => {
@@ -139,7 +189,7 @@ fn declared_alone(
                 found,
                 naming,
                 formal,
-                procedure_alone(declaration, name, false),
+                procedure_alone(declaration, name, None),
             )
         }
         Some(Entry::Unspecified { .. }) => Outcome::Refused,
@@ -148,7 +198,7 @@ fn declared_alone(
 }
 
 /// A procedure identifier alone.
-fn procedure_alone(declaration: DeclNo, name: &Identifier, own: bool) -> Outcome
+fn procedure_alone(declaration: DeclNo, name: &Identifier, own: Option<DeclNo>) -> Outcome
     ensures { result ≡ procedure_alone declaration name.now own }
 {
     Outcome::Procedure {
@@ -376,26 +426,79 @@ fn applied(
     }
 }
 
-/// An identifier that denotes this, with its actuals. The whole expression is named by a token.
+/// An identifier with actuals, one of which has no type.
+#[tactic(auto, unfolding(sim_scope::specs::Calls::applied_untyped, sim_scope::specs::Judged::gives, sim_scope::specs::Runs::run))]
+fn applied_untyped(found: &mut Found, token: TokenNo, denotation: Denotation) -> Outcome
+    ensures { Judges found.old found.new result (applied_untyped token.0 denotation) }
+{
+    match denotation {
+        Denotation::Declared(_) => Outcome::Refused,
+        Denotation::Standard(name) => {
+            if is_stream(name) {
+                breaks(found, token, Rule::StandardNameLeftOut)
+            } else {
+                Outcome::Refused
+            }
+        }
+    }
+}
+
+/// An identifier that denotes this, with its actuals.
+fn used_as(
+    scopes: &Scopes,
+    found: &mut Found,
+    naming: TokenNo,
+    name: &Identifier,
+    denotation: Denotation,
+    actuals: Actuals,
+) -> Outcome
+    ensures { Judges found.old found.new result (used_as scopes.now naming.0 name.now denotation actuals) }
+{
+    if actuals.count == 0 {
+        alone(scopes, found, naming, name, denotation)
+    } else if actuals.typed {
+        applied(scopes, found, naming, name.token, denotation, actuals)
+    } else {
+        applied_untyped(found, name.token, denotation)
+    }
+}
+
+/// What is barred has no type; alone it is judged on.
+fn barred_outcome(outcome: Outcome) -> Outcome
+    ensures { result ≡ barred_outcome outcome }
+{
+    match outcome {
+        Outcome::Array(ty) => Outcome::Barred(Barred::Array(ty)),
+        Outcome::Class => Outcome::Barred(Barred::Class),
+        Outcome::Procedure {
+            declaration,
+            token,
+            ..
+        } => Outcome::Barred(Barred::Procedure { declaration, token }),
+        Outcome::Standard { name, token } => Outcome::Barred(Barred::Standard { name, token }),
+        _ => Outcome::Refused,
+    }
+}
+
+/// An identifier where it stands, with its actuals. The whole expression is named by a token.
 #[tactic(auto, unfolding(sim_scope::specs::Calls::used, sim_scope::specs::Judged::gives, sim_scope::specs::Runs::run))]
 pub(crate) fn used(
     scopes: &Scopes,
     found: &mut Found,
     naming: TokenNo,
     name: &Identifier,
-    denotation: Option<Denotation>,
+    occurrence: Occurrence,
     actuals: Actuals,
 ) -> Outcome
-    ensures { Judges found.old found.new result (used scopes.now naming.0 name.now denotation actuals) }
+    ensures { Judges found.old found.new result (used scopes.now naming.0 name.now occurrence actuals) }
 {
-    match denotation {
+    match occurrence.denotes {
         Some(denotation) => {
-            if actuals.count == 0 {
-                alone(scopes, found, naming, name, denotation)
-            } else if actuals.typed {
-                applied(scopes, found, naming, name.token, denotation, actuals)
+            let outcome = used_as(scopes, found, naming, name, denotation, actuals);
+            if occurrence.barred {
+                barred_outcome(outcome)
             } else {
-                Outcome::Refused
+                outcome
             }
         }
         None => Outcome::Refused,

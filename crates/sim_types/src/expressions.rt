@@ -189,7 +189,7 @@ pub fn judge(scopes: &Scopes, extent: Extent, found: &mut Found, expr: &Expr) ->
             arguments,
         } => {
             let named = class_named(scopes, extent, found, class);
-            let actuals = actuals(scopes, extent, found, named, arguments);
+            let actuals = actuals(scopes, extent, found, named.denotes, arguments);
             new_object(scopes, found, *token, class, named, actuals)
         }
     }
@@ -338,9 +338,9 @@ fn selection(
             name,
             arguments,
         } => {
-            let denotation = attribute(scopes, extent, found, name, first, object);
-            let actuals = actuals(scopes, extent, found, denotation, arguments);
-            used(scopes, found, *token, name, denotation, actuals)
+            let occurrence = attribute(scopes, extent, found, name, first, object);
+            let actuals = actuals(scopes, extent, found, occurrence.denotes, arguments);
+            used(scopes, found, *token, name, occurrence, actuals)
         }
         Selector::Qua { token, class } => {
             let object = side(scopes, found, first, object);
@@ -362,9 +362,9 @@ fn named(
 ) -> Outcome
     ensures { FindsNamed scopes.now extent found.old found.new result name.now arguments.now }
 {
-    let denotation = bound(scopes, extent, found, name);
-    let actuals = actuals(scopes, extent, found, denotation, arguments);
-    used(scopes, found, name.token, name, denotation, actuals)
+    let occurrence = bound(scopes, extent, found, name);
+    let actuals = actuals(scopes, extent, found, occurrence.denotes, arguments);
+    used(scopes, found, name.token, name, occurrence, actuals)
 }
 
 /// Actual parameters or subscripts of what an identifier denotes.

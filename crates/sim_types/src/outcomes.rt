@@ -1,14 +1,14 @@
 //! What an expression is where a value is needed, and what operators make of operands.
 ghost use Rattle.std.specs.Prelude.{◌≡◌};
-ghost use Rattle.sim_scope.specs.Judged.{Judges};
+ghost use Rattle.sim_scope.specs.Judged.{Judges, bars};
 ghost use Rattle.sim_scope.specs.Standard.{is_standard_class};
-ghost use Rattle.sim_scope.specs.Outcomes.{breaks, call_of, called, has, in_parentheses, is_stream, one, parenthesized, procedure_called, side, side_of, signature_called, standard_called, three, two, type_in, value_of, valued, varies};
+ghost use Rattle.sim_scope.specs.Outcomes.{barred_called, breaks, call_of, called, has, in_parentheses, is_stream, one, parenthesized, procedure_called, side, side_of, signature_called, standard_called, three, two, type_in, value_of, valued, varies};
 
 use crate::fit::{common_type, is_same, operands_fit};
 use crate::headings::formals_of;
 use sim_base::{Rule, TokenNo};
 use sim_scope::{
-    Entry, Fit, Found, Outcome, Scopes, Side, Signature, SimType, StandardName, entry_of,
+    Barred, Entry, Fit, Found, Outcome, Scopes, Side, Signature, SimType, StandardName, entry_of,
 };
 use sim_tree::Operator;
 
@@ -28,6 +28,17 @@ pub(crate) fn varies(found: &mut Found, token: TokenNo, ty: SimType) -> Outcome
 {
     found.typed(token, ty);
     Outcome::Variable(ty)
+}
+
+/// A rule at a token, which is broken there where this is so.
+#[tactic(auto, unfolding(sim_scope::specs::Judged::bars, sim_scope::specs::Judged::gives, sim_scope::specs::Judged::telling, sim_scope::specs::Runs::run))]
+pub fn bars(found: &mut Found, so: bool, token: TokenNo, rule: Rule) -> bool
+    ensures { Judges found.old found.new result (bars so token.0 rule) }
+{
+    if so {
+        found.note(token, rule);
+    }
+    so
 }
 
 /// A rule is broken at a token, and the expression is nothing.
@@ -127,6 +138,25 @@ fn standard_called(found: &mut Found, token: TokenNo, name: StandardName) -> Out
     }
 }
 
+/// The call of an identifier that may not stand there: it has no type.
+#[tactic(auto, unfolding(sim_scope::specs::Judged::gives, sim_scope::specs::Runs::run), using(crate::proofs::Steps::without_type_in_steps))]
+fn barred_called(scopes: &Scopes, found: &mut Found, barred: Barred) -> Outcome
+    ensures { Judges found.old found.new result (barred_called scopes.now barred) }
+{
+    match barred {
+        Barred::Procedure { declaration, token } => {
+            let formals = formals_of(scopes, declaration).len();
+            procedure_called(found, token, formals, entry_of(scopes, declaration));
+            Outcome::Refused
+        }
+        Barred::Standard { name, token } => {
+            standard_called(found, token, name);
+            Outcome::Refused
+        }
+        _ => Outcome::Barred(barred),
+    }
+}
+
 /// An identifier alone that is a call.
 #[tactic(auto, unfolding(sim_scope::specs::Outcomes::called, sim_scope::specs::Judged::gives, sim_scope::specs::Runs::run))]
 pub fn called(scopes: &Scopes, found: &mut Found, outcome: Outcome) -> Outcome
@@ -142,6 +172,7 @@ pub fn called(scopes: &Scopes, found: &mut Found, outcome: Outcome) -> Outcome
             procedure_called(found, token, formals, entry_of(scopes, declaration))
         }
         Outcome::Standard { name, token } => standard_called(found, token, name),
+        Outcome::Barred(barred) => barred_called(scopes, found, barred),
         _ => outcome,
     }
 }
@@ -160,6 +191,8 @@ fn value_of(found: &mut Found, first: TokenNo, outcome: Outcome) -> Outcome
         Outcome::Constant(ty) => Outcome::Value(ty),
         Outcome::Array(_) => breaks(found, first, Rule::WrongKind),
         Outcome::Class => breaks(found, first, Rule::WrongKind),
+        Outcome::Barred(Barred::Array(_)) => breaks(found, first, Rule::WrongKind),
+        Outcome::Barred(Barred::Class) => breaks(found, first, Rule::WrongKind),
         _ => Outcome::Refused,
     }
 }

@@ -1,15 +1,15 @@
 //! Actual parameters and subscripts.
 ghost use Rattle.std.specs.Prelude.{◌≡◌, ◌<◌, ◌+◌, ◌^◌};
 ghost use Rattle.sim_scope.specs.Judged.{Judges, gives};
-ghost use Rattle.sim_scope.specs.Actuals.{actual, array_actual, array_fits, as_value, attribute_alone, attribute_parameter, conforming, fitting, fitting_unless, formal_or_none, has_value_alone, misfitting, more, of_formal_procedure, parameter_at, parameter_of, parameter_type, passed_procedure, procedure_actual, procedure_fits, result_fits, result_matches, same_or_misfit, standard_actual, type_matches, typed_or_none, unspecified_procedure, unspecified_standard, value_fits, with_actual};
+ghost use Rattle.sim_scope.specs.Actuals.{actual, array_actual, array_fits, as_value, attribute_alone, attribute_parameter, barred_actual, barred_alone, conforming, fitting, fitting_unless, formal_or_none, has_value_alone, left_out, misfitting, more, of_formal_procedure, parameter_at, parameter_of, parameter_type, passed_procedure, procedure_actual, procedure_fits, result_fits, result_matches, same_or_misfit, standard_actual, type_matches, typed_or_none, unspecified_procedure, unspecified_standard, untyped, value_fits, with_actual};
 
 use crate::fit::{is_same, misfit_of};
 use crate::headings::{formal_of, result_in};
 use crate::outcomes::{is_stream, type_in, valued};
 use sim_base::{DeclNo, Rule, TokenNo};
 use sim_scope::{
-    Actual, Actuals, Denotation, Entry, Fault, Formal, FormalKind, Found, Mode, Outcome, Parameter,
-    Scopes, Signature, SimType, class_formal, entry_of, is_in_chain, lesser,
+    Actual, Actuals, Barred, Denotation, Entry, Fault, Formal, FormalKind, Found, Mode, Outcome,
+    Parameter, Scopes, Signature, SimType, class_formal, entry_of, is_in_chain, lesser,
 };
 
 /// What an actual is held against: the formal parameter at its place, if there is one.
@@ -108,6 +108,15 @@ fn fitting() -> Actual
     }
 }
 
+fn untyped() -> Actual
+    ensures { result ≡ untyped }
+{
+    Actual {
+        typed: false,
+        misfit: None,
+    }
+}
+
 fn misfitting(first: TokenNo, rule: Rule) -> Actual
     ensures { result ≡ misfitting first.0 rule }
 {
@@ -160,10 +169,7 @@ fn value_fits(scopes: &Scopes, first: TokenNo, parameter: Parameter, ty: Option<
     ensures { result ≡ value_fits scopes.now first.0 parameter ty }
 {
     match (parameter, ty) {
-        (_, None) => Actual {
-            typed: false,
-            misfit: None,
-        },
+        (_, None) => untyped(),
         (Parameter::Subscript, Some(ty)) => same_or_misfit(first, Some(SimType::Integer), ty),
         (Parameter::Formal(formal), Some(ty)) => match formal.kind {
             FormalKind::Simple => conforming(scopes, first, formal.ty, ty),
@@ -233,32 +239,51 @@ fn procedure_fits(
     }
 }
 
+/// `S23`, which is told whether or not the other actuals have types.
+#[tactic(auto, unfolding(sim_scope::specs::Judged::telling, sim_scope::specs::Runs::run))]
+fn left_out(found: &mut Found, first: TokenNo) -> Actual
+    ensures { Judges found.old found.new result (left_out first.0) }
+{
+    found.note(first, Rule::StandardNameLeftOut);
+    misfitting(first, Rule::StandardNameLeftOut)
+}
+
 /// A procedure alone as an actual for a formal procedure. An attribute of a standard class is none (`S23`).
-fn passed_procedure(scopes: &Scopes, first: TokenNo, formal: Formal, entry: Option<Entry>) -> Actual
-    ensures { result ≡ passed_procedure scopes.now first.0 formal entry }
+#[tactic(auto, unfolding(sim_scope::specs::Judged::gives, sim_scope::specs::Runs::run))]
+fn passed_procedure(
+    scopes: &Scopes,
+    found: &mut Found,
+    first: TokenNo,
+    formal: Formal,
+    entry: Option<Entry>,
+) -> Actual
+    ensures { Judges found.old found.new result (passed_procedure scopes.now first.0 formal entry) }
 {
     match entry {
-        Some(Entry::Attribute { .. }) => misfitting(first, Rule::StandardNameLeftOut),
+        Some(Entry::Attribute { .. }) => left_out(found, first),
         _ => procedure_fits(scopes, first, formal, result_in(entry)),
     }
 }
 
+#[tactic(auto, unfolding(sim_scope::specs::Judged::gives, sim_scope::specs::Runs::run))]
 fn attribute_alone(
+    found: &mut Found,
     first: TokenNo,
     parameter: Option<SimType>,
     result_type: Option<SimType>,
 ) -> Actual
-    ensures { result ≡ attribute_alone first.0 parameter result_type }
+    ensures { Judges found.old found.new result (attribute_alone first.0 parameter result_type) }
 {
     match (parameter, result_type) {
         (None, Some(_)) => fitting(),
-        _ => misfitting(first, Rule::StandardNameLeftOut),
+        _ => left_out(found, first),
     }
 }
 
 /// A procedure alone as an actual of a formal procedure or a virtual. An attribute of a standard class has a value without actuals (`S23`).
-fn unspecified_procedure(first: TokenNo, entry: Option<Entry>) -> Actual
-    ensures { result ≡ unspecified_procedure first.0 entry }
+#[tactic(auto, unfolding(sim_scope::specs::Judged::gives, sim_scope::specs::Runs::run))]
+fn unspecified_procedure(found: &mut Found, first: TokenNo, entry: Option<Entry>) -> Actual
+    ensures { Judges found.old found.new result (unspecified_procedure first.0 entry) }
 {
     match entry {
         Some(
@@ -267,7 +292,7 @@ fn unspecified_procedure(first: TokenNo, entry: Option<Entry>) -> Actual
                 result,
                 ..
             },
-        ) => attribute_alone(first, parameter, result),
+        ) => attribute_alone(found, first, parameter, result),
         _ => fitting(),
     }
 }
@@ -281,13 +306,14 @@ fn has_value_alone(signature: Signature) -> bool
     }
 }
 
-fn unspecified_standard(first: TokenNo, signature: Signature) -> Actual
-    ensures { result ≡ unspecified_standard first.0 signature }
+#[tactic(auto, unfolding(sim_scope::specs::Judged::gives, sim_scope::specs::Runs::run))]
+fn unspecified_standard(found: &mut Found, first: TokenNo, signature: Signature) -> Actual
+    ensures { Judges found.old found.new result (unspecified_standard first.0 signature) }
 {
     if has_value_alone(signature) {
         fitting()
     } else {
-        misfitting(first, Rule::StandardNameLeftOut)
+        left_out(found, first)
     }
 }
 
@@ -307,11 +333,14 @@ fn procedure_actual(
             FormalKind::Simple => as_value(scopes, found, first, parameter, outcome),
             FormalKind::Array => misfitting(first, Rule::WrongType),
             FormalKind::Procedure => {
-                passed_procedure(scopes, first, formal, entry_of(scopes, declaration))
+                let entry = entry_of(scopes, declaration);
+                passed_procedure(scopes, found, first, formal, entry)
             }
         },
         Parameter::Subscript => as_value(scopes, found, first, parameter, outcome),
-        Parameter::Unspecified => unspecified_procedure(first, entry_of(scopes, declaration)),
+        Parameter::Unspecified => {
+            unspecified_procedure(found, first, entry_of(scopes, declaration))
+        }
         Parameter::Unknown => fitting(),
     }
 }
@@ -331,10 +360,10 @@ fn standard_actual(
         Parameter::Formal(formal) => match formal.kind {
             FormalKind::Simple => as_value(scopes, found, first, parameter, outcome),
             FormalKind::Array => misfitting(first, Rule::WrongType),
-            FormalKind::Procedure => misfitting(first, Rule::StandardNameLeftOut),
+            FormalKind::Procedure => left_out(found, first),
         },
         Parameter::Subscript => as_value(scopes, found, first, parameter, outcome),
-        Parameter::Unspecified => unspecified_standard(first, signature),
+        Parameter::Unspecified => unspecified_standard(found, first, signature),
         Parameter::Unknown => fitting(),
     }
 }
@@ -355,6 +384,46 @@ fn array_actual(
         Parameter::Formal(formal) => array_fits(first, formal, element),
         _ => fitting(),
     }
+}
+
+/// An identifier alone that may not stand there: what other rules say of it.
+fn barred_alone(
+    scopes: &Scopes,
+    found: &mut Found,
+    first: TokenNo,
+    parameter: Parameter,
+    barred: Barred,
+) -> Actual
+    ensures { Judges found.old found.new result (barred_alone scopes.now first.0 parameter barred) }
+{
+    let outcome = Outcome::Barred(barred);
+    match barred {
+        Barred::Array(element) => {
+            array_actual(scopes, found, first, parameter, outcome, element)
+        }
+        Barred::Class => as_value(scopes, found, first, parameter, outcome),
+        Barred::Procedure { declaration, .. } => {
+            procedure_actual(scopes, found, first, parameter, outcome, declaration)
+        }
+        Barred::Standard { name, .. } => {
+            standard_actual(scopes, found, first, parameter, outcome, name.signature())
+        }
+    }
+}
+
+/// An identifier alone that may not stand there: it has no type, and is not compared.
+#[tactic(auto, using(crate::proofs::Steps::barred_actual_in_steps))]
+fn barred_actual(
+    scopes: &Scopes,
+    found: &mut Found,
+    first: TokenNo,
+    parameter: Parameter,
+    barred: Barred,
+) -> Actual
+    ensures { Judges found.old found.new result (barred_actual scopes.now first.0 parameter barred) }
+{
+    barred_alone(scopes, found, first, parameter, barred);
+    untyped()
 }
 
 /// One actual parameter or subscript, with its first token.
@@ -382,6 +451,7 @@ pub fn actual(
                 standard_actual(scopes, found, first, parameter, outcome, name.signature())
             }
         }
+        Outcome::Barred(barred) => barred_actual(scopes, found, first, parameter, barred),
         _ => as_value(scopes, found, first, parameter, outcome),
     }
 }

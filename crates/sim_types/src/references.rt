@@ -2,26 +2,26 @@
 ghost use Rattle.std.specs.Prelude.{◌≡◌, Some, length};
 ghost use Rattle.sim_scope.specs.Judged.{Judges};
 ghost use Rattle.sim_scope.specs.Outcomes.{has};
-ghost use Rattle.sim_scope.specs.References.{as_class, block_of_class, chained_with, class_compared, class_named, class_on_chain, class_type, declared_class, for_prefixing, formal_count, formal_count_of, generates, is_its_own, is_only_prefix, is_this, level_is, member, new_object, new_of, no_class, qualified, standard_class, this_barred, this_block, this_found, this_in, this_object, this_of, this_or_barred, unless_prefix};
+ghost use Rattle.sim_scope.specs.References.{as_class, block_of_class, chained_with, class_barred, class_compared, class_denoted, class_fits, class_named, class_type, class_value, declared_class, for_prefixing, formal_count, formal_count_of, generated, generates, is_its_own, is_no_reference, is_nowhere, is_only_prefix, is_this, level_is, member, new_object, new_of, new_of_class, no_class, only_prefix, other_chain, qualified, standard_class, this_barred, this_block, this_fits, this_found, this_object, this_of, this_of_class, this_value, truth_of, wrong_number};
 
-use crate::bindings::{bound, located};
+use crate::bindings::{bound, located, nothing_there, occurs};
 use crate::fit::is_reference;
-use crate::outcomes::{breaks, has, is_standard_class};
+use crate::outcomes::{bars, breaks, has, is_standard_class};
 use sim_base::{DeclNo, Rule, TokenNo};
 use sim_scope::{
-    Actuals, Denotation, Extent, Found, Outcome, Scopes, Side, SimType, StandardName,
+    Actuals, Denotation, Extent, Found, Occurrence, Outcome, Scopes, Side, SimType, StandardName,
     StandardPrefix, block_at, class_block, class_formals_count, encloser, has_detach_at, has_level,
-    has_simulation, is_for_prefixing, on_one_chain,
+    has_simulation, has_standard_prefix, is_for_prefixing, on_one_chain,
 };
 use sim_tree::Identifier;
 
 /// An identifier that is no class where one has to stand (`S12`).
 #[tactic(auto, unfolding(sim_scope::specs::Judged::telling, sim_scope::specs::Runs::run))]
-fn no_class(found: &mut Found, token: TokenNo) -> Option<Denotation>
+fn no_class(found: &mut Found, token: TokenNo) -> Occurrence
     ensures { Judges found.old found.new result (no_class token.0) }
 {
     found.note(token, Rule::WrongKind);
-    None
+    nothing_there()
 }
 
 #[tactic(auto, unfolding(sim_scope::specs::Judged::gives, sim_scope::specs::Runs::run))]
@@ -29,22 +29,23 @@ fn declared_class(
     found: &mut Found,
     token: TokenNo,
     declaration: DeclNo,
+    barred: bool,
     block: Option<u32>,
-) -> Option<Denotation>
-    ensures { Judges found.old found.new result (declared_class token.0 declaration block) }
+) -> Occurrence
+    ensures { Judges found.old found.new result (declared_class token.0 declaration barred block) }
 {
     match block {
-        Some(_) => Some(Denotation::Declared(declaration)),
+        Some(_) => occurs(Denotation::Declared(declaration), barred),
         None => no_class(found, token),
     }
 }
 
 #[tactic(auto, unfolding(sim_scope::specs::Judged::gives, sim_scope::specs::Runs::run))]
-fn standard_class(found: &mut Found, token: TokenNo, name: StandardName) -> Option<Denotation>
-    ensures { Judges found.old found.new result (standard_class token.0 name) }
+fn standard_class(found: &mut Found, token: TokenNo, name: StandardName, barred: bool) -> Occurrence
+    ensures { Judges found.old found.new result (standard_class token.0 name barred) }
 {
     if is_standard_class(name) {
-        Some(Denotation::Standard(name))
+        occurs(Denotation::Standard(name), barred)
     } else {
         no_class(found, token)
     }
@@ -55,30 +56,32 @@ fn as_class(
     scopes: &Scopes,
     found: &mut Found,
     token: TokenNo,
-    denotation: Option<Denotation>,
-) -> Option<Denotation>
-    ensures { Judges found.old found.new result (as_class scopes.now token.0 denotation) }
+    occurrence: Occurrence,
+) -> Occurrence
+    ensures { Judges found.old found.new result (as_class scopes.now token.0 occurrence) }
 {
-    match denotation {
+    let barred = occurrence.barred;
+    match occurrence.denotes {
         Some(Denotation::Declared(declaration)) => {
-            declared_class(found, token, declaration, class_block(scopes, declaration))
+            let block = class_block(scopes, declaration);
+            declared_class(found, token, declaration, barred, block)
         }
-        Some(Denotation::Standard(name)) => standard_class(found, token, name),
-        None => None,
+        Some(Denotation::Standard(name)) => standard_class(found, token, name, barred),
+        None => nothing_there(),
     }
 }
 
-/// The class that an identifier denotes: one of the program, or `simset` or `simulation`. There is none where a rule is broken.
+/// The class that an identifier denotes: one of the program, or `simset` or `simulation`; and whether `S22` bars it.
 pub fn class_named(
     scopes: &Scopes,
     extent: Extent,
     found: &mut Found,
     name: &Identifier,
-) -> Option<Denotation>
+) -> Occurrence
     ensures { Judges found.old found.new result (class_named scopes.now extent name.now) }
 {
-    let denotation = bound(scopes, extent, found, name);
-    as_class(scopes, found, name.token, denotation)
+    let occurrence = bound(scopes, extent, found, name);
+    as_class(scopes, found, name.token, occurrence)
 }
 
 fn for_prefixing(scopes: &Scopes, block: Option<u32>) -> bool
@@ -103,6 +106,15 @@ pub fn is_only_prefix(scopes: &Scopes, class: Denotation) -> bool
     }
 }
 
+fn only_prefix(scopes: &Scopes, class: Option<Denotation>) -> bool
+    ensures { result ≡ only_prefix scopes.now class }
+{
+    match class {
+        Some(class) => is_only_prefix(scopes, class),
+        None => false,
+    }
+}
+
 /// The type of references of a class. No reference is of a standard class.
 pub fn class_type(class: Denotation) -> SimType
     ensures { result ≡ class_type class }
@@ -110,23 +122,6 @@ pub fn class_type(class: Denotation) -> SimType
     match class {
         Denotation::Declared(declaration) => SimType::Ref(declaration),
         Denotation::Standard(_) => SimType::NoneType,
-    }
-}
-
-/// A value of a type, unless the class that is named is only for prefixing (`S21`).
-fn unless_prefix(
-    found: &mut Found,
-    only: bool,
-    token: TokenNo,
-    naming: TokenNo,
-    ty: SimType,
-) -> Outcome
-    ensures { Judges found.old found.new result (unless_prefix only token.0 (has naming.0 ty)) }
-{
-    if only {
-        breaks(found, token, Rule::OnlyForPrefixing)
-    } else {
-        has(found, naming, ty)
     }
 }
 
@@ -143,88 +138,138 @@ pub fn chained_with(scopes: &Scopes, class: Denotation, ty: SimType) -> bool
     }
 }
 
-fn class_on_chain(
+fn other_chain(scopes: &Scopes, class: Option<Denotation>, ty: Option<SimType>) -> bool
+    ensures { result ≡ other_chain scopes.now class ty }
+{
+    match (class, ty) {
+        (Some(class), Some(ty)) => !chained_with(scopes, class, ty),
+        _ => false,
+    }
+}
+
+/// `S16` and `S21` of a class behind an operand of this type, each by itself; whether one is broken.
+#[tactic(auto, using(crate::proofs::Steps::class_fits_in_steps))]
+pub fn class_fits(
     scopes: &Scopes,
     found: &mut Found,
-    class: Denotation,
     token: TokenNo,
-    operand: SimType,
-    naming: TokenNo,
-    ty: SimType,
-) -> Outcome
-    ensures { Judges found.old found.new result (class_on_chain scopes.now class token.0 operand (has naming.0 ty)) }
+    class: Option<Denotation>,
+    ty: Option<SimType>,
+) -> bool
+    ensures { Judges found.old found.new result (class_fits scopes.now token.0 class ty) }
 {
-    if chained_with(scopes, class, operand) {
-        unless_prefix(found, is_only_prefix(scopes, class), token, naming, ty)
-    } else {
-        breaks(found, token, Rule::DifferentChains)
+    let other = bars(
+        found,
+        other_chain(scopes, class, ty),
+        token,
+        Rule::DifferentChains,
+    );
+    let only = bars(
+        found,
+        only_prefix(scopes, class),
+        token,
+        Rule::OnlyForPrefixing,
+    );
+    other || only
+}
+
+fn is_no_reference(ty: Option<SimType>) -> bool
+    ensures { result ≡ is_no_reference ty }
+{
+    match ty {
+        Some(ty) => !is_reference(ty),
+        None => false,
+    }
+}
+
+/// Whether the operand is no reference (`S13`), or a rule bars the class behind it.
+#[tactic(auto, using(crate::proofs::Steps::class_barred_in_steps))]
+fn class_barred(
+    scopes: &Scopes,
+    found: &mut Found,
+    operand: Side,
+    token: TokenNo,
+    occurrence: Occurrence,
+) -> bool
+    ensures { Judges found.old found.new result (class_barred scopes.now operand token.0 occurrence) }
+{
+    let wrong = bars(
+        found,
+        is_no_reference(operand.ty),
+        operand.first,
+        Rule::WrongType,
+    );
+    let barred = class_fits(scopes, found, token, occurrence.denotes, operand.ty);
+    wrong || barred || occurrence.barred
+}
+
+/// The type of an expression with `is` or `in`.
+#[tactic(auto, unfolding(sim_scope::specs::Judged::gives, sim_scope::specs::Runs::run))]
+fn truth_value(
+    found: &mut Found,
+    naming: TokenNo,
+    barred: bool,
+    ty: Option<SimType>,
+    class: Option<Denotation>,
+) -> Outcome
+    ensures { Judges found.old found.new result (class_value naming.0 barred ty class truth_of) }
+{
+    match (barred, ty, class) {
+        (false, Some(_), Some(_)) => has(found, naming, SimType::Boolean),
+        _ => Outcome::Refused,
+    }
+}
+
+/// The type of an expression with `qua`.
+#[tactic(auto, unfolding(sim_scope::specs::Judged::gives, sim_scope::specs::Runs::run))]
+fn qualified_value(
+    found: &mut Found,
+    naming: TokenNo,
+    barred: bool,
+    ty: Option<SimType>,
+    class: Option<Denotation>,
+) -> Outcome
+    ensures { Judges found.old found.new result (class_value naming.0 barred ty class class_type) }
+{
+    match (barred, ty, class) {
+        (false, Some(_), Some(class)) => has(found, naming, class_type(class)),
+        _ => Outcome::Refused,
     }
 }
 
 /// `is` or `in`, with what stands before it.
-#[tactic(auto, unfolding(sim_scope::specs::References::member, sim_scope::specs::Judged::gives, sim_scope::specs::Runs::run))]
+#[tactic(auto, using(crate::proofs::Steps::member_in_steps))]
 pub(crate) fn member(
     scopes: &Scopes,
     found: &mut Found,
     naming: TokenNo,
     operand: Side,
     name: &Identifier,
-    class: Option<Denotation>,
+    class: Occurrence,
 ) -> Outcome
     ensures { Judges found.old found.new result (member scopes.now naming.0 operand name.now class) }
 {
-    match (operand.ty, class) {
-        (Some(ty), Some(class)) => {
-            if !is_reference(ty) {
-                return breaks(found, operand.first, Rule::WrongType);
-            }
-            class_on_chain(
-                scopes,
-                found,
-                class,
-                name.token,
-                ty,
-                naming,
-                SimType::Boolean,
-            )
-        }
-        _ => Outcome::Refused,
-    }
+    let barred = class_barred(scopes, found, operand, name.token, class);
+    truth_value(found, naming, barred, operand.ty, class.denotes)
 }
 
 /// `qua`, with what stands before it.
-#[tactic(auto, unfolding(sim_scope::specs::References::qualified, sim_scope::specs::Judged::gives, sim_scope::specs::Runs::run))]
+#[tactic(auto, using(crate::proofs::Steps::qualified_in_steps))]
 pub(crate) fn qualified(
     scopes: &Scopes,
     found: &mut Found,
     naming: TokenNo,
     operand: Side,
     name: &Identifier,
-    class: Option<Denotation>,
+    class: Occurrence,
 ) -> Outcome
     ensures { Judges found.old found.new result (qualified scopes.now naming.0 operand name.now class) }
 {
-    match (operand.ty, class) {
-        (Some(ty), Some(class)) => {
-            if !is_reference(ty) {
-                return breaks(found, operand.first, Rule::WrongType);
-            }
-            class_on_chain(
-                scopes,
-                found,
-                class,
-                name.token,
-                ty,
-                naming,
-                class_type(class),
-            )
-        }
-        _ => Outcome::Refused,
-    }
+    let barred = class_barred(scopes, found, operand, name.token, class);
+    qualified_value(found, naming, barred, operand.ty, class.denotes)
 }
 
 /// Whether one of the levels of a block is a class.
-#[tactic(auto, unfolding(sim_scope::specs::Levels::is_for_prefixing))]
 fn level_is(scopes: &Scopes, class: Denotation, level: Option<u32>, block: u32) -> bool
     ensures { result ≡ level_is scopes.now class level block }
 {
@@ -234,7 +279,7 @@ fn level_is(scopes: &Scopes, class: Denotation, level: Option<u32>, block: u32) 
         (Denotation::Standard(StandardName::Prefix(StandardPrefix::Simulation)), _) => {
             has_simulation(scopes, block)
         }
-        (Denotation::Standard(_), _) => is_for_prefixing(scopes, block),
+        (Denotation::Standard(_), _) => has_standard_prefix(scopes, block),
     }
 }
 
@@ -295,49 +340,65 @@ fn is_its_own(place: Option<u32>, block: u32) -> bool
 
 /// Whether `this` in a bound means what the array belongs to.
 #[tactic(auto, unfolding(sim_scope::specs::References::this_barred))]
-fn this_barred(scopes: &Scopes, extent: Extent, token: TokenNo, block: u32) -> bool
+fn this_barred(scopes: &Scopes, extent: Extent, token: TokenNo, block: Option<u32>) -> bool
     ensures { result ≡ this_barred scopes.now extent token.0 block }
 {
-    match extent {
-        Extent::Statement => false,
-        Extent::Bound => is_its_own(block_at(scopes, token), block),
+    match (extent, block) {
+        (_, None) => false,
+        (Extent::Statement, Some(_)) => false,
+        (Extent::Bound, Some(block)) => is_its_own(block_at(scopes, token), block),
     }
 }
 
-fn this_or_barred(
-    found: &mut Found,
-    barred: bool,
-    token: TokenNo,
-    naming: TokenNo,
-    ty: SimType,
-) -> Outcome
-    ensures { Judges found.old found.new result (this_or_barred barred token.0 (has naming.0 ty)) }
+fn is_nowhere(block: Option<u32>) -> bool
+    ensures { result ≡ is_nowhere block }
 {
-    if barred {
-        breaks(found, token, Rule::BoundDependsOnItsBlock)
-    } else {
-        has(found, naming, ty)
+    match block {
+        Some(_) => false,
+        None => true,
     }
 }
 
-fn this_in(
+/// `S18`, `S21` and `S22` of the class behind `this`, each by itself; whether one is broken.
+#[tactic(auto, using(crate::proofs::Steps::this_fits_in_steps))]
+fn this_fits(
     scopes: &Scopes,
     extent: Extent,
     found: &mut Found,
-    naming: TokenNo,
     token: TokenNo,
     class: Denotation,
-    block: u32,
-) -> Outcome
-    ensures { Judges found.old found.new result (this_in scopes.now extent naming.0 token.0 class block) }
+    block: Option<u32>,
+) -> bool
+    ensures { Judges found.old found.new result (this_fits scopes.now extent token.0 class block) }
 {
-    if is_only_prefix(scopes, class) {
-        return breaks(found, token, Rule::OnlyForPrefixing);
-    }
-    let barred = this_barred(scopes, extent, token, block);
-    this_or_barred(found, barred, token, naming, class_type(class))
+    let outside = bars(found, is_nowhere(block), token, Rule::ThisOutsideItsClass);
+    let only = bars(
+        found,
+        is_only_prefix(scopes, class),
+        token,
+        Rule::OnlyForPrefixing,
+    );
+    let depends = bars(
+        found,
+        this_barred(scopes, extent, token, block),
+        token,
+        Rule::BoundDependsOnItsBlock,
+    );
+    outside || only || depends
 }
 
+#[tactic(auto, unfolding(sim_scope::specs::Judged::gives, sim_scope::specs::Runs::run))]
+fn this_value(found: &mut Found, naming: TokenNo, class: Denotation, barred: bool) -> Outcome
+    ensures { Judges found.old found.new result (this_value naming.0 class barred) }
+{
+    if barred {
+        Outcome::Refused
+    } else {
+        has(found, naming, class_type(class))
+    }
+}
+
+#[tactic(auto, using(crate::proofs::Steps::this_found_in_steps))]
 fn this_found(
     scopes: &Scopes,
     extent: Extent,
@@ -345,17 +406,14 @@ fn this_found(
     naming: TokenNo,
     token: TokenNo,
     class: Denotation,
+    barred: bool,
     block: Option<u32>,
 ) -> Outcome
-    ensures { Judges found.old found.new result (this_found scopes.now extent naming.0 token.0 class block) }
+    ensures { Judges found.old found.new result (this_found scopes.now extent naming.0 token.0 class barred block) }
 {
-    match block {
-        Some(block) => {
-            located(found, naming, Some(block));
-            this_in(scopes, extent, found, naming, token, class, block)
-        }
-        None => breaks(found, token, Rule::ThisOutsideItsClass),
-    }
+    located(found, naming, block);
+    let broken = this_fits(scopes, extent, found, token, class, block);
+    this_value(found, naming, class, broken || barred)
 }
 
 /// `this` of a class.
@@ -366,14 +424,17 @@ pub(crate) fn this_object(
     found: &mut Found,
     naming: TokenNo,
     name: &Identifier,
-    class: Option<Denotation>,
+    class: Occurrence,
 ) -> Outcome
     ensures { Judges found.old found.new result (this_object scopes.now extent naming.0 name.now class) }
 {
-    match class {
+    let barred = class.barred;
+    match class.denotes {
         Some(class) => {
             let block = this_block(scopes, name.token, class);
-            this_found(scopes, extent, found, naming, name.token, class, block)
+            this_found(
+                scopes, extent, found, naming, name.token, class, barred, block,
+            )
         }
         None => Outcome::Refused,
     }
@@ -404,26 +465,57 @@ fn generates(found: &mut Found, naming: TokenNo, ty: SimType) -> Outcome
     Outcome::Called(ty)
 }
 
+/// Whether there are as many actuals as the levels of the class have parameters; this is judged where each is something.
+fn wrong_number(scopes: &Scopes, class: Denotation, actuals: Actuals) -> bool
+    ensures { result ≡ wrong_number scopes.now class actuals }
+{
+    actuals.typed && formal_count(scopes, class) != actuals.count as u128
+}
+
+#[tactic(auto, unfolding(sim_scope::specs::Judged::gives, sim_scope::specs::Runs::run))]
+fn generated(
+    found: &mut Found,
+    naming: TokenNo,
+    class: Denotation,
+    actuals: Actuals,
+    barred: bool,
+) -> Outcome
+    ensures { Judges found.old found.new result (generated naming.0 class actuals barred) }
+{
+    if barred || !actuals.typed {
+        return Outcome::Refused;
+    }
+    match actuals.misfit {
+        Some(fault) => breaks(found, fault.token, fault.rule),
+        None => generates(found, naming, class_type(class)),
+    }
+}
+
+#[tactic(auto, using(crate::proofs::Steps::new_in_steps))]
 fn new_of(
     scopes: &Scopes,
     found: &mut Found,
     naming: TokenNo,
     token: TokenNo,
     class: Denotation,
+    barred: bool,
     actuals: Actuals,
 ) -> Outcome
-    ensures { Judges found.old found.new result (new_of scopes.now naming.0 token.0 class actuals) }
+    ensures { Judges found.old found.new result (new_of scopes.now naming.0 token.0 class barred actuals) }
 {
-    if formal_count(scopes, class) != actuals.count as u128 {
-        return breaks(found, token, Rule::WrongNumber);
-    }
-    if is_only_prefix(scopes, class) {
-        return breaks(found, token, Rule::OnlyForPrefixing);
-    }
-    match actuals.misfit {
-        Some(fault) => breaks(found, fault.token, fault.rule),
-        None => generates(found, naming, class_type(class)),
-    }
+    let wrong = bars(
+        found,
+        wrong_number(scopes, class, actuals),
+        token,
+        Rule::WrongNumber,
+    );
+    let only = bars(
+        found,
+        is_only_prefix(scopes, class),
+        token,
+        Rule::OnlyForPrefixing,
+    );
+    generated(found, naming, class, actuals, wrong || only || barred)
 }
 
 /// `new`, with the actual parameters of all levels of the class.
@@ -433,19 +525,14 @@ pub(crate) fn new_object(
     found: &mut Found,
     naming: TokenNo,
     name: &Identifier,
-    class: Option<Denotation>,
+    class: Occurrence,
     actuals: Actuals,
 ) -> Outcome
     ensures { Judges found.old found.new result (new_object scopes.now naming.0 name.now class actuals) }
 {
-    match class {
-        Some(class) => {
-            if actuals.typed {
-                new_of(scopes, found, naming, name.token, class, actuals)
-            } else {
-                Outcome::Refused
-            }
-        }
+    let barred = class.barred;
+    match class.denotes {
+        Some(class) => new_of(scopes, found, naming, name.token, class, barred, actuals),
         None => Outcome::Refused,
     }
 }
