@@ -20,13 +20,13 @@ use Rattle.sim_scope.specs.declared.types.FormalKind.{FormalKind}
 use Rattle.sim_scope.specs.declared.types.Mode.TheVariants as mode
 use Rattle.sim_scope.specs.declared.types.SimType.{SimType}
 use Rattle.sim_scope.specs.declared.types.WrittenMode.{WrittenMode}
-use Rattle.sim_scope.specs.Building.{BuildingOf, Declares, Headed, Mark, block_around, broken_if, closed, closed_at, declared, deeper, found_in, headed as headed_of, level_in, marked, moded as moded_of, most_levels, opened, owner_of, parameter, placed, specified as specified_of, unspecified_at}
+use Rattle.sim_scope.specs.Building.{BuildingOf, Declares, Headed, Mark, block_around, broken_if, closed, closed_at, declared, found_in, headed as headed_of, level_in, marked, moded as moded_of, most_levels, opened, owner_of, parameter, placed, specified as specified_of, unspecified_at}
 use Rattle.sim_scope.specs.Declare.{result_named}
 use Rattle.sim_scope.specs.Runs.{run}
 use Rattle.sim_scope.specs.Access.{around}
 use Rattle.sim_scope.specs.Scopes.{declared_in, has_detach, numbered}
 use Rattle.sim_scope.specs.Source.{level_in as level_of_row}
-use Rattle.sim_scope.specs.Tables.{BlockOf}
+use Rattle.sim_scope.specs.Tables.{BlockOf, deeper}
 use Rattle.sim_scope.proofs.Kept.{kept_more, kept_set, more_here, more_other, set_here, set_other}
 use Rattle.sim_meaning.specs.Entries.{numbers_in}
 use Rattle.sim_meaning.specs.Texts.{BlockText, ProcedureText, Text}

@@ -147,8 +147,8 @@ module _ (i : ℕ) (all : Declarations) (ss : Statements) (os : List Open) where
 
   variable_adds : (type : TypeName) → PlainType type → (v : Variable) (owed : List Mark) → Adds (In (own_variable type v ++ owed)) (variable_marks type v) [] (In owed)
   unfolding own_variable variable_marks
-  variable_adds type p v owed = elim v.value as (λ o. Adds (In ((elim o [ None ↦ Declares v.name (entry.Variable (type_named type)) ∷ [] | Some c ↦ Declares v.name (entry.Constant (type_named type)) ∷ [] ]) ++ owed)) (elim o [ None ↦ Declares v.name (entry.Variable (type_named type)) ∷ qualified_marks type | Some c ↦ Declares v.name (entry.Constant (type_named type)) ∷ [] ]) [] (In owed))
-      [ None ↦ one_typed type p v.name (entry.Variable (type_named type)) owed (plain_named type p) | Some c ↦ one v.name (entry.Constant (type_named type)) owed (plain_named type p) ]
+  variable_adds type p v owed = elim v.value as (λ o. Adds (In ((elim o [ None ↦ Declares v.name (entry.Variable (type_named type)) ∷ [] | Some c ↦ Declares v.name (entry.Constant (type_named type)) ∷ [] ]) ++ owed)) (elim o [ None ↦ Declares v.name (entry.Variable (type_named type)) ∷ qualified_marks type | Some c ↦ Declares v.name (entry.Constant (type_named type)) ∷ qualified_marks type ]) [] (In owed))
+      [ None ↦ one_typed type p v.name (entry.Variable (type_named type)) owed (plain_named type p) | Some c ↦ one_typed type p v.name (entry.Constant (type_named type)) owed (plain_named type p) ]
 
   variables_add : (type : TypeName) → PlainType type → (vs : List Variable) (owed : List Mark) → Adds (In (each (own_variable type) vs ++ owed)) (each (variable_marks type) vs) [] (In owed)
   variables_add type p [] owed = none

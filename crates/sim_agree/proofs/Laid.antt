@@ -181,8 +181,8 @@ module _ (x : Text) (os : List Frame) where
 
   variable_lays : (type : TypeName) → PlainType type → (v : Variable) (u : List Part) → Lays (At u) (variable_marks type v) (in_variable v) [] (At u)
   unfolding variable_marks
-  variable_lays type p v u = elim v.value as (λ o. Lays (At u) (elim o [ None ↦ Declares v.name (entry.Variable (type_named type)) ∷ qualified_marks type | Some c ↦ Declares v.name (entry.Constant (type_named type)) ∷ [] ]) (in_variable v) [] (At u))
-      [ None ↦ typed_lays type p v.name (entry.Variable (type_named type)) u (plain_named 0 NoDeclaration NoStatement [] type p) | Some c ↦ declared_lays v.name (entry.Constant (type_named type)) u (plain_named 0 NoDeclaration NoStatement [] type p) ]
+  variable_lays type p v u = elim v.value as (λ o. Lays (At u) (elim o [ None ↦ Declares v.name (entry.Variable (type_named type)) ∷ qualified_marks type | Some c ↦ Declares v.name (entry.Constant (type_named type)) ∷ qualified_marks type ]) (in_variable v) [] (At u))
+      [ None ↦ typed_lays type p v.name (entry.Variable (type_named type)) u (plain_named 0 NoDeclaration NoStatement [] type p) | Some c ↦ typed_lays type p v.name (entry.Constant (type_named type)) u (plain_named 0 NoDeclaration NoStatement [] type p) ]
 
   variables_lay : (type : TypeName) → PlainType type → (vs : List Variable) (u : List Part) → Lays (At u) (each (variable_marks type) vs) (in_each in_variable vs) [] (At u)
   variables_lay type p [] u = none

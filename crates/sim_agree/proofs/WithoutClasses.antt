@@ -15,10 +15,10 @@ use Rattle.sim_scope.specs.declared.scopes.Denotation.TheVariants as denotation
 use Rattle.sim_scope.specs.declared.standard.StandardName.{StandardName}
 use Rattle.sim_scope.specs.declared.types.Entry.{Entry}
 use Rattle.sim_scope.specs.declared.types.StandardPrefix.{StandardPrefix}
-use Rattle.sim_scope.specs.Access.{accessible, accessible_row, block_at, encloser, holds_at, is_kind, is_open, is_so, kind_in, protects, protects_in, some_around, some_around_of}
+use Rattle.sim_scope.specs.Access.{accessible, accessible_row, block_at, encloser, holds_at, is_open, protects, protects_in, some_around, some_around_of}
 use Rattle.sim_scope.specs.Declare.{empty}
 use Rattle.sim_scope.specs.Levels.{base, base_in}
-use Rattle.sim_scope.specs.Scopes.{beyond, binding, brought_by, brought_in, declaration_from, declared_in, declared_or_standard, ends_search, entry_in, entry_is, entry_of, has_detach, is_detach, is_procedure_entry, is_virtual, level_shows, lookup, numbered, or_itself, outward, represented, represented_row, seen, seen_from, shown, shown_of, standard_at, virtual_among, virtual_of}
+use Rattle.sim_scope.specs.Scopes.{beyond, binding, brought_by, brought_in, declaration_from, declared_in, declared_or_standard, detach_in, ends_search, entry_in, entry_is, entry_of, has_detach, is_connected, is_detach, is_procedure_entry, is_virtual, level_shows, lookup, numbered, or_itself, outward, represented, represented_row, seen, seen_from, shown, shown_of, shows_detach, standard_at, virtual_among, virtual_of}
 use Rattle.sim_scope.specs.Standard.{standard_name}
 use Rattle.sim_scope.specs.Tables.{BlockOf, Tables}
 
@@ -91,13 +91,13 @@ module _ (s : Tables) (w : WithoutClasses s) where
           let none : row.standard ≡ None = ap (λ (z : Extras). z.standard) e in
           ap (λ z. elim z [ None ↦ None | Some which ↦ numbered row.brought (position (bytes_eq name) row.brought_names) ]) none
 
-  no_detach : (k : ℕ) → is_kind has_detach s k ≡ false
-  unfolding is_kind
-  no_detach k = same (slice_get s.blocks k) ∙ ap (λ (z : Extras). z.detach) (w.blocks k)
+  no_detach : (k : ℕ) → shows_detach s k ≡ false
+  unfolding shows_detach
+  no_detach k = go (slice_get s.blocks k) (w.blocks k)
     where
-      same : (o : Option BlockOf) → is_so has_detach (kind_in o) ≡ (extras_in o).detach
-      same None = refl
-      same (Some row) = refl
+      go : (o : Option BlockOf) → extras_in o ≡ no_extras → detach_in o ≡ false
+      go None e = refl
+      go (Some row) e = ap (λ z. z && is_connected row.kind row.base) (ap (λ (z : Extras). z.detach) e)
 
   all_accessible : (token : ℕ) (d : DeclNo) → accessible s token d ≡ true
   unfolding accessible
@@ -183,7 +183,7 @@ module _ (s : Tables) (w : WithoutClasses s) where
 -- a standard name that is denoted is one that is written alone
 pub standard_is : (s : Tables) (token : ℕ) (name : List ℕ) (k : StandardName) → binding s token name ≡ Some (denotation.Standard k) → standard_name name ≡ Some k
 unfolding binding standard_at
-standard_is s token name k is = go (declaration_from s (Some token) (block_at s token) name) (is_detach name && not (some_around s (is_kind has_detach s) token)) (standard_name name) is
+standard_is s token name k is = go (declaration_from s (Some token) (block_at s token) name) (is_detach name && not (some_around s (shows_detach s) token)) (standard_name name) is
   where
     go : (o : Option DeclNo) (c : Bool) (q : Option StandardName) → declared_or_standard s o (if c then None else q) ≡ Some (denotation.Standard k) → q ≡ Some k
     go (Some d) c q e = absurd (cc)

@@ -1,5 +1,5 @@
 -- What is known of the tables of an allowed program without classes, parameters by name and formal procedures.
-use Rattle.std.specs.Prelude.{◌≡◌, ◌<◌, ℕ, true, List, length, Option, Some, None}
+use Rattle.std.specs.Prelude.{◌≡◌, ◌<◌, ℕ, true, false, List, length, Option, Some, None}
 use Rattle.sim_base.specs.declared.numbering.DeclNo.{DeclNo}
 use Rattle.sim_scope.specs.declared.scopes.Denotation.TheVariants as denotation
 use Rattle.sim_scope.specs.declared.types.Entry.{Entry}
@@ -11,7 +11,7 @@ use Rattle.sim_scope.specs.declared.types.Mode.TheVariants as mode
 use Rattle.sim_scope.specs.declared.types.SimType.{SimType}
 use Rattle.sim_scope.specs.declared.types.SimType.TheVariants as t
 use Rattle.sim_scope.specs.Calls.{is_inside}
-use Rattle.sim_scope.specs.Access.{block_at}
+use Rattle.sim_scope.specs.Access.{block_at, is_connection, is_kind}
 use Rattle.sim_scope.specs.Scopes.{binding, entry_of}
 use Rattle.sim_scope.specs.Source.{Source, block_of}
 use Rattle.sim_values.specs.Plain.{Plain, kind_of}
@@ -64,3 +64,5 @@ pub record Tabled (s : Source) : Type 0 where
   pub around : (token k : ℕ) (name : List ℕ) (d : DeclNo) → block_at s.tables token ≡ Some k → binding s.tables token name ≡ Some (denotation.Declared d) → Around s.tables k (block_of s d)
   -- a token inside the text of a block
   pub inside : (token k j : ℕ) → block_at s.tables token ≡ Some k → is_inside s.tables token j ≡ true → Around s.tables k j
+  -- no block is a connection
+  pub no_connection : (k : ℕ) → is_kind is_connection s.tables k ≡ false

@@ -25,11 +25,11 @@ use Rattle.sim_scope.specs.declared.types.Mode.{Mode}
 use Rattle.sim_scope.specs.declared.types.Mode.TheVariants as mode
 use Rattle.sim_scope.specs.declared.types.SimType.{SimType}
 use Rattle.sim_scope.specs.declared.types.SimType.TheVariants as t
-use Rattle.sim_scope.specs.Actuals.{actual, array_actual, array_fits, as_value, attribute_alone, conforming, fitting, fitting_unless, formal_or_none, has_value_alone, misfitting, more, parameter_at, parameter_type, passed_procedure, procedure_actual, procedure_fits, result_in, result_matches, same_or_misfit, standard_actual, type_matches, typed_or_none, unspecified_procedure, unspecified_standard, value_fits, with_actual}
+use Rattle.sim_scope.specs.Actuals.{actual, array_actual, array_fits, as_value, attribute_alone, conforming, fitting, fitting_unless, formal_or_none, has_value_alone, left_out, misfitting, more, parameter_at, parameter_type, passed_procedure, procedure_actual, procedure_fits, result_in, result_matches, same_or_misfit, standard_actual, type_matches, typed_or_none, unspecified_procedure, unspecified_standard, value_fits, with_actual}
 use Rattle.sim_scope.specs.Calls.{parameter_count}
 use Rattle.sim_scope.specs.Expressions.{actuals, judge}
 use Rattle.sim_scope.specs.Found.{fault, lesser, lesser_of, precedes}
-use Rattle.sim_scope.specs.Judged.{Judged, gives, next}
+use Rattle.sim_scope.specs.Judged.{Judged, gives, next, telling}
 use Rattle.sim_scope.specs.Operators.{misfit_of}
 use Rattle.sim_scope.specs.Outcomes.{is_stream, type_in, valued}
 use Rattle.sim_scope.specs.Scopes.{entry_of}
@@ -149,20 +149,20 @@ module _ (s : Source) (known : Tabled s) (from : Option ℕ) (e : Expression) (f
       go shape.Procedure wanted = misfit_is r.WrongType (FitsFormal s from e shape.Procedure wanted)
 
   -- a procedure alone, for a formal parameter
-  abbrev procedure_judged : Formal → Outcome → (fits : Actual) → FormalKind → Judged Actual
-  procedure_judged f o fits k = (elim k as (λ z. Judged Actual) [ shape.Simple ↦ as_value s.tables first (parameter.Formal f) o | shape.Array ↦ gives (misfitting first r.WrongType) | shape.Procedure ↦ gives fits ])
+  abbrev procedure_judged : Formal → Outcome → (fits : Judged Actual) → FormalKind → Judged Actual
+  procedure_judged f o fits k = (elim k as (λ z. Judged Actual) [ shape.Simple ↦ as_value s.tables first (parameter.Formal f) o | shape.Array ↦ gives (misfitting first r.WrongType) | shape.Procedure ↦ fits ])
 
   procedure_is : (p : Parameter) (o : Outcome) (d : DeclNo) → Means true s from e o → AllSay s (procedure_actual s.tables first p o d).events → ActualIs s from e p (procedure_actual s.tables first p o d).value
-  unfolding gives
+  unfolding gives telling
   procedure_is parameter.Unknown o d m said = is_actual parameter.Unknown fitting (refl, λ e. tt)
   procedure_is parameter.Unspecified o d m said = go (entry_of s.tables d)
     where
-      attribute : (w given : Option SimType) → ActualIs s from e parameter.Unspecified (attribute_alone first w given)
+      attribute : (w given : Option SimType) → ActualIs s from e parameter.Unspecified (attribute_alone first w given).value
       attribute None (Some ty) = is_actual parameter.Unspecified fitting (refl, λ e. tt)
       attribute None None = is_actual parameter.Unspecified (misfitting first r.StandardNameLeftOut) (refl, λ e. tt)
       attribute (Some a) given = is_actual parameter.Unspecified (misfitting first r.StandardNameLeftOut) (refl, λ e. tt)
 
-      go : (b : Option Entry) → ActualIs s from e parameter.Unspecified (unspecified_procedure first b)
+      go : (b : Option Entry) → ActualIs s from e parameter.Unspecified (unspecified_procedure first b).value
       go (Some (entry.Attribute name w given)) = attribute w given
       go (Some (entry.Variable ty)) = is_actual parameter.Unspecified fitting (refl, λ e. tt)
       go (Some (entry.Constant ty)) = is_actual parameter.Unspecified fitting (refl, λ e. tt)
@@ -183,7 +183,7 @@ module _ (s : Source) (known : Tabled s) (from : Option ℕ) (e : Expression) (f
       matches : (o : Option SimType) → Is (procedure_fits s.tables first f o) (FitsFormal s from e shape.Procedure f.ty)
       matches o = fits f.ty (result_matches s.tables f.ty o)
 
-      passed : (b : Option Entry) → Is (passed_procedure s.tables first f b) (FitsFormal s from e shape.Procedure f.ty)
+      passed : (b : Option Entry) → Is (passed_procedure s.tables first f b).value (FitsFormal s from e shape.Procedure f.ty)
       passed (Some (entry.Attribute name w given)) = (refl, λ h. tt)
       passed (Some (entry.Variable ty)) = matches (result_in (Some (entry.Variable ty)))
       passed (Some (entry.Constant ty)) = matches (result_in (Some (entry.Constant ty)))
@@ -199,21 +199,21 @@ module _ (s : Source) (known : Tabled s) (from : Option ℕ) (e : Expression) (f
       go shape.Simple wanted same ty said = value_actual (parameter.Formal f) o m said
       go shape.Array wanted same ty said = is_actual (parameter.Formal f) (misfitting first r.WrongType) (misfit_is r.WrongType (FitsFormal s from e f.kind f.ty))
       go shape.Procedure wanted same ty said =
-          is_actual (parameter.Formal f) (passed_procedure s.tables first f (entry_of s.tables d)) (subst (λ k. Is (passed_procedure s.tables first f (entry_of s.tables d)) (FitsFormal s from e k f.ty)) (sym same) (passed (entry_of s.tables d)))
+          is_actual (parameter.Formal f) (passed_procedure s.tables first f (entry_of s.tables d)).value (subst (λ k. Is (passed_procedure s.tables first f (entry_of s.tables d)).value (FitsFormal s from e k f.ty)) (sym same) (passed (entry_of s.tables d)))
 
   -- a standard name alone
   standard_is : (p : Parameter) (o : Outcome) (g : Signature) → Means true s from e o → AllSay s (standard_actual s.tables first p o g).events → ActualIs s from e p (standard_actual s.tables first p o g).value
-  unfolding gives
+  unfolding gives telling
   standard_is parameter.Unknown o g m said = is_actual parameter.Unknown fitting (refl, λ e. tt)
-  standard_is parameter.Unspecified o g m said = is_actual parameter.Unspecified (unspecified_standard first g) (go (has_value_alone g))
+  standard_is parameter.Unspecified o g m said = is_actual parameter.Unspecified (unspecified_standard first g).value (go (has_value_alone g))
     where
-      go : (c : Bool) → Is (if c then fitting else misfitting first r.StandardNameLeftOut) (Unit {0})
+      go : (c : Bool) → Is (if c then gives fitting else left_out first).value (Unit {0})
       go true = (refl, λ h. tt)
       go false = (refl, λ h. tt)
   standard_is parameter.Subscript o g m said = value_actual parameter.Subscript o m said
   standard_is (parameter.Formal f) o g m said = go f.kind refl said
     where
-      go : (k : FormalKind) → f.kind ≡ k → AllSay s (procedure_judged f o (misfitting first r.StandardNameLeftOut) k).events → ActualIs s from e (parameter.Formal f) (procedure_judged f o (misfitting first r.StandardNameLeftOut) k).value
+      go : (k : FormalKind) → f.kind ≡ k → AllSay s (procedure_judged f o (left_out first) k).events → ActualIs s from e (parameter.Formal f) (procedure_judged f o (left_out first) k).value
       go shape.Simple same said = value_actual (parameter.Formal f) o m said
       go shape.Array same said = is_actual (parameter.Formal f) (misfitting first r.WrongType) (misfit_is r.WrongType (FitsFormal s from e f.kind f.ty))
       go shape.Procedure same said = is_actual (parameter.Formal f) (misfitting first r.StandardNameLeftOut) (misfit_is r.StandardNameLeftOut (FitsFormal s from e f.kind f.ty))
@@ -235,6 +235,7 @@ module _ (s : Source) (known : Tabled s) (from : Option ℕ) (e : Expression) (f
   actual_is p (is.Variable b) m said = value_actual p (is.Variable b) m said
   actual_is p (is.Constant b) m said = value_actual p (is.Constant b) m said
   actual_is p is.Class m said = absurd m
+  actual_is p (is.Barred b) m said = absurd m
 
 -- ---- all of them
 

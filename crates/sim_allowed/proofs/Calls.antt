@@ -83,7 +83,7 @@ no_formals : (n : ℕ) (fs : List Formal) → n ≡ 0 → n ≡ length fs → fs
 no_formals n [] a b = refl
 no_formals n (f ∷ fs) a b = absurd (omega (arith, a, b))
 
-procedure_means : (s : Source) → Tabled s → (from : Option ℕ) (e : Expression) (d : DeclNo) (token : TokenNo) (own alone : Bool) (p : ProcedureIs s from e d token own) → Unowned alone s (syntax.Named p.name NoMore)
+procedure_means : (s : Source) → Tabled s → (from : Option ℕ) (e : Expression) (d : DeclNo) (token : TokenNo) (own : Option DeclNo) (alone : Bool) (p : ProcedureIs s from e d token own) → Unowned alone s (syntax.Named p.name NoMore)
     → AllSay s (called s.tables (is.Procedure d token own)).events → Means alone s from e (called s.tables (is.Procedure d token own)).value
 unfolding called breaks gives telling
 procedure_means s known from e d token own alone p none said =
@@ -131,6 +131,7 @@ called_means s known from e (is.Array ty) m said = m
 called_means s known from e (is.Procedure d token own) m said = procedure_means s known from e d token own false m tt said
 called_means s known from e (is.Standard name token) m said = standard_means s from e name token false m tt said
 called_means s known from e is.Class m said = absurd m
+called_means s known from e (is.Barred b) m said = absurd m
 
 -- ---- values
 
@@ -153,6 +154,7 @@ value_means s from e first (is.Array ty) m said = absurd said.0
 value_means s from e first (is.Procedure d token own) m said = absurd m
 value_means s from e first (is.Standard name token) m said = absurd m
 value_means s from e first is.Class m said = absurd m
+value_means s from e first (is.Barred b) m said = absurd m
 
 pub valued_means : (s : Source) → Tabled s → (from : Option ℕ) (e : Expression) (first : ℕ) (o : Outcome) → Means true s from e o → AllSay s (valued s.tables first o).events → Valued s from e (valued s.tables first o).value
 unfolding valued next
@@ -195,3 +197,4 @@ parentheses_mean s known from e token first o m said =
     go (is.Procedure d t own) m said = absurd m
     go (is.Standard name t) m said = absurd m
     go is.Class m said = absurd m
+    go (is.Barred b) m said = absurd m

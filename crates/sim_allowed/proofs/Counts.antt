@@ -1,14 +1,17 @@
 -- How often a round tells what is at a token: at most once for each time that the token stands in the text.
-use Rattle.std.proofs.Common.{◌≡◌, ◌≤◌, ◌+◌, ℕ, Bool, true, false, List, [], ◌∷◌, ◌++◌, Option, Some, None, refl, arith, if◌then◌else◌}
-use Rattle.std.specs.Prelude.{length, nat_eq, ◌&&◌}
+use Rattle.std.proofs.Common.{◌≡◌, ◌≤◌, ◌+◌, ℕ, Bool, true, false, List, [], ◌∷◌, ◌++◌, Option, Some, None, refl, sym, subst, append-nil, arith, if◌then◌else◌}
+use Rattle.std.specs.Prelude.{length, nat_eq}
 use Rattle.sim_base.specs.declared.rule.Rule.{Rule}
 use Rattle.sim_base.specs.declared.rule.Rule.TheVariants as r
 use Rattle.sim_scope.specs.declared.found.Fault.{Fault}
 use Rattle.sim_scope.specs.declared.outcome.Actual.{Actual}
 use Rattle.sim_scope.specs.declared.outcome.Actuals.{Actuals}
+use Rattle.sim_scope.specs.declared.outcome.Barred.{Barred}
+use Rattle.sim_scope.specs.declared.outcome.Barred.TheVariants as bar
 use Rattle.sim_scope.specs.declared.outcome.Extent.{Extent}
 use Rattle.sim_scope.specs.declared.outcome.Fit.{Fit}
 use Rattle.sim_scope.specs.declared.outcome.Fit.TheVariants as fit
+use Rattle.sim_scope.specs.declared.outcome.Occurrence.{Occurrence}
 use Rattle.sim_scope.specs.declared.outcome.Outcome.{Outcome}
 use Rattle.sim_scope.specs.declared.outcome.Outcome.TheVariants as is
 use Rattle.sim_scope.specs.declared.outcome.Parameter.{Parameter}
@@ -26,13 +29,13 @@ use Rattle.sim_scope.specs.declared.types.FormalKind.{FormalKind}
 use Rattle.sim_scope.specs.declared.types.FormalKind.TheVariants as shape
 use Rattle.sim_scope.specs.declared.types.SimType.{SimType}
 use Rattle.sim_scope.specs.declared.types.SimType.TheVariants as t
-use Rattle.sim_scope.specs.Actuals.{actual, array_actual, as_value, misfitting, more, parameter_at, passed_procedure, procedure_actual, standard_actual, value_fits, with_actual}
-use Rattle.sim_scope.specs.Calls.{alone, applied, attribute, attribute_by_value, attribute_count, attribute_found, attribute_in, attribute_missing, attribute_of_type, attribute_of_value, bound, declared_alone, declared_applied, element_of, formal_alone, formal_applied, found_as, in_its_match, is_barred, is_inside, is_undotted, located, misfitting_or, missing, parameter_count, procedure_alone, remote, remote_as, remote_in, resulting, standard_applied, typed_if, used, used_in, used_or_barred}
+use Rattle.sim_scope.specs.Actuals.{actual, array_actual, as_value, attribute_alone, barred_actual, barred_alone, fitting, has_value_alone, left_out, misfitting, more, parameter_at, passed_procedure, procedure_actual, standard_actual, unspecified_procedure, untyped, value_fits, with_actual}
+use Rattle.sim_scope.specs.Calls.{alone, applied, applied_untyped, attribute, attribute_by_value, attribute_count, attribute_found, attribute_in, attribute_missing, attribute_of_type, attribute_of_value, bound, declared_alone, declared_applied, element_of, formal_alone, formal_applied, found_as, is_barred, is_undotted, located, match_seen, misfitting_or, missing, own_undotted, parameter_count, procedure_alone, remote, remote_as, remote_at, remote_in, resulting, standard_applied, typed_if, used, used_as, used_in, used_or_barred, used_there}
 use Rattle.sim_scope.specs.Found.{Event, Broken, FoundIn, Typed, Uses}
-use Rattle.sim_scope.specs.Judged.{Judged, gives, next, telling}
+use Rattle.sim_scope.specs.Judged.{Judged, bars, gives, next, telling}
 use Rattle.sim_scope.specs.Levels.{class_block, has_classes}
 use Rattle.sim_scope.specs.Operators.{common_type, is_same, operands_fit}
-use Rattle.sim_scope.specs.Outcomes.{arms_fit, breaks, call_of, called, fitted, has, in_common, in_parentheses, is_stream, one, parenthesized, procedure_called, side, side_of, signature_called, standard_called, three, two, type_in, type_wanted, types_fit, value_of, valued, varies}
+use Rattle.sim_scope.specs.Outcomes.{arms_fit, barred_called, breaks, call_of, called, fitted, has, in_common, in_parentheses, is_stream, one, parenthesized, procedure_called, side, side_of, signature_called, standard_called, three, two, type_in, type_wanted, types_fit, value_of, valued, varies, without_type}
 use Rattle.sim_scope.specs.Scopes.{binding, entry_of, formals_of, found_in, is_passed_over}
 use Rattle.sim_scope.specs.Standard.{is_standard_class, signature, sysin_attribute, sysout_attribute, text_attribute, undeclared}
 use Rattle.sim_scope.specs.Tables.{Tables}
@@ -84,6 +87,11 @@ silent_none k t = refl
 pub silent_break : (token : ℕ) (rule : Rule) → Silent (Broken token rule ∷ [])
 unfolding Silent told
 silent_break token rule k t = refl
+
+pub bars_silent : (b : Bool) (token : ℕ) (rule : Rule) → Silent (bars b token rule).events
+unfolding bars telling gives
+bars_silent true token rule = silent_break token rule
+bars_silent false token rule = silent_none
 
 pub silent_both : (xs ys : List Event) → Silent xs → Silent ys → Silent (xs ++ ys)
 unfolding Silent
@@ -141,6 +149,13 @@ standard_silent token name = go (is_stream name)
     go true = silent_break token r.StandardNameLeftOut
     go false = second (signature name).first
 
+barred_call_silent : (s : Tables) (b : Barred) → Silent (barred_called s b).events
+unfolding gives
+barred_call_silent s (bar.Procedure d token) = silent_next (procedure_called token.0 (length (formals_of s d)) (entry_of s d)) without_type (call_silent token.0 (length (formals_of s d)) (entry_of s d)) silent_none
+barred_call_silent s (bar.Standard name token) = silent_next (standard_called token.0 name) without_type (standard_silent token.0 name) silent_none
+barred_call_silent s (bar.Array ty) = silent_none
+barred_call_silent s bar.Class = silent_none
+
 pub called_silent : (s : Tables) (o : Outcome) → Silent (called s o).events
 unfolding called gives
 called_silent s (is.Procedure d token own) = call_silent token.0 (length (formals_of s d)) (entry_of s d)
@@ -154,6 +169,7 @@ called_silent s (is.Variable ty) = silent_none
 called_silent s (is.Constant ty) = silent_none
 called_silent s (is.Array ty) = silent_none
 called_silent s is.Class = silent_none
+called_silent s (is.Barred b) = barred_call_silent s b
 
 value_silent : (first : ℕ) (o : Outcome) → Silent (value_of first o).events
 unfolding value_of gives breaks telling
@@ -166,6 +182,10 @@ value_silent first (is.Variable ty) = silent_none
 value_silent first (is.Constant ty) = silent_none
 value_silent first (is.Array ty) = silent_break first r.WrongKind
 value_silent first is.Class = silent_break first r.WrongKind
+value_silent first (is.Barred (bar.Array ty)) = silent_break first r.WrongKind
+value_silent first (is.Barred bar.Class) = silent_break first r.WrongKind
+value_silent first (is.Barred (bar.Procedure d token)) = silent_none
+value_silent first (is.Barred (bar.Standard name token)) = silent_none
 value_silent first (is.Procedure d token own) = silent_none
 value_silent first (is.Standard name token) = silent_none
 
@@ -188,6 +208,7 @@ parentheses_silent first (is.Variable ty) = value_silent first (is.Variable ty)
 parentheses_silent first (is.Constant ty) = value_silent first (is.Constant ty)
 parentheses_silent first (is.Array ty) = value_silent first (is.Array ty)
 parentheses_silent first is.Class = value_silent first is.Class
+parentheses_silent first (is.Barred b) = value_silent first (is.Barred b)
 parentheses_silent first (is.Procedure d token own) = value_silent first (is.Procedure d token own)
 parentheses_silent first (is.Standard name token) = value_silent first (is.Standard name token)
 
@@ -275,22 +296,35 @@ unfolding telling
 attribute_uses_found x None = using_silent x.token.0 (Broken x.token.0 (undeclared x.name) ∷ []) (silent_break x.token.0 (undeclared x.name))
 attribute_uses_found x (Some name) = using_one x.token.0 (denotation.Standard name)
 
+silent_then_using : (i : ℕ) (xs ys : List Event) → Silent xs → Using i ys → Using i (xs ++ ys)
+unfolding Silent Using
+silent_then_using i xs ys h j k t = let a = told_both k t xs ys in let b = h k t in let c = j k t in omega (arith, a, b, c)
+
+using_then_silent : (i : ℕ) (xs ys : List Event) → Using i xs → Silent ys → Using i (xs ++ ys)
+unfolding Silent Using
+using_then_silent i xs ys h j k t = let a = told_both k t xs ys in let b = h k t in let c = j k t in omega (arith, a, b, c)
+
 remote_uses : (s : Tables) (e : Extent) (x : Identifier) (class : _) → Using x.token.0 (remote s e x class).events
-unfolding remote telling gives
+unfolding remote telling gives next
 remote_uses s e x class = go (class_block s class)
   where
-    barred : (block : ℕ) (d : Denotation) (b c : Bool) → Using x.token.0 (if b then telling (Broken x.token.0 r.ClassWithClasses) None else used_or_barred x.token.0 d c).events
-    barred block d true c = using_silent x.token.0 (Broken x.token.0 r.ClassWithClasses ∷ []) (silent_break x.token.0 r.ClassWithClasses)
-    barred block d false true = using_silent x.token.0 (Broken x.token.0 r.BoundDependsOnItsBlock ∷ []) (silent_break x.token.0 r.BoundDependsOnItsBlock)
-    barred block d false false = using_one x.token.0 d
+    barred : (d : Denotation) (b : Bool) → Using x.token.0 (used_or_barred x.token.0 d b).events
+    barred d true = using_silent x.token.0 (Broken x.token.0 r.BoundDependsOnItsBlock ∷ []) (silent_break x.token.0 r.BoundDependsOnItsBlock)
+    barred d false = using_one x.token.0 d
 
     found_in : (block : ℕ) (o : Option Denotation) → Using x.token.0 (remote_as s e x block o).events
     found_in block None = using_silent x.token.0 (Broken x.token.0 (attribute_missing s block x) ∷ []) (silent_break x.token.0 (attribute_missing s block x))
-    found_in block (Some d) = barred block d (has_classes s block) (is_barred s e x.token.0 d)
+    found_in block (Some d) = barred d (is_barred s e x.token.0 d)
+
+    there : (block : ℕ) (b : Bool) → Using x.token.0 (remote_at s e x block b).events
+    there block b =
+        using_then_silent x.token.0 (remote_as s e x block (attribute_in s x.token.0 block x.name)).events [] (found_in block (attribute_in s x.token.0 block x.name)) silent_none
 
     go : (o : Option ℕ) → Using x.token.0 (remote_in s e x o).events
     go None = using_silent x.token.0 [] silent_none
-    go (Some block) = found_in block (attribute_in s x.token.0 block x.name)
+    go (Some block) =
+        let class = bars (has_classes s block) x.token.0 r.ClassWithClasses in
+        silent_then_using x.token.0 class.events (remote_at s e x block class.value).events (bars_silent (has_classes s block) x.token.0 r.ClassWithClasses) (there block class.value)
 
 attribute_uses_type : (s : Tables) (e : Extent) (x : Identifier) (first : ℕ) (ty : Option SimType) → Using x.token.0 (attribute_of_type s e x first ty).events
 unfolding telling gives
@@ -301,10 +335,6 @@ attribute_uses_type s e x first (Some t.NoneType) = attribute_uses_found x None
 attribute_uses_type s e x first (Some t.Integer) = using_silent x.token.0 (Broken first r.WrongType ∷ []) (silent_break first r.WrongType)
 attribute_uses_type s e x first (Some t.Boolean) = using_silent x.token.0 (Broken first r.WrongType ∷ []) (silent_break first r.WrongType)
 attribute_uses_type s e x first (Some t.Character) = using_silent x.token.0 (Broken first r.WrongType ∷ []) (silent_break first r.WrongType)
-
-silent_then_using : (i : ℕ) (xs ys : List Event) → Silent xs → Using i ys → Using i (xs ++ ys)
-unfolding Silent Using
-silent_then_using i xs ys h j k t = let a = told_both k t xs ys in let b = h k t in let c = j k t in omega (arith, a, b, c)
 
 attribute_uses_value : (s : Tables) (e : Extent) (x : Identifier) (first : ℕ) (o : Outcome) → Using x.token.0 (attribute_by_value s e x first o).events
 unfolding attribute_by_value next attribute_of_value
@@ -352,12 +382,12 @@ module _ (s : Tables) (naming : ℕ) (x : Identifier) where
   declared_types d (Some (entry.Variable ty)) = typing_one naming ty
   declared_types d (Some (entry.Constant ty)) = typing_one naming ty
   declared_types d (Some (entry.Array e n)) = no_types
-  declared_types d (Some (entry.Procedure result block)) = if_typed naming result (procedure_alone d x (is_undotted naming x && is_inside s x.token.0 block))
+  declared_types d (Some (entry.Procedure result block)) = if_typed naming result (procedure_alone d x (own_undotted s x (is_undotted naming x) (Some d)))
   declared_types d (Some (entry.Class block)) = no_types
-  declared_types d (Some (entry.Virtual result own)) = if_typed naming result (procedure_alone d x (is_undotted naming x && in_its_match s x))
-  declared_types d (Some (entry.Formal f)) = formal_types f f.ty (procedure_alone d x false)
+  declared_types d (Some (entry.Virtual result own)) = if_typed naming result (procedure_alone d x (own_undotted s x (is_undotted naming x) (match_seen s x)))
+  declared_types d (Some (entry.Formal f)) = formal_types f f.ty (procedure_alone d x None)
   declared_types d (Some (entry.Unspecified w)) = no_types
-  declared_types d (Some (entry.Attribute name parameter result)) = if_typed naming result (procedure_alone d x false)
+  declared_types d (Some (entry.Attribute name parameter result)) = if_typed naming result (procedure_alone d x None)
 
   alone_types : (d : Denotation) → Typing naming (alone s naming x d).events
   unfolding alone gives
@@ -426,15 +456,35 @@ module _ (s : Tables) (naming : ℕ) (x : Identifier) where
   applied_types token (denotation.Declared d) a = declared_applied_types token (entry_of s d) (length (formals_of s d)) a
   applied_types token (denotation.Standard name) a = standard_applied_types token name (signature name) a
 
-  pub used_types : (o : Option Denotation) (a : Actuals) → Typing naming (used s naming x o a).events
-  unfolding used gives
-  used_types None a = no_types
-  used_types (Some d) a = go (nat_eq a.count 0) a.typed
+  untyped_types : (token : ℕ) (d : Denotation) → Typing naming (applied_untyped token d).events
+  unfolding applied_untyped gives breaks telling
+  untyped_types token (denotation.Declared d) = no_types
+  untyped_types token (denotation.Standard name) = go (is_stream name)
     where
-      go : (b c : Bool) → Typing naming (if b then alone s naming x d else if c then applied s naming x.token.0 d a else gives is.Refused).events
+      go : (b : Bool) → Typing naming (if b then breaks token r.StandardNameLeftOut else gives is.Refused).events
+      go true = broken_types token r.StandardNameLeftOut
+      go false = no_types
+
+  used_as_types : (d : Denotation) (a : Actuals) → Typing naming (used_as s naming x d a).events
+  used_as_types d a = go (nat_eq a.count 0) a.typed
+    where
+      go : (b c : Bool) → Typing naming (if b then alone s naming x d else if c then applied s naming x.token.0 d a else applied_untyped x.token.0 d).events
       go true c = alone_types d
       go false true = applied_types x.token.0 d a
-      go false false = no_types
+      go false false = untyped_types x.token.0 d
+
+  typing_more : (es : List Event) → Typing naming es → Typing naming (es ++ [])
+  unfolding Typing
+  typing_more es h k t = subst (λ z. told k t z ≤ types_at k t naming) (sym (append-nil es)) (h k t)
+
+  pub used_types : (o : Occurrence) (a : Actuals) → Typing naming (used s naming x o a).events
+  unfolding used gives next
+  used_types o a = go o.denotes o.barred
+    where
+      go : (d : Option Denotation) (b : Bool) → Typing naming (used_there s naming x d b a).events
+      go None b = no_types
+      go (Some d) false = used_as_types d a
+      go (Some d) true = typing_more (used_as s naming x d a).events (used_as_types d a)
 
 -- ---- actuals
 
@@ -450,18 +500,54 @@ module _ (s : Tables) (first : ℕ) where
   array_silent parameter.Unknown o ty = silent_none
   array_silent parameter.Unspecified o ty = silent_none
 
+  left_out_silent : Silent (left_out first).events
+  unfolding telling
+  left_out_silent = silent_break first r.StandardNameLeftOut
+
+  passed_silent : (f : Formal) (e : Option Entry) → Silent (passed_procedure s first f e).events
+  unfolding gives
+  passed_silent f (Some (entry.Attribute name parameter result)) = left_out_silent
+  passed_silent f None = silent_none
+  passed_silent f (Some (entry.Variable ty)) = silent_none
+  passed_silent f (Some (entry.Constant ty)) = silent_none
+  passed_silent f (Some (entry.Array e n)) = silent_none
+  passed_silent f (Some (entry.Procedure result block)) = silent_none
+  passed_silent f (Some (entry.Class block)) = silent_none
+  passed_silent f (Some (entry.Virtual result own)) = silent_none
+  passed_silent f (Some (entry.Formal g)) = silent_none
+  passed_silent f (Some (entry.Unspecified w)) = silent_none
+
+  alone_silent : (parameter result : Option SimType) → Silent (attribute_alone first parameter result).events
+  unfolding gives
+  alone_silent None (Some ty) = silent_none
+  alone_silent None None = left_out_silent
+  alone_silent (Some p) result = left_out_silent
+
+  unspecified_silent : (e : Option Entry) → Silent (unspecified_procedure first e).events
+  unfolding gives
+  unspecified_silent (Some (entry.Attribute name parameter result)) = alone_silent parameter result
+  unspecified_silent None = silent_none
+  unspecified_silent (Some (entry.Variable ty)) = silent_none
+  unspecified_silent (Some (entry.Constant ty)) = silent_none
+  unspecified_silent (Some (entry.Array e n)) = silent_none
+  unspecified_silent (Some (entry.Procedure result block)) = silent_none
+  unspecified_silent (Some (entry.Class block)) = silent_none
+  unspecified_silent (Some (entry.Virtual result own)) = silent_none
+  unspecified_silent (Some (entry.Formal g)) = silent_none
+  unspecified_silent (Some (entry.Unspecified w)) = silent_none
+
   procedure_silent : (p : Parameter) (o : Outcome) (d : _) → Silent (procedure_actual s first p o d).events
   unfolding gives
   procedure_silent parameter.Subscript o d = as_value_silent parameter.Subscript o
   procedure_silent (parameter.Formal f) o d = go f.kind
     where
       go : (k : FormalKind)
-          → Silent (elim k as (λ z. Judged Actual) [ shape.Simple ↦ as_value s first (parameter.Formal f) o | shape.Array ↦ gives (misfitting first r.WrongType) | shape.Procedure ↦ gives (passed_procedure s first f (entry_of s d)) ]).events
+          → Silent (elim k as (λ z. Judged Actual) [ shape.Simple ↦ as_value s first (parameter.Formal f) o | shape.Array ↦ gives (misfitting first r.WrongType) | shape.Procedure ↦ passed_procedure s first f (entry_of s d) ]).events
       go shape.Simple = as_value_silent (parameter.Formal f) o
       go shape.Array = silent_none
-      go shape.Procedure = silent_none
+      go shape.Procedure = passed_silent f (entry_of s d)
   procedure_silent parameter.Unknown o d = silent_none
-  procedure_silent parameter.Unspecified o d = silent_none
+  procedure_silent parameter.Unspecified o d = unspecified_silent (entry_of s d)
 
   standard_name_silent : (p : Parameter) (o : Outcome) (g : Signature) → Silent (standard_actual s first p o g).events
   unfolding gives
@@ -469,12 +555,26 @@ module _ (s : Tables) (first : ℕ) where
   standard_name_silent (parameter.Formal f) o g = go f.kind
     where
       go : (k : FormalKind)
-          → Silent (elim k as (λ z. Judged Actual) [ shape.Simple ↦ as_value s first (parameter.Formal f) o | shape.Array ↦ gives (misfitting first r.WrongType) | shape.Procedure ↦ gives (misfitting first r.StandardNameLeftOut) ]).events
+          → Silent (elim k as (λ z. Judged Actual) [ shape.Simple ↦ as_value s first (parameter.Formal f) o | shape.Array ↦ gives (misfitting first r.WrongType) | shape.Procedure ↦ left_out first ]).events
       go shape.Simple = as_value_silent (parameter.Formal f) o
       go shape.Array = silent_none
-      go shape.Procedure = silent_none
+      go shape.Procedure = left_out_silent
   standard_name_silent parameter.Unknown o g = silent_none
-  standard_name_silent parameter.Unspecified o g = silent_none
+  standard_name_silent parameter.Unspecified o g = go (has_value_alone g)
+    where
+      go : (b : Bool) → Silent (if b then gives fitting else left_out first).events
+      go true = silent_none
+      go false = left_out_silent
+
+  barred_alone_silent : (p : Parameter) (b : Barred) → Silent (barred_alone s first p b).events
+  barred_alone_silent p (bar.Array element) = array_silent p (is.Barred (bar.Array element)) element
+  barred_alone_silent p bar.Class = as_value_silent p (is.Barred bar.Class)
+  barred_alone_silent p (bar.Procedure d token) = procedure_silent p (is.Barred (bar.Procedure d token)) d
+  barred_alone_silent p (bar.Standard name token) = standard_name_silent p (is.Barred (bar.Standard name token)) (signature name)
+
+  barred_silent : (p : Parameter) (b : Barred) → Silent (barred_actual s first p b).events
+  unfolding gives
+  barred_silent p b = silent_next (barred_alone s first p b) (λ x. gives untyped) (barred_alone_silent p b) silent_none
 
   actual_silent : (p : Parameter) (o : Outcome) → Silent (actual s first p o).events
   unfolding actual
@@ -493,6 +593,7 @@ module _ (s : Tables) (first : ℕ) where
   actual_silent p (is.Variable ty) = as_value_silent p (is.Variable ty)
   actual_silent p (is.Constant ty) = as_value_silent p (is.Constant ty)
   actual_silent p is.Class = as_value_silent p is.Class
+  actual_silent p (is.Barred b) = barred_silent p b
 
   pub more_silent : (d : Option Denotation) (a : Actuals) (o : Outcome) → Silent (more s d a first o).events
   unfolding more gives

@@ -56,7 +56,7 @@ literal_means s from i syntax.NoText p there said = (record { proper = tt; texts
 
 bound_said : (s : Source) (x : Extent) (name : Identifier) (es : Expressions) → AllSay s (judge s.tables x (syntax.Named name es)).events → AllSay s (bound s.tables x name).events
 unfolding judge
-bound_said s x name es said = (next_says s (bound s.tables x name) (λ d. next (actuals s.tables x d no_actuals es) (used s.tables name.token.0 name d)) said).0
+bound_said s x name es said = (next_says s (bound s.tables x name) (λ d. next (actuals s.tables x d.denotes no_actuals es) (used s.tables name.token.0 name d)) said).0
 
 module _ (s : Source) (known : Tabled s) (from : Option ℕ) (x : Extent) (k : ℕ) (sight : Sight s from x k) where
   -- an operand
@@ -105,41 +105,41 @@ module _ (s : Source) (known : Tabled s) (from : Option ℕ) (x : Extent) (k : �
   named : (name : Identifier) (es : Expressions) → PlainName name → PlacedExpression s.tables k (syntax.Named name es) → AllKnown s from x es → Known s from x (syntax.Named name es)
   unfolding judge next actuals gives
   named name es plain placed all said =
-      let parts = next_says s (bound s.tables x name) (λ d. next (actuals s.tables x d no_actuals es) (used s.tables name.token.0 name d)) said in
+      let parts = next_says s (bound s.tables x name) (λ d. next (actuals s.tables x d.denotes no_actuals es) (used s.tables name.token.0 name d)) said in
       let d = (bound s.tables x name).value in
-      let more = next_says s (actuals s.tables x d no_actuals es) (used s.tables name.token.0 name d) parts.1 in
+      let more = next_says s (actuals s.tables x d.denotes no_actuals es) (used s.tables name.token.0 name d) parts.1 in
       go es all more.0 more.1
     where
       bound_to : BoundIs s x name (bound s.tables x name).value
       bound_to = bound_is s x name (bound_said s x name es said)
 
-      go : (es : Expressions) → AllKnown s from x es → AllSay s (actuals s.tables x (bound s.tables x name).value no_actuals es).events
-          → AllSay s (used s.tables name.token.0 name (bound s.tables x name).value (actuals s.tables x (bound s.tables x name).value no_actuals es).value).events
-          → Means true s from (syntax.Named name es) (used s.tables name.token.0 name (bound s.tables x name).value (actuals s.tables x (bound s.tables x name).value no_actuals es).value).value
+      go : (es : Expressions) → AllKnown s from x es → AllSay s (actuals s.tables x (bound s.tables x name).value.denotes no_actuals es).events
+          → AllSay s (used s.tables name.token.0 name (bound s.tables x name).value (actuals s.tables x (bound s.tables x name).value.denotes no_actuals es).value).events
+          → Means true s from (syntax.Named name es) (used s.tables name.token.0 name (bound s.tables x name).value (actuals s.tables x (bound s.tables x name).value.denotes no_actuals es).value).value
       go NoMore all first last = named_alone s known from name x k sight placed.0 plain (bound s.tables x name).value bound_to last
       go (Then e es) all first last =
-          named_with s known from name x k sight placed.0 plain e es (bound s.tables x name).value bound_to (actuals s.tables x (bound s.tables x name).value no_actuals (Then e es)).value
-          (actuals_are s known from x (bound s.tables x name).value (Then e es) all no_actuals first) last
+          named_with s known from name x k sight placed.0 plain e es (bound s.tables x name).value bound_to (actuals s.tables x (bound s.tables x name).value.denotes no_actuals (Then e es)).value
+          (actuals_are s known from x (bound s.tables x name).value.denotes (Then e es) all no_actuals first) last
 
   behind_dot : (i : ℕ) (a : Expression) (name : Identifier) (es : Expressions) → Known s from x a → AllKnown s from x es → Known s from x (syntax.Dot i a name es)
   unfolding judge next actuals gives
   behind_dot i a name es h all said =
-      let parts = next_says s (next (judge s.tables x a) (attribute s.tables x name (first_of a))) (λ d. next (actuals s.tables x d no_actuals es) (used s.tables i name d)) said in
+      let parts = next_says s (next (judge s.tables x a) (attribute s.tables x name (first_of a))) (λ d. next (actuals s.tables x d.denotes no_actuals es) (used s.tables i name d)) said in
       let inner = next_says s (judge s.tables x a) (attribute s.tables x name (first_of a)) parts.0 in
       let o = (judge s.tables x a).value in
       let d = (attribute s.tables x name (first_of a) o).value in
       let b = attribute_is s known from a x name (first_of a) o (h inner.0) inner.1 in
-      let more = next_says s (actuals s.tables x d no_actuals es) (used s.tables i name d) parts.1 in
+      let more = next_says s (actuals s.tables x d.denotes no_actuals es) (used s.tables i name d) parts.1 in
       go b es all more.0 more.1
     where
       go : AttributeIs s from a name (attribute s.tables x name (first_of a) (judge s.tables x a).value).value → (es : Expressions) → AllKnown s from x es
-          → AllSay s (actuals s.tables x (attribute s.tables x name (first_of a) (judge s.tables x a).value).value no_actuals es).events
-          → AllSay s (used s.tables i name (attribute s.tables x name (first_of a) (judge s.tables x a).value).value (actuals s.tables x (attribute s.tables x name (first_of a) (judge s.tables x a).value).value no_actuals es).value).events
-          → Means true s from (syntax.Dot i a name es) (used s.tables i name (attribute s.tables x name (first_of a) (judge s.tables x a).value).value (actuals s.tables x (attribute s.tables x name (first_of a) (judge s.tables x a).value).value no_actuals es).value).value
+          → AllSay s (actuals s.tables x (attribute s.tables x name (first_of a) (judge s.tables x a).value).value.denotes no_actuals es).events
+          → AllSay s (used s.tables i name (attribute s.tables x name (first_of a) (judge s.tables x a).value).value (actuals s.tables x (attribute s.tables x name (first_of a) (judge s.tables x a).value).value.denotes no_actuals es).value).events
+          → Means true s from (syntax.Dot i a name es) (used s.tables i name (attribute s.tables x name (first_of a) (judge s.tables x a).value).value (actuals s.tables x (attribute s.tables x name (first_of a) (judge s.tables x a).value).value.denotes no_actuals es).value).value
       go b NoMore all first last = dot_alone s known from a x name i (attribute s.tables x name (first_of a) (judge s.tables x a).value).value b last
       go b (Then e es) all first last =
-          dot_with s known from a x name i (attribute s.tables x name (first_of a) (judge s.tables x a).value).value b e es (actuals s.tables x (attribute s.tables x name (first_of a) (judge s.tables x a).value).value no_actuals (Then e es)).value
-          (actuals_are s known from x (attribute s.tables x name (first_of a) (judge s.tables x a).value).value (Then e es) all no_actuals first) last
+          dot_with s known from a x name i (attribute s.tables x name (first_of a) (judge s.tables x a).value).value b e es (actuals s.tables x (attribute s.tables x name (first_of a) (judge s.tables x a).value).value.denotes no_actuals (Then e es)).value
+          (actuals_are s known from x (attribute s.tables x name (first_of a) (judge s.tables x a).value).value.denotes (Then e es) all no_actuals first) last
 
   literal : (i : ℕ) (l : Literal) → PlainLiteral l → AllThere s (expression_constants (syntax.Constant l i)) → Known s from x (syntax.Constant l i)
   unfolding judge

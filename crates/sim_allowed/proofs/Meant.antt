@@ -8,7 +8,7 @@ use Rattle.sim_scope.specs.declared.scopes.Denotation.TheVariants as denotation
 use Rattle.sim_scope.specs.declared.standard.StandardName.{StandardName}
 use Rattle.sim_scope.specs.declared.types.Entry.TheVariants as entry
 use Rattle.sim_scope.specs.declared.types.SimType.{SimType}
-use Rattle.sim_scope.specs.Calls.{is_inside}
+use Rattle.sim_scope.specs.Calls.{if_own, is_inside}
 use Rattle.sim_scope.specs.Outcomes.{is_stream}
 use Rattle.sim_scope.specs.Scopes.{entry_of}
 use Rattle.sim_scope.specs.Source.{Source, block_of, denoted}
@@ -56,7 +56,7 @@ TypeThere s e None = Unit {0}
 TypeThere s e (Some ty) = ProperType ty × (is_text s e ≡ is_text_type (Some ty)) × (stream_of s e ≡ None)
 
 -- the identifier of a procedure alone
-pub record ProcedureIs (s : Source) (from : Option ℕ) (e : Expression) (d : DeclNo) (token : TokenNo) (own : Bool) : Type 0 where
+pub record ProcedureIs (s : Source) (from : Option ℕ) (e : Expression) (d : DeclNo) (token : TokenNo) (own : Option DeclNo) : Type 0 where
   pub name : Identifier
   pub is : e ≡ syntax.Named name NoMore
   pub at : name.token ≡ token
@@ -65,7 +65,8 @@ pub record ProcedureIs (s : Source) (from : Option ℕ) (e : Expression) (d : De
   pub block : ℕ
   pub declared : entry_of s.tables d ≡ Some (entry.Procedure result block)
   pub typed : TypeThere s (syntax.Named name NoMore) result
-  pub inside : own ≡ is_inside s.tables name.token.0 block
+  -- as a left side it is the result inside the text of the procedure
+  pub inside : own ≡ if_own (is_inside s.tables name.token.0 block) (Some d)
   pub sees : Sees s.tables from (block_of s d)
 
 -- a standard name alone
@@ -93,3 +94,4 @@ Means alone s from e (is.Array ty) = ProperType ty × ExprIs s from e (ArrayOf (
 Means alone s from e (is.Procedure d token own) = Only alone (ProcedureIs s from e d token own)
 Means alone s from e (is.Standard name token) = Only alone (StandardIs s from e name)
 Means alone s from e is.Class = ⊥
+Means alone s from e (is.Barred b) = ⊥

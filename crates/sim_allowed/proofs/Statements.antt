@@ -7,6 +7,7 @@ use Rattle.sim_base.specs.declared.rule.Rule.TheVariants as r
 use Rattle.sim_scope.specs.declared.outcome.Extent.{Extent}
 use Rattle.sim_scope.specs.declared.outcome.Extent.TheVariants as extent
 use Rattle.sim_scope.specs.declared.outcome.LeftSides.{LeftSides}
+use Rattle.sim_scope.specs.declared.outcome.Occurrence.{Occurrence}
 use Rattle.sim_scope.specs.declared.outcome.Outcome.{Outcome}
 use Rattle.sim_scope.specs.declared.outcome.Outcome.TheVariants as is
 use Rattle.sim_scope.specs.declared.outcome.Side.{Side}
@@ -93,6 +94,7 @@ stands_alone s k e first (is.Array ty) m said = absurd said.0
 stands_alone s k e first (is.Procedure d token own) m said = absurd m
 stands_alone s k e first (is.Standard name token) m said = absurd m
 stands_alone s k e first is.Class m said = absurd m
+stands_alone s k e first (is.Barred b) m said = absurd m
 
 pub call_typed : (s : Source) → Tabled s → (k : ℕ) (e : Expression) → Known s (Some k) extent.Statement e → AllSay s (call_events s.tables e) → CallIs s k e
 unfolding call_events stands
@@ -196,8 +198,8 @@ module _ (s : Source) (known : Tabled s) (k : ℕ) (sight : Sight s (Some k) ext
     unfolding controlled next simple telling
     controlled_is placed said = go (bound s.tables extent.Statement x).value (bound_is s extent.Statement x parts.0) parts.1
       where
-        parts : AllSay s (bound s.tables extent.Statement x).events × AllSay s (simple s.tables sign x.token.0 (bound s.tables extent.Statement x).value).events
-        parts = next_says s (bound s.tables extent.Statement x) (simple s.tables sign x.token.0) said
+        parts : AllSay s (bound s.tables extent.Statement x).events × AllSay s (simple s.tables sign x.token.0 (bound s.tables extent.Statement x).value.denotes).events
+        parts = next_says s (bound s.tables extent.Statement x) (λ o. simple s.tables sign x.token.0 o.denotes) said
 
         denotes : (d : Denotation) → denoted s x.token.0 ≡ Some d → binding s.tables x.token.0 x.name ≡ Some d → is_barred s.tables extent.Statement x.token.0 d ≡ false → AllSay s (simple s.tables sign x.token.0 (Some d)).events
             → ControlledIs s k sign x (simple s.tables sign x.token.0 (Some d)).value
@@ -207,8 +209,8 @@ module _ (s : Source) (known : Tabled s) (k : ℕ) (sight : Sight s (Some k) ext
             (entry_is d says there.0 there.1 (known.proper d there.0 there.1) (sight x.token.0 x.name d there.0 placed binds open_to there.1) (subst (λ z. AllSay s (entry_controlled sign x.token.0 z).events) there.1 said))
         denotes (denotation.Standard name) says binds open_to said = absurd said.0
 
-        go : (o : Option Denotation) → BoundIs s extent.Statement x o → AllSay s (simple s.tables sign x.token.0 o).events → ControlledIs s k sign x (simple s.tables sign x.token.0 o).value
-        go o b said = subst (λ z. ControlledIs s k sign x (simple s.tables sign x.token.0 z).value) (sym b.is) (denotes b.denotation b.says b.binds b.open_to (subst (λ z. AllSay s (simple s.tables sign x.token.0 z).events) b.is said))
+        go : (o : Occurrence) → BoundIs s extent.Statement x o → AllSay s (simple s.tables sign x.token.0 o.denotes).events → ControlledIs s k sign x (simple s.tables sign x.token.0 o.denotes).value
+        go o b said = subst (λ (z : Occurrence). ControlledIs s k sign x (simple s.tables sign x.token.0 z.denotes).value) (sym b.is) (denotes b.denotation b.says b.binds b.open_to (subst (λ (z : Occurrence). AllSay s (simple s.tables sign x.token.0 z.denotes).events) b.is said))
 
   -- ---- elements
 

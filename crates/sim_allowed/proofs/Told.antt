@@ -135,15 +135,15 @@ module _ (s : Tables) (x : Extent) where
   named_tells : (name : Identifier) (es : Expressions) → TellsAll es → Tells (syntax.Named name es)
   unfolding judge next
   named_tells name es h l =
-      let d = (bound s x name).value in let a = (actuals s x d no_actuals es).value in
-      covers_named name.token.0 (bound s x name).events (actuals s x d no_actuals es).events (used s name.token.0 name d a).events l (all_named es l) (bound_uses s x name) (h d no_actuals l) (used_types s name.token.0 name d a)
+      let d = (bound s x name).value in let a = (actuals s x d.denotes no_actuals es).value in
+      covers_named name.token.0 (bound s x name).events (actuals s x d.denotes no_actuals es).events (used s name.token.0 name d a).events l (all_named es l) (bound_uses s x name) (h d.denotes no_actuals l) (used_types s name.token.0 name d a)
 
   dot_tells : (i : ℕ) (b : Expression) (name : Identifier) (es : Expressions) → Tells b → TellsAll es → Tells (syntax.Dot i b name es)
   unfolding judge next
   dot_tells i b name es g h l =
-      let o = (judge s x b).value in let d = (attribute s x name (first_of b) o).value in let a = (actuals s x d no_actuals es).value in
-      covers_dot i name.token.0 (judge s x b).events (attribute s x name (first_of b) o).events (actuals s x d no_actuals es).events (used s i name d a).events l (all_named es l) (named b (i ∷ name.token.0 ∷ all_named es l))
-      (g (i ∷ name.token.0 ∷ all_named es l)) (attribute_uses s x name (first_of b) o) (h d no_actuals l) (used_types s i name d a)
+      let o = (judge s x b).value in let d = (attribute s x name (first_of b) o).value in let a = (actuals s x d.denotes no_actuals es).value in
+      covers_dot i name.token.0 (judge s x b).events (attribute s x name (first_of b) o).events (actuals s x d.denotes no_actuals es).events (used s i name d a).events l (all_named es l) (named b (i ∷ name.token.0 ∷ all_named es l))
+      (g (i ∷ name.token.0 ∷ all_named es l)) (attribute_uses s x name (first_of b) o) (h d.denotes no_actuals l) (used_types s i name d a)
 
   all_tell : (e : Expression) (es : Expressions) → Tells e → TellsAll es → TellsAll (Then e es)
   unfolding actuals next

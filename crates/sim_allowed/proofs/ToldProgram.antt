@@ -1,6 +1,8 @@
 -- What the last round of a program tells of a token is told once.
-use Rattle.std.proofs.Common.{◌≡◌, ◌≤◌, ◌+◌, ℕ, Bool, true, false, List, [], ◌∷◌, ◌++◌, Option, Some, None, arith, if◌then◌else◌}
+use Rattle.std.proofs.Common.{◌≡◌, ◌≤◌, ◌+◌, ◌||◌, not, ℕ, Bool, true, false, List, [], ◌∷◌, ◌++◌, Option, Some, None, arith, if◌then◌else◌}
+use Rattle.sim_base.specs.declared.numbering.DeclNo.{DeclNo}
 use Rattle.sim_base.specs.declared.rule.Rule.TheVariants as r
+use Rattle.sim_scope.specs.declared.outcome.Barred.TheVariants as bar
 use Rattle.sim_scope.specs.declared.outcome.Extent.{Extent}
 use Rattle.sim_scope.specs.declared.outcome.Extent.TheVariants as extent
 use Rattle.sim_scope.specs.declared.outcome.LeftSides.{LeftSides}
@@ -9,10 +11,10 @@ use Rattle.sim_scope.specs.declared.outcome.Outcome.TheVariants as is
 use Rattle.sim_scope.specs.declared.outcome.Side.{Side}
 use Rattle.sim_scope.specs.declared.types.SimType.{SimType}
 use Rattle.sim_scope.specs.Actuals.{result_in}
-use Rattle.sim_scope.specs.Assignments.{LeftSide, assigned, assigned_to, call_assigned, compared, fine, first_sign, is_text_copied, last_value, left_side, left_sides, lefts, no_lefts, no_target, own_result, procedure_assigned, result_assigned, same_sign, sign_agrees, standard_assigned, target, targets, told as misfit_told, value_assigned, with_left, wrong}
+use Rattle.sim_scope.specs.Assignments.{LeftSide, assigned, assigned_to, call_assigned, compared, fine, first_sign, is_text_copied, last_value, left_side, left_sides, lefts, no_lefts, no_target, own_result, procedure_assigned, result_assigned, same_sign, side_unless, sign_agrees, standard_assigned, takes, target, targets, told as misfit_told, with_left, wrong}
 use Rattle.sim_scope.specs.Expressions.{judge, judge_side}
 use Rattle.sim_scope.specs.Found.{Event}
-use Rattle.sim_scope.specs.Judged.{gives, next, telling}
+use Rattle.sim_scope.specs.Judged.{bars, gives, next, telling}
 use Rattle.sim_scope.specs.Operators.{is_same}
 use Rattle.sim_scope.specs.Outcomes.{called, is_stream}
 use Rattle.sim_scope.specs.Scopes.{entry_of}
@@ -25,7 +27,7 @@ use Rattle.sim_tree.specs.Named.{named}
 use Rattle.sim_tree.specs.Order.{Behind, Spot, Token, in_each, in_expression, in_name, in_side, tokens}
 use Rattle.sim_tree.specs.Syntax.{Expression, RightSide, first_of}
 use Rattle.sim_agree.specs.Plain.{Each, PlainExpression, PlainSide}
-use Rattle.sim_allowed.proofs.Counts.{Silent, called_silent, here, silent_both, silent_break, silent_next, silent_none, told, told_both}
+use Rattle.sim_allowed.proofs.Counts.{Silent, bars_silent, called_silent, here, silent_both, silent_break, silent_next, silent_none, told, told_both}
 use Rattle.sim_allowed.proofs.Told.{Covers, expression_tells, occurs, side_tells}
 
 -- how often a token is among spots
@@ -101,6 +103,8 @@ unfolding fine wrong telling gives
 alone_silent first is.Refused = silent_none
 alone_silent first is.NoValue = silent_none
 alone_silent first (is.Called ty) = silent_none
+alone_silent first (is.Barred (bar.Procedure d token)) = silent_none
+alone_silent first (is.Barred (bar.Standard name token)) = silent_none
 alone_silent first _ = silent_break first r.WrongKind
 
 pub call_fills : (s : Tables) (e : Expression) → PlainExpression e → (l : List Spot) → Fills (call_events s e) l (in_expression e l)
@@ -117,22 +121,31 @@ module _ (s : Tables) (sign : Assignment) (first : ℕ) where
   unfolding no_target telling
   no_target_silent rule = silent_break first rule
 
-  value_assigned_silent : (ty : SimType) → Silent (value_assigned sign first ty).events
-  unfolding targets gives
-  value_assigned_silent ty = go (is_text_copied sign ty)
-    where
-      go : (b : Bool) → Silent (if b then targets first ty else no_target first r.LeftSideIsNoVariable).events
-      go true = silent_none
-      go false = no_target_silent r.LeftSideIsNoVariable
+  unless_silent : (ty : SimType) (b : Bool) → Silent (side_unless first ty b).events
+  unfolding gives
+  unless_silent ty true = silent_none
+  unless_silent ty false = silent_none
+
+  targets_silent : (variable : Bool) (ty : SimType) → Silent (targets sign first variable ty).events
+  unfolding targets
+  targets_silent variable ty =
+      let one = bars (not (takes sign ty)) first r.WrongType in
+      let two = bars (not variable) first r.LeftSideIsNoVariable in
+      silent_next one (λ a. next (bars (not variable) first r.LeftSideIsNoVariable) (λ b. side_unless first ty (a || b))) (bars_silent (not (takes sign ty)) first r.WrongType)
+      (silent_next two (λ b. side_unless first ty (one.value || b)) (bars_silent (not variable) first r.LeftSideIsNoVariable) (unless_silent ty (one.value || two.value)))
 
   assigned_silent : (o : Outcome) → Silent (assigned_to sign first o).events
-  unfolding assigned_to targets gives
-  assigned_silent (is.Variable ty) = silent_none
-  assigned_silent (is.Value ty) = value_assigned_silent ty
-  assigned_silent (is.Called ty) = value_assigned_silent ty
-  assigned_silent (is.Constant ty) = no_target_silent r.LeftSideIsNoVariable
+  unfolding assigned_to gives
+  assigned_silent (is.Variable ty) = targets_silent true ty
+  assigned_silent (is.Value ty) = targets_silent (is_text_copied sign ty) ty
+  assigned_silent (is.Called ty) = targets_silent (is_text_copied sign ty) ty
+  assigned_silent (is.Constant ty) = targets_silent false ty
   assigned_silent (is.Array ty) = no_target_silent r.WrongKind
   assigned_silent is.Class = no_target_silent r.WrongKind
+  assigned_silent (is.Barred (bar.Array ty)) = no_target_silent r.WrongKind
+  assigned_silent (is.Barred bar.Class) = no_target_silent r.WrongKind
+  assigned_silent (is.Barred (bar.Procedure d token)) = silent_none
+  assigned_silent (is.Barred (bar.Standard name token)) = silent_none
   assigned_silent is.NoValue = no_target_silent r.WrongType
   assigned_silent is.NoValueInParentheses = no_target_silent r.WrongType
   assigned_silent is.Refused = silent_none
@@ -147,18 +160,17 @@ module _ (s : Tables) (sign : Assignment) (first : ℕ) where
   result_silent o None = no_target_silent r.WrongType
   result_silent o (Some ty) = go (is_text_copied sign ty)
     where
-      go : (b : Bool) → Silent (if b then call_assigned s sign first o else no_target first r.LeftSideIsNoVariable).events
+      go : (b : Bool) → Silent (if b then call_assigned s sign first o else targets sign first false ty).events
       go true = call_assigned_silent o
-      go false = no_target_silent r.LeftSideIsNoVariable
+      go false = targets_silent false ty
 
-  own_silent : (w : Option SimType) → Silent (own_result first w).events
-  unfolding targets gives
+  own_silent : (w : Option SimType) → Silent (own_result sign first w).events
   own_silent None = no_target_silent r.WrongType
-  own_silent (Some ty) = silent_none
+  own_silent (Some ty) = targets_silent true ty
 
-  procedure_silent : (o : Outcome) (own : Bool) (w : Option SimType) → Silent (procedure_assigned s sign first o own w).events
-  procedure_silent o true w = own_silent w
-  procedure_silent o false w = result_silent o w
+  procedure_silent : (o : Outcome) (d : DeclNo) (own : Option DeclNo) → Silent (procedure_assigned s sign first o d own).events
+  procedure_silent o d (Some p) = own_silent (result_in (entry_of s p))
+  procedure_silent o d None = result_silent o (result_in (entry_of s d))
 
   standard_assigned_silent : (o : Outcome) (name : _) → Silent (standard_assigned s sign first o name).events
   standard_assigned_silent o name = go (is_stream name)
@@ -169,7 +181,7 @@ module _ (s : Tables) (sign : Assignment) (first : ℕ) where
 
   target_silent : (o : Outcome) → Silent (target s sign first o).events
   unfolding target
-  target_silent (is.Procedure d token own) = procedure_silent (is.Procedure d token own) own (result_in (entry_of s d))
+  target_silent (is.Procedure d token own) = procedure_silent (is.Procedure d token own) d own
   target_silent (is.Standard name token) = standard_assigned_silent (is.Standard name token) name
   target_silent is.Refused = assigned_silent is.Refused
   target_silent is.NoValue = assigned_silent is.NoValue
@@ -180,6 +192,7 @@ module _ (s : Tables) (sign : Assignment) (first : ℕ) where
   target_silent (is.Constant ty) = assigned_silent (is.Constant ty)
   target_silent (is.Array ty) = assigned_silent (is.Array ty)
   target_silent is.Class = assigned_silent is.Class
+  target_silent (is.Barred b) = assigned_silent (is.Barred b)
 
 sign_silent : (first sign : Assignment) (token : ℕ) → Silent (sign_agrees first sign token).events
 unfolding sign_agrees fine wrong telling gives
@@ -225,7 +238,7 @@ unfolding lefts gives next
 sides_fill s first v e [] p q a l = fills_then (judge_side s extent.Statement e).events [] l (in_expression e l) (side_fills s extent.Statement e p l) silent_none
 sides_fill s first v e (x ∷ xs) p q a l =
     let this : LeftSide = record { sign = x.sign; token = x.token; target = e } in
-    let b = with_left s this.sign v a (left_side s first this).value in
+    let b = with_left s v a (left_side s first this).value in
     fills_apart (judge_side s extent.Statement (last_value x.value xs)).events (left_side s first this).events (lefts s first v b (left_sides x.value xs)).events l (in_expression x.value (in_each in_side xs l)) (in_expression e (in_expression x.value (in_each in_side xs l)))
     (left_fills s first this p (in_expression x.value (in_each in_side xs l))) (sides_fill s first v x.value xs q.0 q.1 b l)
 

@@ -94,7 +94,7 @@ using_and_typing i us ts l h j k t = let a = told_both k t us ts in let b = h k 
 controlled_fills : (s : Tables) (sign : Assignment) (x : Identifier) (l : List Spot) → Fills (controlled s sign x).events l (in_name x l)
 unfolding controlled next
 controlled_fills s sign x l =
-    let o = (bound s extent.Statement x).value in
+    let o = (bound s extent.Statement x).value.denotes in
     using_and_typing x.token.0 (bound s extent.Statement x).events (simple s sign x.token.0 o).events l (bound_uses s extent.Statement x) (simple_types s sign x.token.0 o)
 
 taken_silent : (s : Tables) (a : Option SimType) (x : Side) → Silent (taken_by s a x).events

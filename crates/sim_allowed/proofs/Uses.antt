@@ -2,13 +2,14 @@
 use Rattle.std.proofs.Common.{◌≡◌, ℕ, suc, ◌+◌, Bool, true, false, List, [], ◌⊎◌, inl, inr, length, Option, Some, None, refl, sym, ap, ◌∙◌, subst, arith, if◌then◌else◌}
 use Rattle.std.proofs.lemmas.Bool.{false≢true}
 use Rattle.std.proofs.lemmas.Bool.Decides.{nat_tests}
-use Rattle.std.specs.Prelude.{nat_eq, ◌&&◌}
+use Rattle.std.specs.Prelude.{nat_eq, not, ◌&&◌}
 use Rattle.sim_base.specs.declared.numbering.DeclNo.{DeclNo}
 use Rattle.sim_base.specs.declared.numbering.TokenNo.{TokenNo}
 use Rattle.sim_base.specs.declared.rule.Rule.TheVariants as r
 use Rattle.sim_scope.specs.declared.found.Fault.{Fault}
 use Rattle.sim_scope.specs.declared.outcome.Actuals.{Actuals}
 use Rattle.sim_scope.specs.declared.outcome.Extent.{Extent}
+use Rattle.sim_scope.specs.declared.outcome.Occurrence.{Occurrence}
 use Rattle.sim_scope.specs.declared.outcome.Outcome.{Outcome}
 use Rattle.sim_scope.specs.declared.outcome.Outcome.TheVariants as is
 use Rattle.sim_scope.specs.declared.outcome.Parameter.TheVariants as parameter
@@ -26,13 +27,13 @@ use Rattle.sim_scope.specs.declared.types.Mode.TheVariants as mode
 use Rattle.sim_scope.specs.declared.types.SimType.{SimType}
 use Rattle.sim_scope.specs.declared.types.SimType.TheVariants as t
 use Rattle.sim_scope.specs.Actuals.{formal_or_none, no_actuals, of_formal_procedure, parameter_at, parameter_of}
-use Rattle.sim_scope.specs.Calls.{alone, applied, attribute, attribute_by_value, attribute_found, attribute_of_type, attribute_of_value, bound, declared_alone, declared_applied, element_of, formal_alone, found_as, is_barred, is_inside, is_undotted, located, misfitting_or, parameter_count, procedure_alone, resulting, standard_applied, typed_if, used, used_in, used_or_barred}
+use Rattle.sim_scope.specs.Calls.{alone, applied, applied_untyped, attribute, attribute_by_value, attribute_found, attribute_of_type, attribute_of_value, bound, declared_alone, declared_applied, element_of, formal_alone, found_as, if_own, is_barred, is_connection_at, is_inside, is_undotted, located, misfitting_or, occurs, own_of, own_undotted, parameter_count, procedure_alone, resulting, standard_applied, through_connection, typed_if, used, used_in, used_or_barred}
 use Rattle.sim_scope.specs.ClassNames.{is_name_of_classes}
 use Rattle.sim_scope.specs.Found.{Typed}
 use Rattle.sim_scope.specs.Judged.{Judged, gives, next, telling}
 use Rattle.sim_scope.specs.Outcomes.{breaks, call_of, is_stream, side, varies}
 use Rattle.sim_scope.specs.Access.{block_at}
-use Rattle.sim_scope.specs.Scopes.{binding, entry_of, formals_of, found_in}
+use Rattle.sim_scope.specs.Scopes.{binding, block_in, entry_of, formals_of, found_in}
 use Rattle.sim_scope.specs.Source.{Source, block_of, denoted, type_at}
 use Rattle.sim_scope.specs.Standard.{is_standard_class, signature, sysin_attribute, sysout_attribute, text_attribute}
 use Rattle.sim_tree.specs.declared.expr.Identifier.{Identifier}
@@ -57,9 +58,9 @@ use Rattle.sim_allowed.proofs.Said.{AllSay, both_say, next_says}
 
 -- ---- what an identifier denotes
 
-pub record BoundIs (s : Source) (x : Extent) (name : Identifier) (o : Option Denotation) : Type 0 where
+pub record BoundIs (s : Source) (x : Extent) (name : Identifier) (o : Occurrence) : Type 0 where
   pub denotation : Denotation
-  pub is : o ≡ Some denotation
+  pub is : o ≡ occurs (Some denotation) false
   pub says : denoted s name.token.0 ≡ Some denotation
   pub binds : binding s.tables name.token.0 name.name ≡ Some denotation
   pub open_to : is_barred s.tables x name.token.0 denotation ≡ false
@@ -210,6 +211,10 @@ module _ (s : Source) (known : Tabled s) (from : Option ℕ) (x : Identifier) (e
   value_there : (ty : SimType) → ProperType ty → type_at s x.token.0 ≡ Some ty → ExprIs s from This (Simply (kind_of_type ty)) → ValueIs s from This ty
   value_there ty p said v = record { proper = p; texts = texts_are ∙ ap is_text_type said; stream = no_stream_is; value = v }
 
+and_true : (b : Bool) → (b && true) ≡ b
+and_true true = refl
+and_true false = refl
+
 same_token : (n : ℕ) → nat_eq n n ≡ true
 same_token n = grind (arith, nat_tests)
 
@@ -291,6 +296,22 @@ module _ (s : Source) (known : Tabled s) (x : Identifier) (d : DeclNo) (says : d
       typed None types p said = absurd (never_untyped f.mode f.kind p)
       typed (Some ty) types p said = go ty types f.kind refl p said
 
+  -- there are no connections
+  never_through : through_connection s.tables x ≡ false
+  unfolding through_connection
+  never_through = go (found_in s.tables x.token.0 x.name)
+    where
+      go : (o : Option ℕ) → is_connection_at s.tables o ≡ false
+      go None = refl
+      go (Some block) = known.no_connection block
+
+  own_inside : (result : Option SimType) (k : ℕ) → entry_of s.tables d ≡ Some (entry.Procedure result k) → own_of s.tables x (Some d) ≡ if_own (is_inside s.tables x.token.0 k) (Some d)
+  unfolding own_of
+  own_inside result k there =
+      ap (λ (z : Option Entry). if_own ((elim (block_in z) as (λ u. Bool) [ None ↦ false | Some block ↦ is_inside s.tables x.token.0 block ]) && not (through_connection s.tables x)) (Some d)) there
+      ∙ ap (λ z. if_own (is_inside s.tables x.token.0 k && not z) (Some d)) never_through
+      ∙ ap (λ z. if_own z (Some d)) (and_true (is_inside s.tables x.token.0 k))
+
   pub alone_means : (from : Option ℕ) (e : Entry) → entry_of s.tables d ≡ Some e → ProperEntry e → (NotConstant e → Sees s.tables from (block_of s d)) → AllSay s (declared_alone s.tables x.token.0 x d (Some e)).events
       → Means true s from Alone (declared_alone s.tables x.token.0 x d (Some e)).value
   unfolding telling gives
@@ -300,7 +321,7 @@ module _ (s : Source) (known : Tabled s) (x : Identifier) (d : DeclNo) (says : d
       value_there s known from x NoMore d says ty p said.0 (names_value s known from x NoMore d says (entry.Constant ty) there (Simply (kind_of_type ty)) (c.value, c.is, ap Simply c.of_type))
   alone_means from (entry.Array element dimensions) there p sees said = (p, names_value s known from x NoMore d says (entry.Array element dimensions) there (ArrayOf (kind_of_type element)) (refl, sees tt))
   alone_means from (entry.Procedure result k) there p sees said =
-      subst (λ z. Means true s from Alone z) (sym (typed_is x.token.0 result (procedure_alone d x (is_undotted x.token.0 x && is_inside s.tables x.token.0 k)))) (record {
+      subst (λ z. Means true s from Alone z) (sym (typed_is x.token.0 result (procedure_alone d x (own_undotted s.tables x (is_undotted x.token.0 x) (Some d))))) (record {
         name = x;
         is = refl;
         at = refl;
@@ -308,13 +329,13 @@ module _ (s : Source) (known : Tabled s) (x : Identifier) (d : DeclNo) (says : d
         result = result;
         block = k;
         declared = there;
-        typed = typed_there s Alone x.token.0 result (procedure_alone d x (is_undotted x.token.0 x && is_inside s.tables x.token.0 k)) (texts_are s known from x NoMore d says) (no_stream_is s known from x NoMore d says) p said;
-        inside = ap (λ z. z && is_inside s.tables x.token.0 k) (same_token x.token.0);
+        typed = typed_there s Alone x.token.0 result (procedure_alone d x (own_undotted s.tables x (is_undotted x.token.0 x) (Some d))) (texts_are s known from x NoMore d says) (no_stream_is s known from x NoMore d says) p said;
+        inside = ap (λ z. own_undotted s.tables x z (Some d)) (same_token x.token.0) ∙ own_inside result k there;
         sees = sees tt;
       })
   alone_means from (entry.Class k) there p sees said = absurd p
   alone_means from (entry.Virtual result own) there p sees said = absurd p
-  alone_means from (entry.Formal f) there p sees said = formal_means from f there p (sees tt) (procedure_alone d x false) said
+  alone_means from (entry.Formal f) there p sees said = formal_means from f there p (sees tt) (procedure_alone d x None) said
   alone_means from (entry.Unspecified w) there p sees said = absurd p
   alone_means from (entry.Attribute name parameter result) there p sees said = absurd p
 
@@ -423,7 +444,7 @@ module _ (s : Source) (known : Tabled s) (from : Option ℕ) (x : Identifier) (e
   declared_sees d b binds open_to there constant = sight x.token.0 x.name d b placed binds open_to there constant
 
   -- alone
-  pub named_alone : (o : Option Denotation) → BoundIs s e x o → AllSay s (used s.tables x.token.0 x o no_actuals).events → Means true s from (syntax.Named x NoMore) (used s.tables x.token.0 x o no_actuals).value
+  pub named_alone : (o : Occurrence) → BoundIs s e x o → AllSay s (used s.tables x.token.0 x o no_actuals).events → Means true s from (syntax.Named x NoMore) (used s.tables x.token.0 x o no_actuals).value
   unfolding used alone is_text stream_of
   named_alone o b said = subst (λ z. Means true s from (syntax.Named x NoMore) (used s.tables x.token.0 x z no_actuals).value) (sym b.is) (go b.denotation b.says b.binds b.open_to (subst (λ z. AllSay s (used s.tables x.token.0 x z no_actuals).events) b.is said))
     where
@@ -438,16 +459,16 @@ module _ (s : Source) (known : Tabled s) (from : Option ℕ) (x : Identifier) (e
           (λ other are. standard_call s from x NoMore name says (is_procedure name alone other) are) said
 
   -- with actuals
-  pub named_with : (first : Expression) (rest : Expressions) (o : Option Denotation) → BoundIs s e x o → (a : Actuals) → AllActuals s from o (Then first rest) no_actuals a → AllSay s (used s.tables x.token.0 x o a).events
+  pub named_with : (first : Expression) (rest : Expressions) (o : Occurrence) → BoundIs s e x o → (a : Actuals) → AllActuals s from o.denotes (Then first rest) no_actuals a → AllSay s (used s.tables x.token.0 x o a).events
       → Means true s from (syntax.Named x (Then first rest)) (used s.tables x.token.0 x o a).value
   unfolding used applied is_text stream_of own_result
   named_with first rest o b a all said =
       subst (λ z. Means true s from (syntax.Named x (Then first rest)) (used s.tables x.token.0 x z a).value) (sym b.is)
-      (subst (λ z. Means true s from (syntax.Named x (Then first rest)) (if z then alone s.tables x.token.0 x b.denotation else if a.typed then applied s.tables x.token.0 x.token.0 b.denotation a else gives is.Refused).value) (sym counted)
-      (subst (λ z. Means true s from (syntax.Named x (Then first rest)) (if z then applied s.tables x.token.0 x.token.0 b.denotation a else gives is.Refused).value) (sym typed)
-      (go b.denotation b.says b.binds b.open_to (λ h. subst (λ z. AllFit s from z 0 (Then first rest)) b.is (all.fits h).1)
-      (subst (λ z. AllSay s (if z then applied s.tables x.token.0 x.token.0 b.denotation a else gives is.Refused).events) typed
-      (subst (λ z. AllSay s (if z then alone s.tables x.token.0 x b.denotation else if a.typed then applied s.tables x.token.0 x.token.0 b.denotation a else gives is.Refused).events) counted
+      (subst (λ z. Means true s from (syntax.Named x (Then first rest)) (if z then alone s.tables x.token.0 x b.denotation else if a.typed then applied s.tables x.token.0 x.token.0 b.denotation a else applied_untyped x.token.0 b.denotation).value) (sym counted)
+      (subst (λ z. Means true s from (syntax.Named x (Then first rest)) (if z then applied s.tables x.token.0 x.token.0 b.denotation a else applied_untyped x.token.0 b.denotation).value) (sym typed)
+      (go b.denotation b.says b.binds b.open_to (λ h. subst (λ (z : Occurrence). AllFit s from z.denotes 0 (Then first rest)) b.is (all.fits h).1)
+      (subst (λ z. AllSay s (if z then applied s.tables x.token.0 x.token.0 b.denotation a else applied_untyped x.token.0 b.denotation).events) typed
+      (subst (λ z. AllSay s (if z then alone s.tables x.token.0 x b.denotation else if a.typed then applied s.tables x.token.0 x.token.0 b.denotation a else applied_untyped x.token.0 b.denotation).events) counted
       (subst (λ z. AllSay s (used s.tables x.token.0 x z a).events) b.is said))))))
     where
       counted : nat_eq a.count 0 ≡ false
@@ -471,9 +492,9 @@ module _ (s : Source) (known : Tabled s) (from : Option ℕ) (x : Identifier) (e
 -- ---- attributes behind a dot
 
 -- what stands behind the dot: a name of sysin or sysout, or an attribute of a text
-pub record AttributeIs (s : Source) (from : Option ℕ) (a : Expression) (x : Identifier) (o : Option Denotation) : Type 0 where
+pub record AttributeIs (s : Source) (from : Option ℕ) (a : Expression) (x : Identifier) (o : Occurrence) : Type 0 where
   pub name : StandardName
-  pub is : o ≡ Some (denotation.Standard name)
+  pub is : o ≡ occurs (Some (denotation.Standard name)) false
   pub says : denoted s x.token.0 ≡ Some (denotation.Standard name)
   pub of_which : ((image : ℕ) × (stream_of s a ≡ Some image) × IsProcedure name) ⊎ ((stream_of s a ≡ None) × OfTexts name × ExprIs s from a (Simply kind.Text))
 
@@ -527,8 +548,9 @@ module _ (s : Source) (known : Tabled s) (from : Option ℕ) (a : Expression) (e
   attribute_is first (is.Array ty) m said = by_value first (is.Array ty) m said
   attribute_is first (is.Procedure d token own) m said = by_value first (is.Procedure d token own) m said
   attribute_is first is.Class m said = by_value first is.Class m said
+  attribute_is first (is.Barred b) m said = by_value first (is.Barred b) m said
 
-  module _ (i : ℕ) (o : Option Denotation) (b : AttributeIs s from a x o) where
+  module _ (i : ℕ) (o : Occurrence) (b : AttributeIs s from a x o) where
     dot_call : (es : Expressions) → AreOf s from es (kinds_of (signature b.name)) → CallsFor s from (syntax.Dot i a x es) (given_by (signature b.name).result)
     dot_call es are = (subst (λ z. DotGives z (stream_of s a) (ExprIs s from a (Simply kind.Text)) (λ ks. AreOf s from es ks) (given_by (signature b.name).result)) (sym b.says) (go b.of_which), ap (denoted_leaves s) b.says ∙ sym (standard_left b.name))
       where
@@ -566,15 +588,15 @@ module _ (s : Source) (known : Tabled s) (from : Option ℕ) (a : Expression) (e
         subst (λ z. Means true s from (syntax.Dot i a x NoMore) (used s.tables i x z no_actuals).value) (sym b.is)
         (standard_without s from (syntax.Dot i a x NoMore) b.name i refl (sym dot_none) refl dot_no_class dot_proper x.token (λ other are. dot_call NoMore are) (subst (λ z. AllSay s (used s.tables i x z no_actuals).events) b.is said))
 
-    pub dot_with : (first : Expression) (rest : Expressions) (y : Actuals) → AllActuals s from o (Then first rest) no_actuals y → AllSay s (used s.tables i x o y).events → Means true s from (syntax.Dot i a x (Then first rest)) (used s.tables i x o y).value
+    pub dot_with : (first : Expression) (rest : Expressions) (y : Actuals) → AllActuals s from o.denotes (Then first rest) no_actuals y → AllSay s (used s.tables i x o y).events → Means true s from (syntax.Dot i a x (Then first rest)) (used s.tables i x o y).value
     unfolding used applied is_text stream_of own_result
     dot_with first rest y all said =
         subst (λ z. Means true s from (syntax.Dot i a x (Then first rest)) (used s.tables i x z y).value) (sym b.is)
-        (subst (λ z. Means true s from (syntax.Dot i a x (Then first rest)) (if z then alone s.tables i x (denotation.Standard b.name) else if y.typed then applied s.tables i x.token.0 (denotation.Standard b.name) y else gives is.Refused).value) (sym counted)
-        (subst (λ z. Means true s from (syntax.Dot i a x (Then first rest)) (if z then applied s.tables i x.token.0 (denotation.Standard b.name) y else gives is.Refused).value) (sym typed)
-        (standard_with s from (syntax.Dot i a x (Then first rest)) b.name i refl (sym dot_none) refl dot_no_class dot_proper (Then first rest) (λ other are. dot_call (Then first rest) are) y (from_zero y.count (suc (size rest)) all.count) (λ h. subst (λ z. AllFit s from z 0 (Then first rest)) b.is (all.fits h).1) x.token.0
-        (subst (λ z. AllSay s (if z then applied s.tables i x.token.0 (denotation.Standard b.name) y else gives is.Refused).events) typed
-        (subst (λ z. AllSay s (if z then alone s.tables i x (denotation.Standard b.name) else if y.typed then applied s.tables i x.token.0 (denotation.Standard b.name) y else gives is.Refused).events) counted
+        (subst (λ z. Means true s from (syntax.Dot i a x (Then first rest)) (if z then alone s.tables i x (denotation.Standard b.name) else if y.typed then applied s.tables i x.token.0 (denotation.Standard b.name) y else applied_untyped x.token.0 (denotation.Standard b.name)).value) (sym counted)
+        (subst (λ z. Means true s from (syntax.Dot i a x (Then first rest)) (if z then applied s.tables i x.token.0 (denotation.Standard b.name) y else applied_untyped x.token.0 (denotation.Standard b.name)).value) (sym typed)
+        (standard_with s from (syntax.Dot i a x (Then first rest)) b.name i refl (sym dot_none) refl dot_no_class dot_proper (Then first rest) (λ other are. dot_call (Then first rest) are) y (from_zero y.count (suc (size rest)) all.count) (λ h. subst (λ (z : Occurrence). AllFit s from z.denotes 0 (Then first rest)) b.is (all.fits h).1) x.token.0
+        (subst (λ z. AllSay s (if z then applied s.tables i x.token.0 (denotation.Standard b.name) y else applied_untyped x.token.0 (denotation.Standard b.name)).events) typed
+        (subst (λ z. AllSay s (if z then alone s.tables i x (denotation.Standard b.name) else if y.typed then applied s.tables i x.token.0 (denotation.Standard b.name) y else applied_untyped x.token.0 (denotation.Standard b.name)).events) counted
         (subst (λ z. AllSay s (used s.tables i x z y).events) b.is said))))))
       where
         counted : nat_eq y.count 0 ≡ false

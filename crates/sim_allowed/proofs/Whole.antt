@@ -6,14 +6,18 @@ use Rattle.std.specs.Prelude.{slice_get}
 use Rattle.sim_base.specs.declared.numbering.DeclNo.{DeclNo}
 use Rattle.sim_base.specs.declared.rule.Rule.TheVariants as r
 use Rattle.sim_scope.specs.declared.scopes.Declaration.{Declaration}
+use Rattle.sim_scope.specs.declared.types.BlockKind.{BlockKind}
+use Rattle.sim_scope.specs.declared.types.BlockKind.TheVariants as block_kind
 use Rattle.sim_scope.specs.declared.types.Entry.TheVariants as entry
 use Rattle.sim_scope.specs.declared.types.SimType.{SimType}
+use Rattle.sim_scope.specs.Access.{is_connection, is_kind, is_so, kind_in}
 use Rattle.sim_scope.specs.Declare.{declared_by, type_named}
 use Rattle.sim_scope.specs.Found.{Broken}
 use Rattle.sim_scope.specs.Runs.{each}
 use Rattle.sim_scope.specs.Scopes.{entry_in, entry_of}
 use Rattle.sim_scope.specs.Source.{Source, block_of, block_of_row}
 use Rattle.sim_scope.specs.Statements.{constant_fits, constant_token, constant_type, has_type, judging, type_events, value_fits, value_type, variable_events}
+use Rattle.sim_scope.specs.Tables.{BlockOf}
 use Rattle.sim_scope.specs.Walk.{declaration_events, declarations_events, program_events}
 use Rattle.sim_tree.specs.declared.expr.Identifier.{Identifier}
 use Rattle.sim_tree.specs.declared.stmt.Constant.{Constant}
@@ -33,7 +37,7 @@ use Rattle.sim_sound.specs.Typed.{Among, BlockTyped, NoFormal, NoFormals, SomeNa
 use Rattle.sim_agree.specs.ConstantAt.{Lists, OneOf, at_first, further, head, tail}
 use Rattle.sim_agree.specs.Facts.{ConstantIs, Tabled}
 use Rattle.sim_agree.specs.Plain.{Plain}
-use Rattle.sim_agree.specs.TablesAgree.{BlockAgrees, TablesAgree}
+use Rattle.sim_agree.specs.TablesAgree.{BlockAgrees, PlainBlockKind, TablesAgree}
 use Rattle.sim_agree.specs.TablesOf.{TablesOf}
 use Rattle.sim_agree.proofs.ArrayNames.{ArrayNames, SegmentNames, block_arrays}
 use Rattle.sim_agree.proofs.Constants.{constant_at}
@@ -116,6 +120,23 @@ module _ (s : Source) (of : TablesOf s) (plain : Plain s.program) (filled : Fill
       let within : 0 < length (program_texts s.program.prefix s.program.block) = slice_get_within (program_texts s.program.prefix s.program.block) 0 (BlockText agrees.begin agrees.declarations agrees.statements) agrees.starts in
       let same : length s.tables.blocks ≡ length (program_texts s.program.prefix s.program.block) = agrees.as_many in omega (arith, within, same)
 
+  no_connection : (k : ℕ) → is_kind is_connection s.tables k ≡ false
+  unfolding is_kind
+  no_connection k = row_is (slice_get s.tables.blocks k) (λ row is. agrees.kinds k row is)
+    where
+      plain_kind : (b : BlockKind) → PlainBlockKind b → is_connection b ≡ false
+      plain_kind block_kind.Program p = refl
+      plain_kind block_kind.SubBlock p = refl
+      plain_kind block_kind.Procedure p = refl
+      plain_kind block_kind.Class p = refl
+      plain_kind block_kind.Prefixed p = refl
+      plain_kind block_kind.Connection p = absurd p
+      plain_kind (block_kind.StandardClass which) p = refl
+
+      row_is : (o : Option BlockOf) → ((row : BlockOf) → o ≡ Some row → PlainBlockKind row.kind) → is_so is_connection (kind_in o) ≡ false
+      row_is None h = refl
+      row_is (Some row) h = plain_kind row.kind (h row refl)
+
   tabled : Tabled s
   tabled = record {
     some_block = some_block;
@@ -125,6 +146,7 @@ module _ (s : Source) (of : TablesOf s) (plain : Plain s.program) (filled : Fill
     constants = λ d ty e. constant_is s of.tables plain filled order said d ty e;
     around = agrees.around;
     inside = agrees.inside;
+    no_connection = no_connection;
   }
 
   fine_text : (k : ℕ) (x : Text) → text s k ≡ Some x → TextFine s x
