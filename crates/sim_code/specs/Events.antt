@@ -3,12 +3,13 @@
 use Rattle.std.specs.Prelude.{ℕ, zero, suc, ◌+◌, ◌-◌, Bool, nat_lt, if◌then◌else◌, ℤ, List, [], ◌∷◌, length, Option, Some, None, Result, Ok, Err}
 use Rattle.sim_base.specs.declared.limits.Limits.{Limits}
 use Rattle.sim_base.specs.declared.run_error.RunError.{RunError}
+use Rattle.sim_base.specs.declared.run_error.RunError.TheVariants.{AccessThroughNone, OutsideQualification}
 use Rattle.sim_values.specs.declared.operators.Dyadic.{Dyadic}
 use Rattle.sim_values.specs.declared.operators.Monadic.{Monadic}
 use Rattle.sim_values.specs.declared.standard.Standard.{Standard}
 use Rattle.sim_values.specs.declared.value.TextVal.{TextVal}
 use Rattle.sim_values.specs.Operators.{Answer, one_of, step_test, two_of}
-use Rattle.sim_values.specs.Plain.{Plain, Integer, Truth, Text}
+use Rattle.sim_values.specs.Plain.{Plain, Integer, Truth, Text, Object, Nothing}
 use Rattle.sim_values.specs.Standard.{operands_of, row_of, standard_effect}
 use Rattle.sim_values.specs.Store.{closing_store, image_at, with_frames, with_image}
 use Rattle.sim_values.specs.Texts.{Frame, Making, assign, concatenated, same_text}
@@ -103,6 +104,23 @@ text_val _ = None
 -- a text
 unfoldable pub pop_text : {V S : Type 0} → (plain : V → Option Plain) → List V → World → (TextVal → List V → Run S) → Run S
 pop_text plain stack o go = pop_plain plain stack o (λ v rest. having (text_val v) o (λ t. go t rest))
+
+-- ---- references
+
+-- the object that a reference names; E6 for none
+unfoldable pub referring : {S : Type 0} → (line : ℕ) → Plain → World → (ℕ → Run S) → Run S
+referring line (Object j) o go = go j
+referring line Nothing o go = stopping (RunFault AccessThroughNone line) o
+referring line _ o go = no_rule o
+
+unfoldable pub pop_object : {V S : Type 0} → (plain : V → Option Plain) → (line : ℕ) → List V → World → (ℕ → List V → Run S) → Run S
+pop_object plain line stack o go = pop_plain plain stack o (λ v rest. referring line v o (λ j. go j rest))
+
+-- goes on where a reference is none, or where its object passes the test of a qualification; else E7
+unfoldable pub qualifying : {S : Type 0} → (line : ℕ) → (is_in : ℕ → Bool) → Plain → World → Run S → Run S
+qualifying line is_in (Object j) o r = if is_in j then r else stopping (RunFault OutsideQualification line) o
+qualifying line is_in Nothing o r = r
+qualifying line is_in _ o r = no_rule o
 
 -- ---- operators
 

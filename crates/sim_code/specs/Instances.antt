@@ -1,7 +1,8 @@
 -- Instances, numbered from 0 in the order of their entry, for the meaning and the machine: only the cells C and the activations A differ.
 -- No number is used again, so that a number means one instance for the whole run.
 use Rattle.std.specs.Prelude.{ℕ, zero, suc, Bool, true, false, not, ◌&&◌, ◌==◌, if◌then◌else◌, List, [], ◌∷◌, ◌++◌, slice_get, slice_set, Option, Some, None}
-use Rattle.sim_chains.specs.Components.{Components, Standing}
+use Rattle.sim_chains.specs.Components.{AttachedObject, Components, Standing, TerminatedObject}
+use Rattle.sim_code.specs.Outcome.{Ended, Going, NoRule, Run, World}
 
 -- An instance: its text, which the code has as a block; the level of that; its textual encloser, which the program's block lacks; its
 -- cells; whether it is a sub-block or procedure whose text has no class declaration and no prefixed block; whether it is kept all the
@@ -116,6 +117,22 @@ module _ {C A : Type 0} where
   unfoldable pub kept_on : (owner : A → Option ℕ) → List A → Memory C A → Memory C A
   kept_on owner [] m = m
   kept_on owner (a ∷ chain) m = kept_at (kept_on owner chain) m (owner a)
+
+-- ---- the end of an object
+
+module _ {C A : Type 0} where
+  -- control goes to what is below, if anything is
+  abbrev pub going_below : World → List A → Memory C A → Run (State C A)
+  going_below o [] m = Ended o NoRule
+  going_below o (a ∷ below) m = Going o (record { chain = a ∷ below; memory = m })
+
+  -- an attached object is terminated
+  abbrev pub ended_as : World → Memory C A → (object : ℕ) → List A → Option (Standing A) → Run (State C A)
+  ended_as o m j below (Some AttachedObject) = going_below o below (record m { standings = slice_set m.standings j TerminatedObject })
+  ended_as o m j below _ = Ended o NoRule
+
+  unfoldable pub object_ended : World → Memory C A → (object : ℕ) → List A → Run (State C A)
+  object_ended o m j below = ended_as o m j below (slice_get m.standings j)
 
 -- where a variable lies: a cell of an instance, named by K; an element of an array; an image. Q names the class of a reference there
 pub data Place (K Q : Type 0) : Type 0 where

@@ -1,5 +1,5 @@
 -- Expressions are closed when their statement begins: what an identifier denotes is looked up, and what instance that lies in.
-use Rattle.std.specs.Prelude.{ℕ, Bool, true, false, ◌&&◌, List, [], ◌∷◌, Option, Some, None}
+use Rattle.std.specs.Prelude.{ℕ, Bool, true, false, ◌&&◌, ◌||◌, List, [], ◌∷◌, Option, Some, None}
 use Rattle.sim_base.specs.declared.numbering.DeclNo.{DeclNo}
 use Rattle.sim_scope.specs.declared.scopes.Denotation.{Denotation}
 use Rattle.sim_scope.specs.declared.scopes.Denotation.TheVariants as denotation
@@ -13,8 +13,8 @@ use Rattle.sim_scope.specs.declared.types.Mode.TheVariants as mode
 use Rattle.sim_scope.specs.declared.types.SimType.{SimType}
 use Rattle.sim_scope.specs.declared.types.SimType.TheVariants as t
 use Rattle.sim_scope.specs.Calls.{is_inside}
-use Rattle.sim_scope.specs.Scopes.{entry_of, formal_declared, formals_of}
-use Rattle.sim_scope.specs.Source.{Source, block_of, denoted, level_of, line_at, type_at}
+use Rattle.sim_scope.specs.Scopes.{class_formals, entry_of, formal_declared, formals_of}
+use Rattle.sim_scope.specs.Source.{Source, block_of, denoted, found_at, level_of, line_at, type_at}
 use Rattle.sim_tree.specs.declared.expr.Multiplication.TheVariants as multiplication
 use Rattle.sim_tree.specs.declared.expr.Relation.{Relation}
 use Rattle.sim_tree.specs.declared.expr.Relation.TheVariants as relation
@@ -24,6 +24,7 @@ use Rattle.sim_tree.specs.declared.operator.Operator.{Operator}
 use Rattle.sim_tree.specs.declared.operator.Operator.TheVariants as op
 use Rattle.sim_tree.specs.declared.stmt.Assignment.{Assignment}
 use Rattle.sim_tree.specs.declared.stmt.Assignment.TheVariants as assignment
+use Rattle.sim_tree.specs.declared.expr.Identifier.{Identifier}
 use Rattle.sim_tree.specs.Syntax.{Expression, Expressions, Literal, NoMore, Then, naming}
 use Rattle.sim_tree.specs.Syntax as syntax
 use Rattle.sim_values.specs.declared.operators.Calculation.TheVariants as calculation
@@ -39,7 +40,9 @@ use Rattle.sim_values.specs.Plain.{Character, Integer, Nothing, Plain, Text, Tru
 use Rattle.sim_values.specs.Standard.{is_image, moves_position, on_image}
 use Rattle.sim_values.specs.Texts.{notext}
 use Rattle.sim_code.specs.Instances.{at_level}
+use Rattle.sim_meaning.specs.Attributes.{attribute, connected_object, connection_at, declared_attribute, fitting, generation, if_any, membership_term, parameter_qualification, place_of_attribute, qua_term, qualified_place, this_term, with_arrays_kept}
 use Rattle.sim_meaning.specs.Constants.{text_constant}
+use Rattle.sim_meaning.specs.Levels.{class_at, qualification}
 use Rattle.sim_meaning.specs.Names.{is_image_in, procedure_named, stream_named}
 use Rattle.sim_meaning.specs.Texts.{constant_of}
 use Rattle.sim_meaning.specs.Pending.{Cell, CallOf, CopyOf, Declared, Either, ElementOf, Further, Given, ImageOf, Instances, Joined, Key, NoTerm, One, PlaceOf, Result, StandardOf, Term, Terms, Two, Unbuilt, ValueAt}
@@ -245,6 +248,15 @@ is_variable s (syntax.Named name es) = is_variable_denoted s (denoted s name.tok
 is_variable s (syntax.Dot token a name es) = is_image_behind (stream_of s a) (denoted s name.token.0)
 is_variable s _ = false
 
+-- whether an expression is a variable of an object, or an element of an array that it has
+abbrev pub is_attribute_denoted : Source → Option Denotation → Expressions → Bool
+is_attribute_denoted s (Some (denotation.Declared d)) es = is_variable_entry (entry_of s.tables d) es
+is_attribute_denoted s _ es = false
+
+unfoldable pub is_attribute : Source → Expression → Bool
+is_attribute s (syntax.Dot token a name es) = is_attribute_denoted s (denoted s name.token.0) es
+is_attribute s _ = false
+
 -- where a variable lies
 abbrev pub variable_place : Source → Instances → ℕ → DeclNo → Expressions → Term
 variable_place s m i d NoMore = in_instance (home_of s m i d) (λ j. PlaceOf j (Declared d.0))
@@ -287,7 +299,7 @@ abbrev pub behind_dot : (stream : Option ℕ) → Option Standard → (is_variab
 behind_dot (Some image) name is_variable line variable text terms = standard_term name image line terms
 behind_dot None name is_variable line variable text terms = attribute_term name is_variable line variable text terms
 
--- the attributes of objects are not built
+-- an attribute of a text or of a stream
 abbrev pub dot_term : Option Denotation → (stream : Option ℕ) → (is_variable : Bool) → (line : ℕ) → (variable text : Term) → Terms → Term
 dot_term (Some (denotation.Standard name)) stream is_variable line variable text terms = behind_dot stream (procedure_named name) is_variable line variable text terms
 dot_term _ stream is_variable line variable text terms = Unbuilt
@@ -302,6 +314,16 @@ actual_term line mode.ByReference shape.Simple text a = a
 actual_term line mode shape.Procedure text a = Unbuilt
 actual_term line mode.ByName kind text a = Unbuilt
 
+-- the formal parameters of a class, of all its levels
+abbrev pub class_parameters : Source → Option ℕ → List Formal
+class_parameters s None = []
+class_parameters s (Some k) = formals_from s (class_formals s.tables k)
+
+-- the instance in which a class is declared
+abbrev pub home_of_class : Source → Instances → ℕ → Option Denotation → Option ℕ
+home_of_class s m i (Some (denotation.Declared d)) = home_of s m i d
+home_of_class s m i _ = None
+
 abbrev mutual
   -- an expression as the instance i sees it
   pub close : Source → Instances → ℕ → Expression → Term
@@ -309,21 +331,33 @@ abbrev mutual
   close s m i (syntax.Binary op token a b) = two_term (sort_of (is_text s a) op) (line_at s token) (close s m i a) (close s m i b)
   close s m i (syntax.Not token a) = One monadic.Not (line_at s token) (close s m i a)
   close s m i (syntax.Signed sign token a) = signed_term sign (line_at s token) (close s m i a)
-  close s m i (syntax.Member member token a class) = Unbuilt
+  close s m i (syntax.Member member token a class) = membership_term member (class_at s class.token.0) (close s m i a)
   close s m i (syntax.Dot token a name es) =
-      dot_term (denoted s name.token.0) (stream_of s a) (is_variable s a) (line_at s name.token.0) (close_place s m i a) (close s m i a) (close_all s m i es)
-  close s m i (syntax.Qua token a class) = Unbuilt
+      if_any (declared_attribute (denoted s name.token.0))
+      (attribute s (line_at s name.token.0) (close s m i a) es (close_all s m i es) (λ d. close_actuals s m i (line_at s name.token.0) es (formals_at s d)))
+      (dot_term (denoted s name.token.0) (stream_of s a) (is_variable s a || is_attribute s a) (line_at s name.token.0) (close_place s m i a) (close s m i a) (close_all s m i es))
+  close s m i (syntax.Qua token a class) = qua_term (class_at s class.token.0) (line_at s token) (close s m i a)
   close s m i (syntax.Constant literal token) = literal_term s token literal
   close s m i (syntax.Named name es) =
-      named_term s m i (line_at s name.token.0) (denoted s name.token.0) es (close_all s m i es) (λ formals. close_actuals s m i (line_at s name.token.0) es formals)
-  close s m i (syntax.This token class) = Unbuilt
-  close s m i (syntax.New token class es) = Unbuilt
+      if_any (connection_at s name.token.0)
+      (λ k. if_any (declared_attribute (denoted s name.token.0))
+      (attribute s (line_at s name.token.0) (connected_object s m i k) es (close_all s m i es) (λ d. close_actuals s m i (line_at s name.token.0) es (formals_at s d)))
+      Unbuilt)
+      (named_term s m i (line_at s name.token.0) (denoted s name.token.0) es (close_all s m i es) (λ formals. close_actuals s m i (line_at s name.token.0) es formals))
+  close s m i (syntax.This token class) = this_term s m i (found_at s token)
+  close s m i (syntax.New token class es) =
+      generation (home_of_class s m i (denoted s class.token.0)) (class_at s class.token.0)
+      (with_arrays_kept (class_parameters s (class_at s class.token.0)) (close_actuals s m i (line_at s class.token.0) es (class_parameters s (class_at s class.token.0)))) (line_at s token)
   close s m i (syntax.Parentheses token a) = close s m i a
 
   -- where a variable lies
   pub close_place : Source → Instances → ℕ → Expression → Term
-  close_place s m i (syntax.Named name es) = named_place s m i (line_at s name.token.0) (denoted s name.token.0) es (close_all s m i es)
-  close_place s m i (syntax.Dot token a name es) = image_place (stream_of s a)
+  close_place s m i (syntax.Named name es) =
+      if_any (connection_at s name.token.0)
+      (λ k. if_any (declared_attribute (denoted s name.token.0)) (place_of_attribute s (line_at s name.token.0) (connected_object s m i k) es (close_all s m i es)) Unbuilt)
+      (named_place s m i (line_at s name.token.0) (denoted s name.token.0) es (close_all s m i es))
+  close_place s m i (syntax.Dot token a name es) =
+      if_any (declared_attribute (denoted s name.token.0)) (place_of_attribute s (line_at s name.token.0) (close s m i a) es (close_all s m i es)) (image_place (stream_of s a))
   close_place s m i _ = Unbuilt
 
   pub close_all : Source → Instances → ℕ → Expressions → Terms
@@ -335,15 +369,21 @@ abbrev mutual
   close_actuals s m i line NoMore [] = NoTerm
   close_actuals s m i line NoMore (f ∷ fs) = Further Unbuilt NoTerm
   close_actuals s m i line (Then e es) [] = Further Unbuilt NoTerm
-  close_actuals s m i line (Then e es) (f ∷ fs) = Further (actual_term line f.mode f.kind (is_text_type f.ty) (close s m i e)) (close_actuals s m i line es fs)
+  close_actuals s m i line (Then e es) (f ∷ fs) =
+      Further (fitting (parameter_qualification s f.kind f.ty) line (actual_term line f.mode f.kind (is_text_type f.ty) (close s m i e))) (close_actuals s m i line es fs)
+
+-- the actual parameters of a block prefix, whose class has these formal parameters
+abbrev pub close_parameters : Source → Instances → ℕ → (line : ℕ) → Expressions → List Formal → Terms
+close_parameters s m i line es fs = with_arrays_kept fs (close_actuals s m i line es fs)
 
 -- ---- left sides
 
--- a left side: a cell, or the tree of an address, or that of a text which a text is assigned to
+-- a left side: a cell, or the tree of an address, or that of a text which a text is assigned to, or the address of a reference
 pub data Left : Type 0 where
   LeftCell : (instance : ℕ) → Key → Left
   LeftAddress : Term → Left
   LeftText : (line : ℕ) → Term → Left
+  LeftReference : (line : ℕ) → Term → Left
   LeftUnbuilt : Left
 
 abbrev pub left_in : Option ℕ → (ℕ → Left) → Left
@@ -380,9 +420,16 @@ abbrev pub named_left : Source → Instances → ℕ → (line : ℕ) → Option
 named_left s m i line (Some (denotation.Declared d)) es = declared_left s m i line d (entry_of s.tables d) es
 named_left s m i line _ es = LeftUnbuilt
 
+-- an attribute of an object is found anew as a left side
+abbrev pub left_found : {A : Type 0} → Option A → (place : Term) → Left → Left
+left_found None place other = other
+left_found (Some a) place other = LeftAddress place
+
 -- a variable as a left side
 abbrev pub left_variable : Source → Instances → ℕ → Expression → Left
-left_variable s m i (syntax.Named name es) = named_left s m i (line_at s name.token.0) (denoted s name.token.0) es
+left_variable s m i (syntax.Named name es) =
+    left_found (connection_at s name.token.0) (close_place s m i (syntax.Named name es)) (named_left s m i (line_at s name.token.0) (denoted s name.token.0) es)
+left_variable s m i (syntax.Dot token a name es) = left_found (declared_attribute (denoted s name.token.0)) (close_place s m i (syntax.Dot token a name es)) LeftUnbuilt
 left_variable s m i e = LeftUnbuilt
 
 -- The block of the procedure whose result an expression is as a left side: of the identifier alone of a procedure, inside its text.
@@ -410,12 +457,21 @@ result_or s m i (Some block) text = in_instance (at_level m (level_of s block) i
 abbrev pub left_text : Source → Instances → ℕ → Expression → Term
 left_text s m i e = result_or s m i (own_result s e) (close s m i e)
 
--- `:=` assigns a text to a text, and any other value to a variable; `:-` assigns a text to a variable; references are not built
+-- A reference is assigned to a variable, an element of an array, an attribute, or the result of a procedure. The value is held against the
+-- qualification of the left side.
+abbrev pub result_place : Source → Instances → ℕ → Option ℕ → (place : Term) → Term
+result_place s m i None place = place
+result_place s m i (Some block) place = in_instance (at_level m (level_of s block) i) (λ j. PlaceOf j Result)
+
+abbrev pub reference_place : Source → Instances → ℕ → Expression → Term
+reference_place s m i e = qualified_place (qualification s (type_at s (typed_token e))) (result_place s m i (own_result s e) (close_place s m i e))
+
+-- `:=` assigns a text to a text, and any other value to a variable; `:-` assigns a text to a variable, and a reference
 abbrev pub close_left_of : (text : Bool) → Assignment → Source → Instances → ℕ → (line : ℕ) → Expression → Left
 close_left_of true assignment.Value s m i line e = LeftText line (left_text s m i e)
 close_left_of true assignment.Reference s m i line e = left_variable s m i e
 close_left_of false assignment.Value s m i line e = left_variable s m i e
-close_left_of false assignment.Reference s m i line e = LeftUnbuilt
+close_left_of false assignment.Reference s m i line e = LeftReference line (reference_place s m i e)
 
 -- a left side, with the line of its sign
 abbrev pub close_left : Source → Instances → ℕ → Assignment → (line : ℕ) → Expression → Left

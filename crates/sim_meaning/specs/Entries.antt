@@ -58,6 +58,7 @@ abbrev pub with_result : Option TypeName → List Held → List Held
 with_result None hs = hs
 with_result (Some type) hs = record { key = Result; value = of_kind (kind_named type) } ∷ hs
 
+-- The cells with which an instance of a text starts. Classes and prefixed blocks have those of all their levels, which `Objects` lists.
 unfoldable pub first_cells : Source → ℕ → Text → List Held
 first_cells s k (BlockText begin ds ss) = cells_from s (numbers_of s k)
 first_cells s k (ProcedureText result h a) = with_result result (cells_from s (numbers_of s k))

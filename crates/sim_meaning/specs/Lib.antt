@@ -2,11 +2,16 @@ pub mod Names
 pub mod Constants
 pub mod Texts
 pub mod Pending
+pub mod Levels
+pub mod Attributes
 pub mod Closing
 pub mod Steps
 pub mod Statements
 pub mod Entries
+pub mod Objects
+pub mod Connections
 pub mod Meaning
 pub mod Sane
 pub mod Examples
 pub mod TextExamples
+pub mod ClassExamples

@@ -7,13 +7,16 @@ use Rattle.sim_tree.specs.Syntax.{Declarations, Statements}
 use Rattle.sim_code.specs.Outcome.{Going, Normal, Run, World, after, first_world}
 use Rattle.sim_code.specs.Events.{applying_one, applying_two, choosing, entering, having, joining, no_rule, performing, pop_integers, pop_many, pop_truth, popping, stopping, testing_step, ticking, when}
 use Rattle.sim_code.specs.Arrays.{giving_back, handed_over, making_array, pairs}
-use Rattle.sim_code.specs.Instances.{Instance, given, is_given_at_end, is_live, no_instances}
-use Rattle.sim_meaning.specs.Pending.{Activation, AgainOp, ArrayOp, ArrayValue, BackOp, BranchOp, CallOp, ChooseOp, Configuration, CopyOp, Do, DropOp, ElementOp, ElementsOp, EndBlock, EndProcedure, EndProgram, EnterOp, Eval, Exec, Execs, FetchOp, GiveOp, Held, IfOp, Instances, Item, JoinOp, Of, OneOp, Op, PastOp, RaiseOp, Result, ShareOp, StandardOp, StepOp, StepTestOp, StoreOp, TestOp, TwoOp, Val, WhileElementOp, cell, instance_in, plain}
+use Rattle.sim_code.specs.Instances.{Instance, given, is_given_at_end, is_live, no_instances, object_ended}
+use Rattle.sim_meaning.specs.Pending.{Activation, AgainOp, ArrayOp, ArrayValue, AttributeOp, BackOp, BranchOp, CallOp, ChooseOp, Configuration, ConnectOp, CopyOp, DeclareOp, Do, DropOp, ElementOp, ElementsOp, EndBlock, EndLevel, EndObject, EndPrefixed, EndProcedure, EndProgram, EnterOp, Eval, Exec, Execs, FetchOp, FitsOp, GiveOp, Held, IfOp, InnerOp, Instances, Item, JoinOp, KeepOp, LevelOp, MemberOp, NewOp, ObjectOp, Of, OneOp, Op, PastOp, PrefixedOp, QuaOp, QualifiedElementOp, RaiseOp, ReferOp, Result, ShareOp, StandardOp, StepOp, StepTestOp, StoreOp, SwapOp, TestOp, TwoOp, Val, WhenOp, WhileElementOp, cell, instance_in, plain}
 use Rattle.sim_meaning.specs.Constants.{constants_of}
-use Rattle.sim_meaning.specs.Texts.{BlockText, ProcedureText, Text, text}
+use Rattle.sim_meaning.specs.Texts.{BlockText, PrefixedText, ProcedureText, Text, text}
+use Rattle.sim_meaning.specs.Levels.{levels}
 use Rattle.sim_meaning.specs.Closing.{close}
 use Rattle.sim_meaning.specs.Steps.{copied, element_found, eval, fetched, given_to, go, operand, put_back, stored, with_value}
 use Rattle.sim_meaning.specs.Statements.{elements, exec, execs, first_branch, raised, step_tested, while_element}
+use Rattle.sim_meaning.specs.Objects.{attribute_found, fitted, generated, inner_done, kept, member_tested, object_found, prefix_done, prefixed_entered, qua_tested, qualified_element_found, referred}
+use Rattle.sim_meaning.specs.Connections.{inspected, inspected_when}
 use Rattle.sim_meaning.specs.Entries.{arrays_by_value, arrays_declared, filled_behind, first_cells, formals_of, in_instance, instances_kept, words_of_cells}
 
 -- ---- entries
@@ -91,17 +94,34 @@ do_op s l o m i w vals rest FetchOp = fetched o m i w vals rest
 do_op s l o m i w vals rest (CopyOp line) = copied l o m i w vals rest line
 do_op s l o m i w vals rest (CallOp k n line) = called s l o m i w vals rest k n line
 do_op s l o m i w vals rest (StandardOp name line) = performing operand put_back l line name vals o m (λ p m value vals. go p m i w (with_value value vals) rest)
+-- objects and references
+do_op s l o m i w vals rest (NewOp k n line) = generated s l o m i w vals rest k n line
+do_op s l o m i w vals rest (AttributeOp k key class line) = attribute_found s o m i w vals rest k key class line
+do_op s l o m i w vals rest (ObjectOp line) = object_found o m i w vals rest line
+do_op s l o m i w vals rest (QualifiedElementOp n line k) = qualified_element_found o m i w vals rest n line k
+do_op s l o m i w vals rest (MemberOp member k) = member_tested s o m i w vals rest member k
+do_op s l o m i w vals rest (QuaOp k line) = qua_tested s o m i w vals rest k line
+do_op s l o m i w vals rest (FitsOp k line) = fitted s o m i w vals rest k line
+do_op s l o m i w vals rest KeepOp = kept o m i w vals rest
 -- values in hand, and assignments
 do_op s l o m i w vals rest DropOp = popping vals o (λ v vals. go o m i w vals rest)
 do_op s l o m i w vals rest AgainOp = popping vals o (λ v vals'. go o m i w (v ∷ vals) rest)
+do_op s l o m i w vals rest SwapOp = popping vals o (λ v vals. popping vals o (λ u vals. go o m i w (u ∷ v ∷ vals) rest))
 do_op s l o m i w vals rest (StoreOp t) = stored o m i w vals rest t
 do_op s l o m i w vals rest (ShareOp ts) = popping vals o (λ v vals. go o m i (Do (GiveOp v ts) ∷ w) vals rest)
 do_op s l o m i w vals rest (GiveOp v ts) = given_to o m i w vals rest v ts
+do_op s l o m i w vals rest (ReferOp line) = referred s o m i w vals rest line
 do_op s l o m i w vals rest (ArrayOp kind n line) = pop_integers plain (2 * n) [] vals o (λ bounds vals. making_array l line i kind (pairs bounds) o (λ array p. go p m i w (ArrayValue array ∷ vals) rest))
 -- statements
 do_op s l o m i w vals rest (Exec a) = exec s l o m i w vals rest a
 do_op s l o m i w vals rest (Execs ss) = execs o m i w vals rest ss
 do_op s l o m i w vals rest (EnterOp k line) = sub_block_entered s l o m i w vals rest k line (text s k)
+do_op s l o m i w vals rest (PrefixedOp k n line) = prefix_done s l o m i w vals rest k n line
+do_op s l o m i w vals rest (DeclareOp ds) = go o m i (arrays_declared s m i ds w) vals rest
+do_op s l o m i w vals rest (LevelOp k) = go o m i w vals rest
+do_op s l o m i w vals rest (InnerOp xs) = inner_done o m i w vals rest xs
+do_op s l o m i w vals rest (ConnectOp k a other) = inspected o m i w vals rest k a other
+do_op s l o m i w vals rest (WhenOp arms other) = inspected_when s o m i w vals rest arms other
 do_op s l o m i w vals rest (ChooseOp a b) = pop_truth plain vals o (λ c vals. choosing c (go o m i (Do (Exec a) ∷ first_branch b w) vals rest) (go o m i (Do (Execs b) ∷ w) vals rest))
 do_op s l o m i w vals rest (TestOp c a) = ticking l o (λ p. go p m i (Do (Eval (close s m i c)) ∷ Do (BranchOp a (BackOp (TestOp c a))) ∷ w) vals rest)
 do_op s l o m i w vals rest (BranchOp a again) = pop_truth plain vals o (λ c vals. choosing c (go o m i (Do (Exec a) ∷ Do again ∷ w) vals rest) (go o m i w vals rest))
@@ -119,6 +139,10 @@ do_item s l o m i w vals rest (Do op) = do_op s l o m i w vals rest op
 do_item s l o m i w vals rest EndBlock = leaving s rest None i o m
 do_item s l o m i w vals rest (EndProcedure true) = having (cell m i Result) o (λ v. leaving s rest (Some v) i o m)
 do_item s l o m i w vals rest (EndProcedure false) = leaving s rest None i o m
+do_item s l o m i w vals rest (EndLevel k) = go o m i w vals rest
+-- each object that ends takes its tick
+do_item s l o m i w vals rest EndObject = ticking l o (λ p. object_ended p m i rest)
+do_item s l o m i w vals rest EndPrefixed = leaving s rest None i o m
 do_item s l o m i w vals rest EndProgram = stopping Normal o
 
 abbrev pub do_work : Source → Limits → World → Instances → ℕ → List Val → List Activation → List Item → Run Configuration
@@ -131,6 +155,7 @@ program_entered s l o m (Some (BlockText begin ds ss)) =
     let cells = first_cells s 0 (BlockText begin ds ss) in
     entering l (line_at s begin) (words_of_cells cells) o (λ p.
     in_instance s p m 0 None cells (λ now. Do PastOp ∷ block_work s now (length m.instances) ds ss EndProgram) [])
+program_entered s l o m (Some (PrefixedText class arguments ds ss)) = having (levels s 0) o (λ xs. prefixed_entered s l o m [] 0 (line_at s class.token.0) [] None EndProgram xs)
 program_entered s l o m _ = no_rule o
 
 abbrev pub first_step : Source → Limits → World → Instances → Run Configuration

@@ -1,6 +1,7 @@
 -- Closed trees, what is pending, and the instances of the meaning.
 use Rattle.std.specs.Prelude.{ℕ, Bool, true, false, ◌==◌, if◌then◌else◌, List, [], ◌∷◌, Option, Some, None}
-use Rattle.sim_tree.specs.Syntax.{Element, Expression, Statement, Statements}
+use Rattle.sim_tree.specs.declared.expr.Membership.{Membership}
+use Rattle.sim_tree.specs.Syntax.{Arms, Declarations, Element, Expression, Statement, Statements}
 use Rattle.sim_values.specs.declared.kind.Kind.{Kind}
 use Rattle.sim_values.specs.declared.operators.Dyadic.{Dyadic}
 use Rattle.sim_values.specs.declared.operators.Monadic.{Monadic}
@@ -35,6 +36,21 @@ mutual
     CopyOf : (line : ℕ) → Term → Term
     CallOf : (instance text : ℕ) → (actuals : Terms) → (line : ℕ) → Term
     StandardOf : Standard → (actuals : Terms) → (line : ℕ) → Term
+    -- a new object of the class of a text, which is declared in an instance
+    NewOf : (instance text : ℕ) → (actuals : Terms) → (line : ℕ) → Term
+    -- where an attribute of an object lies that the class of a text declares, with the qualification of a reference there; and a call of
+    -- a procedure that the object has
+    AttributeOf : (text : ℕ) → Key → (class : Option ℕ) → (line : ℕ) → (object : Term) → Term
+    RemoteCallOf : (object : Term) → (text : ℕ) → (actuals : Terms) → (line : ℕ) → Term
+    -- where a reference lies, with its qualification
+    QualifiedPlaceOf : (instance : ℕ) → Key → (class : ℕ) → Term
+    QualifiedElementOf : (line class : ℕ) → (array : Term) → (subscripts : Terms) → Term
+    -- `is` and `in`, `qua`, and a reference that is passed to a parameter of a class
+    MemberOf : Membership → (class : ℕ) → (object : Term) → Term
+    QuaOf : (class line : ℕ) → (object : Term) → Term
+    FitsOf : (class line : ℕ) → (actual : Term) → Term
+    -- an array that is kept
+    KeptOf : Term → Term
     -- a form that is not built
     Unbuilt : Term
 
@@ -69,12 +85,25 @@ instance_in (Link j) = Some j
 instance_in _ = None
 
 -- What a value is assigned to: a cell, or where an address in hand leads. By `:=` a text is assigned to a text: one in hand, or that in a
--- cell, which the controlled variable of a loop is.
+-- cell, which the controlled variable of a loop is. A reference goes where an address in hand leads. The controlled variable of a loop may
+-- also be an attribute of a connected object, or a reference, which are found anew each time.
 pub data Target : Type 0 where
   ToCell : (instance : ℕ) → Key → Target
   ToAddress : Target
   ToText : (line : ℕ) → Target
   ToTextOf : (instance : ℕ) → Key → (line : ℕ) → Target
+  ToReference : (line : ℕ) → Target
+  ToPlace : (place : Term) → Target
+  ToTextAt : (place : Term) → (line : ℕ) → Target
+  ToReferenceAt : (place : Term) → (line : ℕ) → Target
+
+-- A level of a class or of a prefixed block: its text, with its declarations and statements; and whether the statements of the levels inside
+-- come behind these, as they do where no `inner` is written.
+pub record Level : Type 0 where
+  pub text : ℕ
+  pub declarations : Declarations
+  pub statements : Statements
+  pub inner_last : Bool
 
 -- What is still to be done. An operator takes the values that it needs from those in hand.
 pub data Op : Type 0 where
@@ -89,13 +118,24 @@ pub data Op : Type 0 where
   CopyOp : (line : ℕ) → Op
   CallOp : (text actuals line : ℕ) → Op
   StandardOp : Standard → (line : ℕ) → Op
-  -- the value in hand is dropped, or there once more
+  NewOp : (text actuals line : ℕ) → Op
+  AttributeOp : (text : ℕ) → Key → (class : Option ℕ) → (line : ℕ) → Op
+  ObjectOp : (line : ℕ) → Op
+  QualifiedElementOp : (subscripts line class : ℕ) → Op
+  MemberOp : Membership → (class : ℕ) → Op
+  QuaOp : (class line : ℕ) → Op
+  FitsOp : (class line : ℕ) → Op
+  KeepOp : Op
+  -- the value in hand is dropped, or there once more; the last two change places
   DropOp : Op
   AgainOp : Op
+  SwapOp : Op
   -- an assignment to one left side; to several, the last one first, where the value is in hand, and where it was taken
   StoreOp : Target → Op
   ShareOp : List Target → Op
   GiveOp : Val → List Target → Op
+  -- a reference is put where an address leads
+  ReferOp : (line : ℕ) → Op
   -- a new array
   ArrayOp : Kind → (dimensions line : ℕ) → Op
   -- statements
@@ -103,6 +143,14 @@ pub data Op : Type 0 where
   Execs : Statements → Op
   EnterOp : (text line : ℕ) → Op
   ChooseOp : Statement → Statements → Op
+  -- a prefixed block is entered; the declarations of a level; these are made; the statements of the levels that are left, if any is
+  PrefixedOp : (text actuals line : ℕ) → Op
+  DeclareOp : Declarations → Op
+  LevelOp : (text : ℕ) → Op
+  InnerOp : List Level → Op
+  -- an object is connected, in a connection that begins at a token, or by one of some arms
+  ConnectOp : (connection : ℕ) → Statement → (otherwise : Statements) → Op
+  WhenOp : Arms → (otherwise : Statements) → Op
   -- a test is made anew; where it is true the statement is done, and then something else
   TestOp : Expression → Statement → Op
   BranchOp : Statement → Op → Op
@@ -122,6 +170,10 @@ pub data Item : Type 0 where
   EndBlock : Item
   -- of a procedure with a result, or without one
   EndProcedure : (has_result : Bool) → Item
+  -- of a level's statements where `inner` led to them; of an object; of a prefixed block
+  EndLevel : (text : ℕ) → Item
+  EndObject : Item
+  EndPrefixed : Item
   EndProgram : Item
 
 -- An instance on a chain, with its pending work and its values in hand, the last one first.
@@ -178,3 +230,16 @@ put_in (Some hs) key v = held_set key v hs
 -- the instances with another value in a cell
 abbrev pub cell_set : Instances → (instance : ℕ) → Key → Val → Option Instances
 cell_set m j key v = with_cells m j (put_in (cells_of m j) key v)
+
+-- Cells of connections are there from the first connection on.
+abbrev pub held_put : Key → Val → List Held → List Held
+held_put key v [] = record { key = key; value = Some v } ∷ []
+held_put key v (h ∷ hs) = if same_key h.key key then record { key = h.key; value = Some v } ∷ hs else h ∷ held_put key v hs
+
+abbrev pub made_in : Option (List Held) → Key → Val → Option (List Held)
+made_in None key v = None
+made_in (Some hs) key v = Some (held_put key v hs)
+
+-- the instances with a value in a cell that need not have been there
+abbrev pub cell_made : Instances → (instance : ℕ) → Key → Val → Option Instances
+cell_made m j key v = with_cells m j (made_in (cells_of m j) key v)

@@ -6,6 +6,7 @@ use Rattle.sim_scope.specs.declared.scopes.Denotation.TheVariants as denotation
 use Rattle.sim_scope.specs.Assignments.{LeftSide, last_value, left_sides}
 use Rattle.sim_scope.specs.Scopes.{result_of}
 use Rattle.sim_scope.specs.Source.{Source, block_around, denoted, line_at}
+use Rattle.sim_tree.specs.declared.expr.Identifier.{Identifier}
 use Rattle.sim_tree.specs.declared.stmt.Assignment.{Assignment}
 use Rattle.sim_tree.specs.declared.stmt.Assignment.TheVariants as assignment
 use Rattle.sim_tree.specs.Syntax.{Also, Begin, Block, Element, Expression, Expressions, NoDeclaration, NoMore, NoStatement, RightSide, Statement, Statements, With}
@@ -16,11 +17,12 @@ use Rattle.sim_values.specs.declared.standard.Standard.{Standard}
 use Rattle.sim_values.specs.declared.standard.StandardType.{StandardType}
 use Rattle.sim_values.specs.Standard.{row_of}
 use Rattle.sim_code.specs.Outcome.{Run, World}
-use Rattle.sim_code.specs.Events.{no_rule, ticking}
+use Rattle.sim_code.specs.Events.{having, no_rule, ticking}
+use Rattle.sim_meaning.specs.Levels.{levels, levels_inside, text_at}
 use Rattle.sim_meaning.specs.Names.{procedure_named}
-use Rattle.sim_meaning.specs.Pending.{Activation, AgainOp, BackOp, BranchOp, Cell, ChooseOp, Configuration, Do, DropOp, ElementsOp, EnterOp, Eval, Exec, Execs, Instances, Item, Op, PastOp, RaiseOp, ShareOp, StepOp, StepTestOp, StoreOp, Key, Target, TestOp, ToAddress, ToCell, ToText, ToTextOf, TwoOp, Val, WhileElementOp}
-use Rattle.sim_meaning.specs.Closing.{Left, LeftAddress, LeftCell, LeftText, close, close_left, has_type, is_text, left_variable}
-use Rattle.sim_meaning.specs.Steps.{go}
+use Rattle.sim_meaning.specs.Pending.{Activation, AgainOp, BackOp, BranchOp, Cell, ChooseOp, Configuration, ConnectOp, Do, DropOp, ElementsOp, EnterOp, Eval, Exec, Execs, InnerOp, Instances, Item, Level, Op, PastOp, PrefixedOp, RaiseOp, ShareOp, StepOp, StepTestOp, StoreOp, Key, Target, Term, Terms, TestOp, ToAddress, ToCell, ToPlace, ToReference, ToReferenceAt, ToText, ToTextAt, ToTextOf, TwoOp, Val, ValueAt, WhenOp, WhileElementOp}
+use Rattle.sim_meaning.specs.Closing.{Left, LeftAddress, LeftCell, LeftReference, LeftText, class_parameters, close, close_left, close_parameters, has_type, is_text, left_variable, reference_place}
+use Rattle.sim_meaning.specs.Steps.{count, each, go}
 
 -- ---- calls
 
@@ -41,6 +43,7 @@ denoted_leaves s (Some (denotation.Standard name)) = standard_leaves (procedure_
 abbrev pub leaves : Source → Expression → Bool
 leaves s (syntax.Named name es) = denoted_leaves s (denoted s name.token.0)
 leaves s (syntax.Dot token a name es) = denoted_leaves s (denoted s name.token.0)
+leaves s (syntax.New token class es) = true
 leaves s _ = false
 
 abbrev pub dropping : Bool → List Item → List Item
@@ -58,6 +61,7 @@ abbrev pub before : Left → Option Lefts → Option Lefts
 before (LeftCell j key) (Some x) = Some (record { work = x.work; targets = ToCell j key ∷ x.targets })
 before (LeftAddress t) (Some x) = Some (record { work = Do (Eval t) ∷ x.work; targets = ToAddress ∷ x.targets })
 before (LeftText line t) (Some x) = Some (record { work = Do (Eval t) ∷ x.work; targets = ToText line ∷ x.targets })
+before (LeftReference line t) (Some x) = Some (record { work = Do (Eval t) ∷ x.work; targets = ToReference line ∷ x.targets })
 before _ _ = None
 
 abbrev pub lefts : Source → Instances → ℕ → List LeftSide → Option Lefts
@@ -84,6 +88,29 @@ abbrev pub compound : Source → World → Instances → ℕ → List Item → L
 compound s o m i w vals rest (Begin token NoDeclaration ss end) = go o m i (Do (Execs ss) ∷ w) vals rest
 compound s o m i w vals rest (Begin token (With d ds) ss end) = entered_at o m i w vals rest (block_around s token) (line_at s token)
 
+-- ---- prefixed blocks, and `inner`
+
+abbrev pub begin_of : Block → ℕ
+begin_of (Begin token ds ss end) = token
+
+-- A block prefix: its actual parameters are evaluated, and then the block is entered.
+abbrev pub prefix_at : World → Instances → ℕ → List Item → List Val → List Activation → (text line : ℕ) → Terms → Run Configuration
+prefix_at o m i w vals rest k line terms = go o m i (each terms (Do (PrefixedOp k (count terms) line) ∷ w)) vals rest
+
+abbrev pub prefix_begun : Source → World → Instances → ℕ → List Item → List Val → List Activation → (class : Identifier) → Expressions → Option ℕ → Run Configuration
+prefix_begun s o m i w vals rest class es None = no_rule o
+prefix_begun s o m i w vals rest class es (Some k) =
+    prefix_at o m i w vals rest k (line_at s class.token.0) (close_parameters s m i (line_at s class.token.0) es (class_parameters s (Some k)))
+
+-- The statements of the levels inside stand in place of `inner`, which is written in a level of the operating instance.
+abbrev pub levels_of_instance : Source → Option ℕ → Option (List Level)
+levels_of_instance s None = None
+levels_of_instance s (Some k) = levels s k
+
+abbrev pub inner_begun : Source → World → Instances → ℕ → List Item → List Val → List Activation → Option ℕ → Run Configuration
+inner_begun s o m i w vals rest None = no_rule o
+inner_begun s o m i w vals rest (Some k) = having (levels_of_instance s (text_at m i)) o (λ xs. go o m i (Do (InnerOp (levels_inside k xs)) ∷ w) vals rest)
+
 -- ---- loops
 
 -- the controlled variable, which is a cell: what is assigned to it, by the sign and by whether it is a text
@@ -93,9 +120,22 @@ controlled_cell true assignment.Reference line j key = Some (ToCell j key)
 controlled_cell false assignment.Value line j key = Some (ToCell j key)
 controlled_cell false assignment.Reference line j key = None
 
+-- an attribute of a connected object, and a reference
+abbrev pub controlled_place : (text : Bool) → Assignment → (line : ℕ) → (place : Term) → Option Target
+controlled_place true assignment.Value line a = Some (ToTextAt a line)
+controlled_place true assignment.Reference line a = Some (ToPlace a)
+controlled_place false assignment.Value line a = Some (ToPlace a)
+controlled_place false assignment.Reference line a = None
+
 abbrev pub controlled : (text : Bool) → Assignment → (line : ℕ) → Left → Option Target
 controlled text sign line (LeftCell j key) = controlled_cell text sign line j key
+controlled text sign line (LeftAddress a) = controlled_place text sign line a
+controlled text sign line (LeftReference line' a) = Some (ToReferenceAt a line)
 controlled text sign line _ = None
+
+abbrev pub controlled_left : (text : Bool) → Assignment → Source → Instances → ℕ → Expression → Left
+controlled_left false assignment.Reference s m i e = LeftReference 0 (reference_place s m i e)
+controlled_left _ _ s m i e = left_variable s m i e
 
 abbrev pub looping : World → Instances → ℕ → List Item → List Val → List Activation → Option Target → List Element → Statement → Run Configuration
 looping o m i w vals rest (Some t) es a = go o m i (Do (ElementsOp t es a) ∷ w) vals rest
@@ -107,12 +147,20 @@ reading (ToCell j key) w = Do (Eval (Cell j key)) ∷ w
 reading ToAddress w = w
 reading (ToText line) w = w
 reading (ToTextOf j key line) w = Do (Eval (Cell j key)) ∷ w
+reading (ToReference line) w = w
+reading (ToPlace a) w = Do (Eval (ValueAt a)) ∷ w
+reading (ToTextAt a line) w = Do (Eval (ValueAt a)) ∷ w
+reading (ToReferenceAt a line) w = Do (Eval (ValueAt a)) ∷ w
 
 abbrev pub finding : Target → List Item → List Item
 finding (ToCell j key) w = w
 finding ToAddress w = w
 finding (ToText line) w = w
 finding (ToTextOf j key line) w = Do (Eval (Cell j key)) ∷ w
+finding (ToReference line) w = w
+finding (ToPlace a) w = w
+finding (ToTextAt a line) w = Do (Eval (ValueAt a)) ∷ w
+finding (ToReferenceAt a line) w = w
 
 -- The elements of a `for` list are taken in turn. A plain element takes its tick and gives one turn.
 abbrev pub elements : Source → Limits → World → Instances → ℕ → List Item → List Val → List Activation → Target → List Element → Statement → Run Configuration
@@ -148,8 +196,12 @@ exec s l o m i w vals rest (syntax.Call e) = ticking l o (λ p. go p m i (Do (Ev
 exec s l o m i w vals rest (syntax.Assign left rs) = ticking l o (λ p. assigned s p m i w vals rest (lefts s m i (left_sides left rs)) (last_value left rs))
 exec s l o m i w vals rest (syntax.Choose token c a b) = ticking l o (λ p. go p m i (Do (Eval (close s m i c)) ∷ Do (ChooseOp a b) ∷ w) vals rest)
 exec s l o m i w vals rest (syntax.Repeat token c a) = ticking l o (λ p. go p m i (Do (TestOp c a) ∷ w) vals rest)
-exec s l o m i w vals rest (syntax.For token x sign assign es a) = ticking l o (λ p. looping p m i w vals rest (controlled (is_text s (syntax.Named x NoMore)) sign (line_at s assign) (left_variable s m i (syntax.Named x NoMore))) es a)
-exec s l o m i w vals rest _ = no_rule o
+exec s l o m i w vals rest (syntax.For token x sign assign es a) = ticking l o (λ p. looping p m i w vals rest (controlled (is_text s (syntax.Named x NoMore)) sign (line_at s assign) (controlled_left (is_text s (syntax.Named x NoMore)) sign s m i (syntax.Named x NoMore))) es a)
+exec s l o m i w vals rest (syntax.Prefixed class es b) = ticking l o (λ p. prefix_begun s p m i w vals rest class es (block_around s (begin_of b)))
+exec s l o m i w vals rest (syntax.Inner token) = ticking l o (λ p. inner_begun s p m i w vals rest (block_around s token))
+exec s l o m i w vals rest (syntax.Inspect token e opening a end other) = ticking l o (λ p. go p m i (Do (Eval (close s m i e)) ∷ Do (ConnectOp opening a other) ∷ w) vals rest)
+exec s l o m i w vals rest (syntax.InspectWhen token e arms other) = ticking l o (λ p. go p m i (Do (Eval (close s m i e)) ∷ Do (WhenOp arms other) ∷ w) vals rest)
+exec s l o m i w vals rest (syntax.Activate token word e schedule) = no_rule o
 
 abbrev pub execs : World → Instances → ℕ → List Item → List Val → List Activation → Statements → Run Configuration
 execs o m i w vals rest NoStatement = go o m i w vals rest

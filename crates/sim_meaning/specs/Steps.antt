@@ -7,7 +7,7 @@ use Rattle.sim_code.specs.Outcome.{Going, Run, World}
 use Rattle.sim_code.specs.Events.{assigning, having, image_set, image_value, no_rule, only_text, popping}
 use Rattle.sim_code.specs.Arrays.{copying_array, element, element_set, finding_element}
 use Rattle.sim_code.specs.Instances.{CellPlace, ElementPlace, ImagePlace, Place}
-use Rattle.sim_meaning.specs.Pending.{Address, Activation, ArrayValue, Cell, CallOf, CallOp, Configuration, CopyOf, CopyOp, Do, Either, ElementOf, ElementOp, Eval, FetchOp, Further, GiveOp, Given, IfOp, ImageOf, Instances, Item, JoinOp, Joined, Key, Link, NoTerm, Of, One, OneOp, PlaceOf, StandardOf, StandardOp, StoreOp, Target, Term, Terms, ToAddress, ToCell, ToText, ToTextOf, Two, TwoOp, Unbuilt, Val, ValueAt, array_in, cell, cell_set, place_in, plain}
+use Rattle.sim_meaning.specs.Pending.{Address, Activation, ArrayValue, AttributeOf, AttributeOp, Cell, CallOf, CallOp, Configuration, CopyOf, CopyOp, Do, Either, ElementOf, ElementOp, Eval, FetchOp, FitsOf, FitsOp, Further, GiveOp, Given, IfOp, ImageOf, Instances, Item, JoinOp, Joined, KeepOp, KeptOf, Key, Link, MemberOf, MemberOp, NewOf, NewOp, NoTerm, ObjectOp, Of, One, OneOp, PlaceOf, QualifiedElementOf, QualifiedElementOp, QualifiedPlaceOf, QuaOf, QuaOp, ReferOp, RemoteCallOf, StandardOf, StandardOp, StoreOp, SwapOp, Target, Term, Terms, ToAddress, ToCell, ToPlace, ToReference, ToReferenceAt, ToText, ToTextAt, ToTextOf, Two, TwoOp, Unbuilt, Val, ValueAt, array_in, cell, cell_set, place_in, plain}
 
 -- the innermost instance goes on with this work and these values in hand
 abbrev pub go : World → Instances → ℕ → List Item → List Val → List Activation → Run Configuration
@@ -42,6 +42,16 @@ eval o m i w vals rest (ValueAt a) = go o m i (Do (Eval a) ∷ Do FetchOp ∷ w)
 eval o m i w vals rest (CopyOf line a) = go o m i (Do (Eval a) ∷ Do (CopyOp line) ∷ w) vals rest
 eval o m i w vals rest (CallOf j k ts line) = go o m i (each ts (Do (CallOp k (count ts) line) ∷ w)) (Link j ∷ vals) rest
 eval o m i w vals rest (StandardOf name ts line) = go o m i (each ts (Do (StandardOp name line) ∷ w)) vals rest
+-- what objects have
+eval o m i w vals rest (NewOf j k ts line) = go o m i (each ts (Do (NewOp k (count ts) line) ∷ w)) (Link j ∷ vals) rest
+eval o m i w vals rest (AttributeOf k key class line a) = go o m i (Do (Eval a) ∷ Do (AttributeOp k key class line) ∷ w) vals rest
+eval o m i w vals rest (RemoteCallOf a k ts line) = go o m i (Do (Eval a) ∷ Do (ObjectOp line) ∷ each ts (Do (CallOp k (count ts) line) ∷ w)) vals rest
+eval o m i w vals rest (QualifiedPlaceOf j key k) = go o m i w (Address (CellPlace j key (Some k)) ∷ vals) rest
+eval o m i w vals rest (QualifiedElementOf line k a ts) = go o m i (Do (Eval a) ∷ each ts (Do (QualifiedElementOp (count ts) line k) ∷ w)) vals rest
+eval o m i w vals rest (MemberOf member k a) = go o m i (Do (Eval a) ∷ Do (MemberOp member k) ∷ w) vals rest
+eval o m i w vals rest (QuaOf k line a) = go o m i (Do (Eval a) ∷ Do (QuaOp k line) ∷ w) vals rest
+eval o m i w vals rest (FitsOf k line a) = go o m i (Do (Eval a) ∷ Do (FitsOp k line) ∷ w) vals rest
+eval o m i w vals rest (KeptOf a) = go o m i (Do (Eval a) ∷ Do KeepOp ∷ w) vals rest
 eval o m i w vals rest Unbuilt = no_rule o
 
 -- the value that lies somewhere
@@ -75,7 +85,7 @@ copied l o m i w vals rest line = popping vals o (λ v vals. having (array_in v)
 
 -- ---- assignments
 
--- a value is put where an address leads; a class is not built
+-- a value is put where an address leads; where references lie, it is held against their qualification first
 unfoldable pub putting : Place Key (Option ℕ) → Val → World → Instances → (World → Instances → Run Configuration) → Run Configuration
 putting (CellPlace j key None) v o m go = having (cell_set m j key v) o (λ m. go o m)
 putting (ElementPlace a n None) v o m go = having (plain v) o (λ p. having (element_set o a n p) o (λ o. go o m))
@@ -96,6 +106,11 @@ stored o m i w vals rest (ToCell j key) = popping vals o (λ v vals. having (cel
 stored o m i w vals rest ToAddress = popping vals o (λ v vals. popping vals o (λ p vals. having (place_in p) o (λ p. putting p v o m (λ o m. go o m i w vals rest))))
 stored o m i w vals rest (ToText line) = text_assigned o m i w vals rest line
 stored o m i w vals rest (ToTextOf j key line) = text_assigned o m i w vals rest line
+stored o m i w vals rest (ToReference line) = go o m i (Do (ReferOp line) ∷ w) vals rest
+-- a variable that is found anew, when its value is there
+stored o m i w vals rest (ToPlace a) = go o m i (Do (Eval a) ∷ Do SwapOp ∷ Do (StoreOp ToAddress) ∷ w) vals rest
+stored o m i w vals rest (ToTextAt a line) = text_assigned o m i w vals rest line
+stored o m i w vals rest (ToReferenceAt a line) = go o m i (Do (Eval a) ∷ Do SwapOp ∷ Do (ReferOp line) ∷ w) vals rest
 
 -- a value that was taken is given to one left side after another
 abbrev pub given_to : World → Instances → ℕ → List Item → List Val → List Activation → Val → List Target → Run Configuration

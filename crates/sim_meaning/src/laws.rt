@@ -2,6 +2,7 @@
 ghost use Rattle.std.specs.Prelude.{◌≡◌, Some, map};
 ghost use Rattle.sim_scope.specs.Bodies.{program_bodies};
 ghost use Rattle.sim_tree.specs.Syntax.{Program};
+ghost use Rattle.sim_meaning.specs.ClassExamples.{WorkedClasses};
 ghost use Rattle.sim_meaning.specs.Examples.{Worked};
 ghost use Rattle.sim_meaning.specs.TextExamples.{WorkedTexts};
 ghost use Rattle.sim_meaning.specs.Texts.{program_texts, text_of};
@@ -14,6 +15,11 @@ pub fn worked_programs()
 /// Small programs with texts, input and output do so too.
 pub fn worked_programs_with_texts()
     ensures { WorkedTexts }
+{}
+
+/// Small programs with classes do so too.
+pub fn worked_programs_with_classes()
+    ensures { WorkedClasses }
 {}
 
 /// The texts of each program are what its bodies are made of, one for one and in their order. Since the blocks of the tables of scopes are

@@ -1,0 +1,166 @@
+-- The closed trees of what objects have: of attributes behind a dot, and of those that are seen in a connection; of the classes that are
+-- named in expressions; and of references, which have a qualification.
+use Rattle.std.specs.Prelude.{ℕ, Bool, true, false, if◌then◌else◌, List, [], ◌∷◌, slice_get, Option, Some, None}
+use Rattle.sim_base.specs.declared.numbering.DeclNo.{DeclNo}
+use Rattle.sim_scope.specs.declared.scopes.Denotation.{Denotation}
+use Rattle.sim_scope.specs.declared.scopes.Denotation.TheVariants as denotation
+use Rattle.sim_scope.specs.declared.types.Entry.{Entry}
+use Rattle.sim_scope.specs.declared.types.Entry.TheVariants as entry
+use Rattle.sim_scope.specs.declared.types.Formal.{Formal}
+use Rattle.sim_scope.specs.declared.types.FormalKind.{FormalKind}
+use Rattle.sim_scope.specs.declared.types.FormalKind.TheVariants as shape
+use Rattle.sim_scope.specs.declared.types.Mode.{Mode}
+use Rattle.sim_scope.specs.declared.types.Mode.TheVariants as mode
+use Rattle.sim_scope.specs.declared.types.SimType.{SimType}
+use Rattle.sim_scope.specs.Access.{is_connection, is_kind}
+use Rattle.sim_scope.specs.Scopes.{entry_of}
+use Rattle.sim_scope.specs.Source.{Source, block_of, found_at, level_of}
+use Rattle.sim_scope.specs.Tables.{BlockOf}
+use Rattle.sim_tree.specs.declared.expr.Membership.{Membership}
+use Rattle.sim_tree.specs.Syntax.{Expressions, NoMore, Then}
+use Rattle.sim_values.specs.Plain.{Object}
+use Rattle.sim_code.specs.Instances.{at_level}
+use Rattle.sim_meaning.specs.Levels.{qualification}
+use Rattle.sim_meaning.specs.Pending.{AttributeOf, Cell, Connection, Declared, ElementOf, FitsOf, Further, Given, Instances, KeptOf, Key, MemberOf, NewOf, NoTerm, PlaceOf, QuaOf, QualifiedElementOf, QualifiedPlaceOf, RemoteCallOf, Term, Terms, Unbuilt, ValueAt}
+
+-- what is there, or else another tree
+abbrev pub if_any : {A : Type 0} → Option A → (A → Term) → Term → Term
+if_any None f other = other
+if_any (Some a) f other = f a
+
+-- ---- connections
+
+abbrev pub connection_in : Source → Option ℕ → Option ℕ
+connection_in s None = None
+connection_in s (Some k) = if is_kind is_connection s.tables k then Some k else None
+
+-- the connection through which what an identifier denotes is seen, if it is one
+unfoldable pub connection_at : Source → (token : ℕ) → Option ℕ
+connection_at s token = connection_in s (found_at s token)
+
+abbrev pub first_in : Option BlockOf → ℕ
+first_in None = 0
+first_in (Some b) = b.first
+
+-- A connection keeps its object in a cell of the instance in which it stands; the cell has the token with which the connection begins.
+abbrev pub cell_of_connection : Source → (connection : ℕ) → Key
+cell_of_connection s k = Connection (first_in (slice_get s.tables.blocks k))
+
+abbrev pub connected_object : Source → Instances → ℕ → (connection : ℕ) → Term
+connected_object s m i k = if_any (at_level m (level_of s k) i) (λ j. Cell j (cell_of_connection s k)) Unbuilt
+
+-- ---- attributes
+
+-- a variable, a constant or an array is found in the object, by the class that declares it
+abbrev pub attribute_place : Source → (line : ℕ) → DeclNo → (object : Term) → Term
+attribute_place s line d object = AttributeOf (block_of s d) (Declared d.0) None line object
+
+abbrev pub variable_attribute : (place : Term) → Expressions → Term
+variable_attribute place NoMore = ValueAt place
+variable_attribute place (Then e es) = Unbuilt
+
+-- an array by itself, or one of its elements
+abbrev pub array_attribute : (line : ℕ) → (place : Term) → Expressions → Terms → Term
+array_attribute line place NoMore terms = ValueAt place
+array_attribute line place (Then e es) terms = ValueAt (ElementOf line (ValueAt place) terms)
+
+abbrev pub parameter_attribute : (line : ℕ) → FormalKind → (place : Term) → Expressions → Terms → Term
+parameter_attribute line shape.Simple place es terms = variable_attribute place es
+parameter_attribute line shape.Array place es terms = array_attribute line place es terms
+parameter_attribute line shape.Procedure place es terms = Unbuilt
+
+abbrev pub entry_attribute : Source → (line : ℕ) → DeclNo → Option Entry → (object : Term) → Expressions → Terms → (actuals : Terms) → Term
+entry_attribute s line d (Some (entry.Variable type)) object es terms actuals = variable_attribute (attribute_place s line d object) es
+entry_attribute s line d (Some (entry.Constant type)) object es terms actuals = variable_attribute (attribute_place s line d object) es
+entry_attribute s line d (Some (entry.Array element dimensions)) object es terms actuals = array_attribute line (attribute_place s line d object) es terms
+entry_attribute s line d (Some (entry.Formal f)) object es terms actuals = parameter_attribute line f.kind (attribute_place s line d object) es terms
+entry_attribute s line d (Some (entry.Procedure result block)) object es terms actuals = RemoteCallOf object block actuals line
+entry_attribute s line d _ object es terms actuals = Unbuilt
+
+-- the attribute of an object, with its operands, as they are closed for themselves and for formal parameters
+abbrev pub attribute : Source → (line : ℕ) → (object : Term) → Expressions → Terms → (actuals : DeclNo → Terms) → DeclNo → Term
+attribute s line object es terms actuals d = entry_attribute s line d (entry_of s.tables d) object es terms (actuals d)
+
+abbrev pub declared_attribute : Option Denotation → Option DeclNo
+declared_attribute (Some (denotation.Declared d)) = Some d
+declared_attribute _ = None
+
+-- ---- where they lie
+
+abbrev pub variable_at : (place : Term) → Expressions → Term
+variable_at place NoMore = place
+variable_at place (Then e es) = Unbuilt
+
+abbrev pub element_at : (line : ℕ) → (place : Term) → Expressions → Terms → Term
+element_at line place NoMore terms = Unbuilt
+element_at line place (Then e es) terms = ElementOf line (ValueAt place) terms
+
+abbrev pub parameter_at : (line : ℕ) → FormalKind → (place : Term) → Expressions → Terms → Term
+parameter_at line shape.Simple place es terms = variable_at place es
+parameter_at line shape.Array place es terms = element_at line place es terms
+parameter_at line shape.Procedure place es terms = Unbuilt
+
+abbrev pub entry_at : Source → (line : ℕ) → DeclNo → Option Entry → (object : Term) → Expressions → Terms → Term
+entry_at s line d (Some (entry.Variable type)) object es terms = variable_at (attribute_place s line d object) es
+entry_at s line d (Some (entry.Array element dimensions)) object es terms = element_at line (attribute_place s line d object) es terms
+entry_at s line d (Some (entry.Formal f)) object es terms = parameter_at line f.kind (attribute_place s line d object) es terms
+entry_at s line d _ object es terms = Unbuilt
+
+-- where a variable or an element lies that is an attribute of an object
+abbrev pub place_of_attribute : Source → (line : ℕ) → (object : Term) → Expressions → Terms → DeclNo → Term
+place_of_attribute s line object es terms d = entry_at s line d (entry_of s.tables d) object es terms
+
+-- ---- classes
+
+-- `new`; `is` and `in`; `qua`
+abbrev pub generation : Option ℕ → (class : Option ℕ) → (actuals : Terms) → (line : ℕ) → Term
+generation (Some j) (Some k) terms line = NewOf j k terms line
+generation _ _ terms line = Unbuilt
+
+abbrev pub membership_term : Membership → (class : Option ℕ) → Term → Term
+membership_term member class a = if_any class (λ k. MemberOf member k a) Unbuilt
+
+abbrev pub qua_term : (class : Option ℕ) → (line : ℕ) → Term → Term
+qua_term class line a = if_any class (λ k. QuaOf k line a) Unbuilt
+
+-- `this` is the connected object, or the object or prefixed block that is found outward
+abbrev pub this_instance : Option ℕ → Term
+this_instance None = Unbuilt
+this_instance (Some j) = Given (Object j)
+
+abbrev pub this_term : Source → Instances → ℕ → (found : Option ℕ) → Term
+this_term s m i None = Unbuilt
+this_term s m i (Some k) = if_any (connection_in s (Some k)) (λ c. connected_object s m i c) (this_instance (at_level m (level_of s k) i))
+
+-- ---- references
+
+-- where a reference lies, with its qualification
+abbrev pub qualified : (class : ℕ) → (place : Term) → Term
+qualified k (PlaceOf j key) = QualifiedPlaceOf j key k
+qualified k (ElementOf line a ts) = QualifiedElementOf line k a ts
+qualified k (AttributeOf text key class line a) = AttributeOf text key (Some k) line a
+qualified k _ = Unbuilt
+
+abbrev pub qualified_place : (class : Option ℕ) → (place : Term) → Term
+qualified_place None place = Unbuilt
+qualified_place (Some k) place = qualified k place
+
+-- the qualification of a parameter that is a reference
+abbrev pub parameter_qualification : Source → FormalKind → Option SimType → Option ℕ
+parameter_qualification s shape.Simple type = qualification s type
+parameter_qualification s shape.Array type = None
+parameter_qualification s shape.Procedure type = None
+
+-- an actual parameter is held against the qualification of its formal parameter
+abbrev pub fitting : (class : Option ℕ) → (line : ℕ) → Term → Term
+fitting None line a = a
+fitting (Some k) line a = FitsOf k line a
+
+-- an array that is passed by reference to a class is kept
+abbrev pub kept_if : Mode → FormalKind → Term → Term
+kept_if mode.ByReference shape.Array a = KeptOf a
+kept_if _ _ a = a
+
+abbrev pub with_arrays_kept : List Formal → Terms → Terms
+with_arrays_kept (f ∷ fs) (Further a ts) = Further (kept_if f.mode f.kind a) (with_arrays_kept fs ts)
+with_arrays_kept _ ts = ts

@@ -1,0 +1,117 @@
+-- Classes and their levels. A class has the attributes and the statements of its prefix, of the prefix of that, and so on: these are its
+-- levels, the outermost prefix first and the class itself last. So has a prefixed block. An object is in each of the levels of its class.
+use Rattle.std.specs.Prelude.{ℕ, zero, suc, Bool, true, false, not, ◌==◌, if◌then◌else◌, List, [], ◌∷◌, ◌++◌, length, slice_get, Option, Some, None}
+use Rattle.sim_base.specs.declared.numbering.DeclNo.{DeclNo}
+use Rattle.sim_scope.specs.declared.scopes.Denotation.{Denotation}
+use Rattle.sim_scope.specs.declared.scopes.Denotation.TheVariants as denotation
+use Rattle.sim_scope.specs.declared.types.SimType.{SimType}
+use Rattle.sim_scope.specs.declared.types.SimType.TheVariants as t
+use Rattle.sim_scope.specs.Levels.{base, class_block, has_level, has_standard}
+use Rattle.sim_scope.specs.Source.{Source, denoted}
+use Rattle.sim_scope.specs.Tables.{BlockOf, Tables}
+use Rattle.sim_tree.specs.declared.expr.Membership.{Membership}
+use Rattle.sim_tree.specs.declared.expr.Membership.TheVariants as membership
+use Rattle.sim_tree.specs.Syntax.{Declarations, Statements}
+use Rattle.sim_code.specs.Instances.{Instance}
+use Rattle.sim_meaning.specs.Pending.{Held, Instances, Level}
+use Rattle.sim_meaning.specs.Texts.{ClassText, PrefixedText, Text, text}
+
+-- ---- the levels of a text, by their numbers
+
+abbrev pub levels_beyond : (ℕ → List ℕ) → Option ℕ → List ℕ
+levels_beyond levels None = []
+levels_beyond levels (Some k) = levels k
+
+abbrev pub levels_from : Tables → ℕ → (text : ℕ) → List ℕ
+levels_from tables zero k = []
+levels_from tables (suc more) k = levels_beyond (levels_from tables more) (base tables k) ++ k ∷ []
+
+-- of a class or a prefixed block
+unfoldable pub levels_of : Source → (text : ℕ) → List ℕ
+levels_of s k = levels_from s.tables (length s.tables.blocks) k
+
+-- ---- what they are made of
+
+abbrev pub written_in : Option BlockOf → Option ℕ
+written_in None = None
+written_in (Some b) = b.inner
+
+abbrev pub is_written : Option ℕ → Bool
+is_written None = false
+is_written (Some token) = true
+
+-- whether an `inner` is written in a class
+abbrev pub writes_inner : Source → (text : ℕ) → Bool
+writes_inner s k = is_written (written_in (slice_get s.tables.blocks k))
+
+abbrev pub unless_standard : (standard : Bool) → Level → Option Level
+unless_standard true x = None
+unless_standard false x = Some x
+
+-- Levels with `simset` or `simulation` in front, and standard classes, are not built.
+abbrev pub level_made : Source → (text : ℕ) → Option Text → Option Level
+level_made s k (Some (ClassText prefix h ds ss)) = unless_standard (has_standard s.tables k) (record { text = k; declarations = ds; statements = ss; inner_last = not (writes_inner s k) })
+level_made s k (Some (PrefixedText class arguments ds ss)) = unless_standard (has_standard s.tables k) (record { text = k; declarations = ds; statements = ss; inner_last = false })
+level_made s k _ = None
+
+abbrev pub both : Option Level → Option (List Level) → Option (List Level)
+both (Some x) (Some xs) = Some (x ∷ xs)
+both _ _ = None
+
+abbrev pub levels_made : Source → List ℕ → Option (List Level)
+levels_made s [] = Some []
+levels_made s (k ∷ ks) = both (level_made s k (text s k)) (levels_made s ks)
+
+unfoldable pub levels : Source → (text : ℕ) → Option (List Level)
+levels s k = levels_made s (levels_of s k)
+
+-- those inside the level of a text
+abbrev pub levels_inside : (text : ℕ) → List Level → List Level
+levels_inside k [] = []
+levels_inside k (x ∷ xs) = if x.text == k then xs else levels_inside k xs
+
+-- ---- the class of an object
+
+abbrev pub text_in : Option (Instance (List Held)) → Option ℕ
+text_in None = None
+text_in (Some x) = Some x.text
+
+-- the text of an instance
+abbrev pub text_at : Instances → (instance : ℕ) → Option ℕ
+text_at m j = text_in (slice_get m.instances j)
+
+abbrev pub text_is_in : Source → (class : ℕ) → Option ℕ → Bool
+text_is_in s class None = false
+text_is_in s class (Some k) = has_level s.tables k class
+
+-- an object is in a class where that is one of its levels
+unfoldable pub is_in : Source → Instances → (class object : ℕ) → Bool
+is_in s m class j = text_is_in s class (text_at m j)
+
+abbrev pub text_is : (class : ℕ) → Option ℕ → Bool
+text_is class None = false
+text_is class (Some k) = k == class
+
+-- it is of a class where that is its own
+unfoldable pub is_of : Instances → (class object : ℕ) → Bool
+is_of m class j = text_is class (text_at m j)
+
+-- `is` and `in`
+unfoldable pub belongs : Source → Instances → Membership → (class object : ℕ) → Bool
+belongs s m membership.Is class j = is_of m class j
+belongs s m membership.In class j = is_in s m class j
+
+-- ---- classes that are named
+
+abbrev pub class_denoted : Source → Option Denotation → Option ℕ
+class_denoted s (Some (denotation.Declared d)) = class_block s.tables d
+class_denoted s _ = None
+
+-- the text of the class that an identifier denotes
+unfoldable pub class_at : Source → (token : ℕ) → Option ℕ
+class_at s token = class_denoted s (denoted s token)
+
+-- the qualification of a reference, as the text of that class
+unfoldable pub qualification : Source → Option SimType → Option ℕ
+qualification s (Some (t.Ref d)) = class_block s.tables d
+qualification s _ = None
