@@ -1,6 +1,6 @@
 -- A closed expression takes no more steps than the expression allows.
 use Rattle.std.proofs.Common.{◌≡◌, ◌≤◌, ℕ, suc, ◌+◌, Bool, true, false, List, [], ◌∷◌, Option, Some, None, arith, refl}
-use Rattle.std.specs.Prelude.{◌&&◌}
+use Rattle.std.specs.Prelude.{◌&&◌, ◌||◌}
 use Rattle.sim_base.specs.declared.numbering.DeclNo.{DeclNo}
 use Rattle.sim_scope.specs.declared.scopes.Denotation.{Denotation}
 use Rattle.sim_scope.specs.declared.scopes.Denotation.TheVariants as denotation
@@ -12,7 +12,8 @@ use Rattle.sim_scope.specs.declared.types.FormalKind.TheVariants as shape
 use Rattle.sim_scope.specs.declared.types.Mode.{Mode}
 use Rattle.sim_scope.specs.declared.types.Mode.TheVariants as mode
 use Rattle.sim_scope.specs.Scopes.{entry_of}
-use Rattle.sim_scope.specs.Source.{Source, denoted, line_at}
+use Rattle.sim_scope.specs.Source.{Source, denoted, found_at, level_of, line_at}
+use Rattle.sim_tree.specs.declared.expr.Membership.{Membership}
 use Rattle.sim_tree.specs.declared.expr.Sign.{Sign}
 use Rattle.sim_tree.specs.declared.expr.Sign.TheVariants as sign
 use Rattle.sim_tree.specs.Syntax.{Expression, Expressions, Literal, NoMore, Then}
@@ -20,10 +21,13 @@ use Rattle.sim_tree.specs.Syntax as syntax
 use Rattle.sim_values.specs.declared.standard.Standard.{Standard}
 use Rattle.sim_values.specs.Plain.{Plain}
 use Rattle.sim_values.specs.Standard.{is_image, moves_position, on_image}
-use Rattle.sim_meaning.specs.Closing.{Joining, Lazily, Negated, Plainly, Sort, actual_term, array_place, array_term, attribute_term, behind_dot, close, close_actuals, close_all, close_place, constant_term, declared_place, declared_term, dot_term, formal_place, formal_term, formals_at, given_term, home_of, image_place, in_instance, is_text, is_text_type, is_variable, literal_term, name_term, named_place, named_term, object_term, signed_term, sort_of, standard_term, stream_of, sysout, two_term, variable_place, variable_term}
+use Rattle.sim_meaning.specs.Closing.{actual_term, array_place, array_term, attribute_term, behind_dot, class_parameters, close, close_actuals, close_all, close_place, constant_term, declared_place, declared_term, dot_term, formal_place, formal_term, formals_at, given_term, home_of, home_of_class, image_place, in_instance, is_attribute, is_text, is_text_type, is_variable, Joining, Lazily, literal_term, name_term, named_place, named_term, Negated, object_term, Plainly, signed_term, Sort, sort_of, standard_term, stream_of, sysout, two_term, variable_place, variable_term}
+use Rattle.sim_code.specs.Instances.{at_level}
+use Rattle.sim_meaning.specs.Attributes.{array_attribute, attribute, attribute_place, connected_object, connection_at, connection_in, declared_attribute, element_at, entry_at, entry_attribute, fitting, generation, if_any, kept_if, membership_term, parameter_at, parameter_attribute, parameter_qualification, place_of_attribute, qua_term, this_instance, this_term, variable_at, variable_attribute, with_arrays_kept}
 use Rattle.sim_meaning.specs.Constants.{text_constant}
+use Rattle.sim_meaning.specs.Levels.{class_at}
 use Rattle.sim_meaning.specs.Names.{procedure_named}
-use Rattle.sim_meaning.specs.Pending.{Instances, Term, Terms}
+use Rattle.sim_meaning.specs.Pending.{Instances, NoTerm, Term, Terms, Unbuilt}
 use Rattle.sim_meaning.specs.Texts.{constant_of}
 use Rattle.sim_finite.proofs.Weights.{expression_weight, expressions_weight, term_weight, terms_weight}
 
@@ -167,6 +171,98 @@ image_small : (x : Option ℕ) (n : ℕ) → 1 ≤ n → term_weight (image_plac
 image_small None n h = h
 image_small (Some k) n h = h
 
+-- ---- what objects have
+
+if_small : {A : Type 0} (x : Option A) (f : A → Term) (other : Term) (n : ℕ) → ((a : A) → term_weight (f a) ≤ n) → term_weight other ≤ n → term_weight (if_any x f other) ≤ n
+if_small None f other n g h = h
+if_small (Some a) f other n g h = g a
+
+connected_small : (s : Source) (m : Instances) (i k : ℕ) → term_weight (connected_object s m i k) ≤ 1
+connected_small s m i k = if_small (at_level m (level_of s k) i) _ _ 1 (λ j. omega arith) (omega arith)
+
+module _ (s : Source) (line : ℕ) (object : Term) (terms : Terms) (n : ℕ) (most : 8 + (term_weight object + terms_weight terms) ≤ n) where
+  variable_attribute_small : (d : DeclNo) (es : Expressions) → term_weight (variable_attribute (attribute_place s line d object) es) ≤ n
+  variable_attribute_small d NoMore = omega (arith, most)
+  variable_attribute_small d (Then e es) = omega (arith, most)
+
+  array_attribute_small : (d : DeclNo) (es : Expressions) → term_weight (array_attribute line (attribute_place s line d object) es terms) ≤ n
+  array_attribute_small d NoMore = omega (arith, most)
+  array_attribute_small d (Then e es) = omega (arith, most)
+
+  parameter_attribute_small : (d : DeclNo) (kind : FormalKind) (es : Expressions) → term_weight (parameter_attribute line kind (attribute_place s line d object) es terms) ≤ n
+  parameter_attribute_small d shape.Simple es = variable_attribute_small d es
+  parameter_attribute_small d shape.Array es = array_attribute_small d es
+  parameter_attribute_small d shape.Procedure es = omega (arith, most)
+
+  variable_at_small : (d : DeclNo) (es : Expressions) → term_weight (variable_at (attribute_place s line d object) es) ≤ n
+  variable_at_small d NoMore = omega (arith, most)
+  variable_at_small d (Then e es) = omega (arith, most)
+
+  element_at_small : (d : DeclNo) (es : Expressions) → term_weight (element_at line (attribute_place s line d object) es terms) ≤ n
+  element_at_small d NoMore = omega (arith, most)
+  element_at_small d (Then e es) = omega (arith, most)
+
+  parameter_at_small : (d : DeclNo) (kind : FormalKind) (es : Expressions) → term_weight (parameter_at line kind (attribute_place s line d object) es terms) ≤ n
+  parameter_at_small d shape.Simple es = variable_at_small d es
+  parameter_at_small d shape.Array es = element_at_small d es
+  parameter_at_small d shape.Procedure es = omega (arith, most)
+
+  entry_at_small : (d : DeclNo) (e : Option Entry) (es : Expressions) → term_weight (entry_at s line d e object es terms) ≤ n
+  entry_at_small d None es = omega (arith, most)
+  entry_at_small d (Some (entry.Variable t)) es = variable_at_small d es
+  entry_at_small d (Some (entry.Constant t)) es = omega (arith, most)
+  entry_at_small d (Some (entry.Array t k)) es = element_at_small d es
+  entry_at_small d (Some (entry.Procedure result k)) es = omega (arith, most)
+  entry_at_small d (Some (entry.Class k)) es = omega (arith, most)
+  entry_at_small d (Some (entry.Virtual result own)) es = omega (arith, most)
+  entry_at_small d (Some (entry.Formal f)) es = parameter_at_small d f.kind es
+  entry_at_small d (Some (entry.Unspecified w)) es = omega (arith, most)
+  entry_at_small d (Some (entry.Attribute name parameter result)) es = omega (arith, most)
+
+  attribute_place_small : (es : Expressions) (d : DeclNo) → term_weight (place_of_attribute s line object es terms d) ≤ n
+  attribute_place_small es d = entry_at_small d (entry_of s.tables d) es
+
+  module _ (actuals : DeclNo → Terms) (few : (d : DeclNo) → 3 + (term_weight object + terms_weight (actuals d)) ≤ n) where
+    entry_attribute_small : (d : DeclNo) (e : Option Entry) (es : Expressions) → term_weight (entry_attribute s line d e object es terms (actuals d)) ≤ n
+    entry_attribute_small d None es = omega (arith, most)
+    entry_attribute_small d (Some (entry.Variable t)) es = variable_attribute_small d es
+    entry_attribute_small d (Some (entry.Constant t)) es = variable_attribute_small d es
+    entry_attribute_small d (Some (entry.Array t k)) es = array_attribute_small d es
+    entry_attribute_small d (Some (entry.Procedure result k)) es = few d
+    entry_attribute_small d (Some (entry.Class k)) es = omega (arith, most)
+    entry_attribute_small d (Some (entry.Virtual result own)) es = omega (arith, most)
+    entry_attribute_small d (Some (entry.Formal f)) es = parameter_attribute_small d f.kind es
+    entry_attribute_small d (Some (entry.Unspecified w)) es = omega (arith, most)
+    entry_attribute_small d (Some (entry.Attribute name parameter result)) es = omega (arith, most)
+
+    attribute_of_small : (es : Expressions) (d : DeclNo) → term_weight (attribute s line object es terms actuals d) ≤ n
+    attribute_of_small es d = entry_attribute_small d (entry_of s.tables d) es
+
+generation_small : (x class : Option ℕ) (terms : Terms) (line : ℕ) → term_weight (generation x class terms line) ≤ 2 + terms_weight terms
+generation_small None class terms line = omega arith
+generation_small (Some j) None terms line = omega arith
+generation_small (Some j) (Some k) terms line = omega arith
+
+membership_small : (member : Membership) (class : Option ℕ) (a : Term) → term_weight (membership_term member class a) ≤ 2 + term_weight a
+membership_small member None a = omega arith
+membership_small member (Some k) a = omega arith
+
+qua_small : (class : Option ℕ) (line : ℕ) (a : Term) → term_weight (qua_term class line a) ≤ 2 + term_weight a
+qua_small None line a = omega arith
+qua_small (Some k) line a = omega arith
+
+instance_small : (x : Option ℕ) → term_weight (this_instance x) ≤ 1
+instance_small None = omega arith
+instance_small (Some j) = omega arith
+
+this_small : (s : Source) (m : Instances) (i : ℕ) (x : Option ℕ) → term_weight (this_term s m i x) ≤ 1
+this_small s m i None = omega arith
+this_small s m i (Some k) = if_small (connection_in s (Some k)) _ _ 1 (λ c. connected_small s m i c) (instance_small (at_level m (level_of s k) i))
+
+fitting_small : (class : Option ℕ) (line : ℕ) (a : Term) → term_weight (fitting class line a) ≤ 2 + term_weight a
+fitting_small None line a = omega arith
+fitting_small (Some k) line a = omega arith
+
 -- ---- actual parameters
 
 actual_small : (line : ℕ) (mode : Mode) (kind : FormalKind) (text : Bool) (a : Term) → term_weight (actual_term line mode kind text a) ≤ 2 + term_weight a
@@ -181,6 +277,17 @@ actual_small line mode.ByName shape.Simple text a = omega arith
 actual_small line mode.ByName shape.Array text a = omega arith
 actual_small line mode.ByName shape.Procedure text a = omega arith
 
+kept_small : (mode : Mode) (kind : FormalKind) (a : Term) → term_weight (kept_if mode kind a) ≤ 2 + term_weight a
+kept_small mode.ByReference shape.Array a = omega arith
+kept_small mode.ByReference shape.Simple a = omega arith
+kept_small mode.ByReference shape.Procedure a = omega arith
+kept_small mode.ByValue kind a = omega arith
+kept_small mode.ByName kind a = omega arith
+
+none_kept : (fs : List Formal) → terms_weight (with_arrays_kept fs NoTerm) ≡ 0
+none_kept [] = refl
+none_kept (f ∷ fs) = refl
+
 -- ---- expressions
 
 mutual
@@ -189,24 +296,44 @@ mutual
   close_small s m i (syntax.Binary op token a b) = omega (arith, two_small (sort_of (is_text s a) op) (line_at s token) (close s m i a) (close s m i b), close_small s m i a, close_small s m i b)
   close_small s m i (syntax.Not token a) = omega (arith, close_small s m i a)
   close_small s m i (syntax.Signed x token a) = omega (arith, signed_small x (line_at s token) (close s m i a), close_small s m i a)
-  close_small s m i (syntax.Member member token a class) = omega arith
+  close_small s m i (syntax.Member member token a class) = omega (arith, membership_small member (class_at s class.token.0) (close s m i a), close_small s m i a)
   close_small s m i (syntax.Dot token a name es) =
-      dot_small (line_at s name.token.0) (expression_weight a) (expression_weight (syntax.Dot token a name es)) (close_place s m i a) (close s m i a) (close_all s m i es)
-      (close_place_small s m i a) (close_small s m i a) (omega (arith, close_all_small s m i es)) s m (denoted s name.token.0) (stream_of s a) (is_variable s a)
-  close_small s m i (syntax.Qua token a class) = omega arith
+      let line = line_at s name.token.0 in
+      if_small (declared_attribute (denoted s name.token.0)) _ _ (expression_weight (syntax.Dot token a name es))
+      (attribute_of_small s line (close s m i a) (close_all s m i es) (expression_weight (syntax.Dot token a name es)) (omega (arith, close_small s m i a, close_all_small s m i es))
+      (λ d. close_actuals s m i line es (formals_at s d)) (λ d. omega (arith, close_small s m i a, close_actuals_small s m i line es (formals_at s d))) es)
+      (dot_small line (expression_weight a) (expression_weight (syntax.Dot token a name es)) (close_place s m i a) (close s m i a) (close_all s m i es)
+      (close_place_small s m i a) (close_small s m i a) (omega (arith, close_all_small s m i es)) s m (denoted s name.token.0) (stream_of s a) (is_variable s a || is_attribute s a))
+  close_small s m i (syntax.Qua token a class) = omega (arith, qua_small (class_at s class.token.0) (line_at s token) (close s m i a), close_small s m i a)
   close_small s m i (syntax.Constant literal token) = literal_small s token literal
   close_small s m i (syntax.Named name es) =
       let line = line_at s name.token.0 in
-      named_small s m i (5 + expressions_weight es) (omega arith) line (close_all s m i es) (omega (arith, close_all_small s m i es))
-      (λ fs. close_actuals s m i line es fs) (λ fs. omega (arith, close_actuals_small s m i line es fs)) (denoted s name.token.0) es
-  close_small s m i (syntax.This token class) = omega arith
-  close_small s m i (syntax.New token class es) = omega arith
+      if_small (connection_at s name.token.0) _ _ (9 + expressions_weight es)
+      (λ k. if_small (declared_attribute (denoted s name.token.0)) _ _ (9 + expressions_weight es)
+      (attribute_of_small s line (connected_object s m i k) (close_all s m i es) (9 + expressions_weight es) (omega (arith, connected_small s m i k, close_all_small s m i es))
+      (λ d. close_actuals s m i line es (formals_at s d)) (λ d. omega (arith, connected_small s m i k, close_actuals_small s m i line es (formals_at s d))) es)
+      (omega arith))
+      (named_small s m i (9 + expressions_weight es) (omega arith) line (close_all s m i es) (omega (arith, close_all_small s m i es))
+      (λ fs. close_actuals s m i line es fs) (λ fs. omega (arith, close_actuals_small s m i line es fs)) (denoted s name.token.0) es)
+  close_small s m i (syntax.This token class) = this_small s m i (found_at s token)
+  close_small s m i (syntax.New token class es) =
+      let line = line_at s class.token.0 in
+      let fs = class_parameters s (class_at s class.token.0) in
+      omega (arith, generation_small (home_of_class s m i (denoted s class.token.0)) (class_at s class.token.0) (with_arrays_kept fs (close_actuals s m i line es fs)) (line_at s token), close_kept_small s m i line es fs)
   close_small s m i (syntax.Parentheses token a) = close_small s m i a
 
   close_place_small : (s : Source) (m : Instances) (i : ℕ) (e : Expression) → term_weight (close_place s m i e) ≤ expression_weight e
   close_place_small s m i (syntax.Named name es) =
-      named_place_small s m i (5 + expressions_weight es) (omega arith) (line_at s name.token.0) (close_all s m i es) (omega (arith, close_all_small s m i es)) (denoted s name.token.0) es
-  close_place_small s m i (syntax.Dot token a name es) = image_small (stream_of s a) (expression_weight (syntax.Dot token a name es)) (omega arith)
+      let line = line_at s name.token.0 in
+      if_small (connection_at s name.token.0) _ _ (9 + expressions_weight es)
+      (λ k. if_small (declared_attribute (denoted s name.token.0)) _ _ (9 + expressions_weight es)
+      (attribute_place_small s line (connected_object s m i k) (close_all s m i es) (9 + expressions_weight es) (omega (arith, connected_small s m i k, close_all_small s m i es)) es)
+      (omega arith))
+      (named_place_small s m i (9 + expressions_weight es) (omega arith) line (close_all s m i es) (omega (arith, close_all_small s m i es)) (denoted s name.token.0) es)
+  close_place_small s m i (syntax.Dot token a name es) =
+      if_small (declared_attribute (denoted s name.token.0)) _ _ (expression_weight (syntax.Dot token a name es))
+      (attribute_place_small s (line_at s name.token.0) (close s m i a) (close_all s m i es) (expression_weight (syntax.Dot token a name es)) (omega (arith, close_small s m i a, close_all_small s m i es)) es)
+      (image_small (stream_of s a) (expression_weight (syntax.Dot token a name es)) (omega arith))
   close_place_small s m i (syntax.If token c a b) = omega arith
   close_place_small s m i (syntax.Binary op token a b) = omega arith
   close_place_small s m i (syntax.Not token a) = omega arith
@@ -241,4 +368,15 @@ mutual
   close_actuals_small s m i line NoMore (f ∷ fs) = omega arith
   close_actuals_small s m i line (Then e es) [] = omega arith
   close_actuals_small s m i line (Then e es) (f ∷ fs) =
-      omega (arith, actual_small line f.mode f.kind (is_text_type f.ty) (close s m i e), close_small s m i e, close_actuals_small s m i line es fs)
+      let a = actual_term line f.mode f.kind (is_text_type f.ty) (close s m i e) in
+      omega (arith, fitting_small (parameter_qualification s f.kind f.ty) line a, actual_small line f.mode f.kind (is_text_type f.ty) (close s m i e), close_small s m i e, close_actuals_small s m i line es fs)
+
+  -- those of a class, whose arrays by reference are kept
+  close_kept_small : (s : Source) (m : Instances) (i line : ℕ) (es : Expressions) (fs : List Formal) → terms_weight (with_arrays_kept fs (close_actuals s m i line es fs)) ≤ expressions_weight es
+  close_kept_small s m i line NoMore [] = omega arith
+  close_kept_small s m i line NoMore (f ∷ fs) = omega (arith, kept_small f.mode f.kind Unbuilt, none_kept fs)
+  close_kept_small s m i line (Then e es) [] = omega arith
+  close_kept_small s m i line (Then e es) (f ∷ fs) =
+      let a = actual_term line f.mode f.kind (is_text_type f.ty) (close s m i e) in
+      let b = fitting (parameter_qualification s f.kind f.ty) line a in
+      omega (arith, kept_small f.mode f.kind b, fitting_small (parameter_qualification s f.kind f.ty) line a, actual_small line f.mode f.kind (is_text_type f.ty) (close s m i e), close_small s m i e, close_kept_small s m i line es fs)

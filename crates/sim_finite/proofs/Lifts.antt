@@ -10,13 +10,13 @@ use Rattle.sim_values.specs.declared.operators.Monadic.{Monadic}
 use Rattle.sim_values.specs.declared.standard.Standard.{Standard}
 use Rattle.sim_values.specs.declared.value.TextVal.{TextVal}
 use Rattle.sim_values.specs.Operators.{Answer, one_of, step_test, two_of}
-use Rattle.sim_values.specs.Plain.{Plain}
+use Rattle.sim_values.specs.Plain.{Character, Integer, Nothing, Object, Plain, Text, Truth}
 use Rattle.sim_values.specs.Standard.{operands_of, row_of, standard_effect}
 use Rattle.sim_values.specs.Words.{array_words, is_exhausted}
 use Rattle.sim_code.specs.Outcome.{ArrayOf, Ended, Ending, Going, Run, World}
 use Rattle.sim_values.specs.Texts.{Making, assign, concatenated}
-use Rattle.sim_code.specs.Events.{answering, applying_one, applying_two, assigning, choosing, computing, entering, having, integer_in, joining, making_text, no_rule, performing, pop_integers, pop_many, pop_operands, pop_plain, pop_text, pop_truth, popping, putting_back, stopping, taking, testing_step, text_val, ticking, truth_in, when, with_texts}
-use Rattle.sim_code.specs.Arrays.{copying_array, element_place, finding_element, live_array, making_array, words_of_array}
+use Rattle.sim_code.specs.Events.{answering, applying_one, applying_two, assigning, choosing, computing, entering, having, integer_in, joining, making_text, no_rule, performing, pop_integers, pop_object, pop_many, pop_operands, pop_plain, pop_text, pop_truth, popping, putting_back, qualifying, referring, stopping, taking, testing_step, text_val, ticking, truth_in, when, with_texts}
+use Rattle.sim_code.specs.Arrays.{copying_array, element_place, finding_element, keeping_array, live_array, making_array, words_of_array}
 
 -- where it goes on, this holds
 abbrev pub Goes : {S : Type 0} → (P : World → S → Type 0) → Run S → Type 0
@@ -67,6 +67,24 @@ module _ {S : Type 0} (P : World → S → Type 0) where
   computing_goes line (Ok a) o f x = x a
   computing_goes line (Err e) o f x = stops _ o
 
+  pub qualifying_goes : (line : ℕ) (is_in : ℕ → Bool) (p : Plain) (o : World) (r : Run S) → Goes P r → Goes P (qualifying line is_in p o r)
+  unfolding qualifying
+  qualifying_goes line is_in (Object j) o r x = goes_if (is_in j) r (stopping _ o) (λ _. x) (stops _ o)
+  qualifying_goes line is_in Nothing o r x = x
+  qualifying_goes line is_in (Integer z) o r x = none o
+  qualifying_goes line is_in (Truth b) o r x = none o
+  qualifying_goes line is_in (Character c) o r x = none o
+  qualifying_goes line is_in (Text t) o r x = none o
+
+  referring_goes : (line : ℕ) (p : Plain) (o : World) (f : ℕ → Run S) → ((j : ℕ) → Goes P (f j)) → Goes P (referring line p o f)
+  unfolding referring
+  referring_goes line (Object j) o f x = x j
+  referring_goes line Nothing o f x = stops _ o
+  referring_goes line (Integer z) o f x = none o
+  referring_goes line (Truth b) o f x = none o
+  referring_goes line (Character c) o f x = none o
+  referring_goes line (Text t) o f x = none o
+
   pub choosing_goes : (b : Bool) (r q : Run S) → Goes P r → Goes P q → Goes P (choosing b r q)
   unfolding choosing
   choosing_goes b r q x y = goes_if b r q (λ _. x) y
@@ -115,6 +133,10 @@ module _ {S : Type 0} (P : World → S → Type 0) where
       pub plain_goes : (stack : List V) (o : World) (f : Plain → List V → Run S) → ((p : Plain) (rest : List V) → Goes P (f p rest)) → Goes P (pop_plain plain stack o f)
       unfolding pop_plain
       plain_goes stack o f x = popping_goes stack o _ (λ v rest. having_goes (plain v) o _ (λ p. x p rest))
+
+      pub object_goes : (line : ℕ) (stack : List V) (o : World) (f : ℕ → List V → Run S) → ((j : ℕ) (rest : List V) → Goes P (f j rest)) → Goes P (pop_object plain line stack o f)
+      unfolding pop_object
+      object_goes line stack o f x = plain_goes stack o _ (λ p rest. referring_goes line p o _ (λ j. x j rest))
 
       pub truth_goes : (stack : List V) (o : World) (f : Bool → List V → Run S) → ((b : Bool) (rest : List V) → Goes P (f b rest)) → Goes P (pop_truth plain stack o f)
       unfolding pop_truth
@@ -165,3 +187,7 @@ module _ {S : Type 0} (P : World → S → Type 0) where
   pub copying_goes : (l : Limits) (line owner array : ℕ) (o : World) (f : ℕ → World → Run S) → ((n : ℕ) (p : World) → p.ticks ≡ o.ticks → Goes P (f n p)) → Goes P (copying_array l line owner array o f)
   unfolding copying_array
   copying_goes l line owner array o f x = having_goes (live_array o array) o _ (λ a. taking_goes l line (words_of_array a) o _ (λ p same. x _ _ same))
+
+  pub keeping_goes : (array : ℕ) (o : World) (f : World → Run S) → ((p : World) → p.ticks ≡ o.ticks → Goes P (f p)) → Goes P (keeping_array array o f)
+  unfolding keeping_array
+  keeping_goes array o f x = having_goes (live_array o array) o _ (λ a. x _ refl)

@@ -2,33 +2,41 @@
 use Rattle.std.proofs.Common.{◌≡◌, ◌≤◌, ◌<◌, ℕ, zero, suc, ◌+◌, Bool, true, false, List, [], ◌∷◌, length, Option, Some, None, refl, sym, ◌∙◌, ap, subst, arith}
 use Rattle.std.specs.Prelude.{◌==◌, ◌*◌, slice_get, if◌then◌else◌}
 use Rattle.sim_base.specs.declared.limits.Limits.{Limits}
+use Rattle.sim_base.specs.declared.numbering.DeclNo.{DeclNo}
+use Rattle.sim_chains.specs.Components.{AttachedObject, DetachedObject, NoObject, ResumedObject, Standing, TerminatedObject}
+use Rattle.sim_scope.specs.Scopes.{class_formals}
 use Rattle.sim_scope.specs.Source.{Source, block_around, line_at}
 use Rattle.sim_tree.specs.declared.stmt.Assignment.{Assignment}
-use Rattle.sim_tree.specs.Syntax.{Also, Begin, Block, Declarations, Element, Expression, Expressions, Heading, NoDeclaration, NoMore, NoStatement, Statement, Statements, With}
+use Rattle.sim_tree.specs.declared.expr.Identifier.{Identifier}
+use Rattle.sim_tree.specs.Syntax.{Also, Arms, Arrayed, Arrays, Begin, Block, BoundPair, Declarations, DeclareClass, DeclareProcedure, Element, Expression, Expressions, Heading, NoArm, NoDeclaration, NoMore, NoStatement, Statement, Statements, Variables, When, With}
 use Rattle.sim_tree.specs.Syntax as syntax
 use Rattle.sim_values.specs.declared.operators.Calculation.TheVariants as calculation
 use Rattle.sim_values.specs.declared.operators.Dyadic.TheVariants as dyadic
-use Rattle.sim_values.specs.Plain.{Plain, Text}
+use Rattle.sim_values.specs.declared.kind.Kind.{Kind}
+use Rattle.sim_values.specs.Plain.{Character, Integer, Nothing, Object, Plain, Text, Truth}
 use Rattle.sim_values.specs.declared.value.TextVal.{TextVal}
 use Rattle.sim_values.specs.Store.{image_at, with_image}
 use Rattle.sim_values.specs.Texts.{same_text}
 use Rattle.sim_code.specs.Outcome.{ArrayOf, Going, Run, World}
-use Rattle.sim_code.specs.Events.{choosing, having, image_moved, text_val}
+use Rattle.sim_code.specs.Events.{choosing, having, image_moved, text_val, ticking}
 use Rattle.sim_code.specs.Arrays.{element, element_set_in, giving_back, handed_over, live_array, owned_by, pairs}
-use Rattle.sim_code.specs.Instances.{CellPlace, ElementPlace, ImagePlace, Place, is_given_at_end, is_live}
-use Rattle.sim_meaning.specs.Closing.{close}
-use Rattle.sim_meaning.specs.Entries.{arrays_by_value, filled_behind, first_cells, formals_of, words_of_cells}
+use Rattle.sim_code.specs.Instances.{CellPlace, ElementPlace, ImagePlace, Place, ended_as, is_given_at_end, is_live, object_ended}
+use Rattle.sim_meaning.specs.Closing.{close, formals_from}
+use Rattle.sim_meaning.specs.Connections.{arm_tried, arms_tried, connected, object_connected}
+use Rattle.sim_meaning.specs.Levels.{class_at, is_in, levels, text_at}
+use Rattle.sim_meaning.specs.Objects.{cells_of_levels, filled_in, generated, inner_done, is_member, object_entered, prefix_done, prefixed_entered, putting_reference, with_inner}
+use Rattle.sim_meaning.specs.Entries.{arrays_by_value, arrays_declared, arrays_of, bounds_of, filled_behind, first_array, further_arrays, segments_of, first_cells, formals_of, words_of_cells}
 use Rattle.sim_meaning.specs.Meaning.{called, do_op, leaving, procedure_entered, sub_block_entered, world_left}
-use Rattle.sim_meaning.specs.Pending.{Activation, Address, AgainOp, ArrayOp, BackOp, BranchOp, CallOf, CallOp, Cell, ChooseOp, Configuration, CopyOf, CopyOp, Do, DropOp, Either, ElementOf, ElementOp, ElementsOp, EndBlock, EnterOp, Eval, Exec, Execs, FetchOp, Further, Given, GiveOp, IfOp, ImageOf, Instances, Item, JoinOp, Joined, Key, Link, NoTerm, Of, One, OneOp, Op, PastOp, PlaceOf, ProcedureValue, RaiseOp, ShareOp, StandardOf, StandardOp, StepOp, StepTestOp, StoreOp, Target, Term, Terms, TestOp, ToAddress, ToCell, ToText, ToTextOf, Tree, Two, TwoOp, Unbuilt, Val, ValueAt, WhileElementOp, array_in, cell, cell_set, instance_in, place_in, plain}
+use Rattle.sim_meaning.specs.Pending.{Activation, Address, AgainOp, array_in, ArrayOp, AttributeOf, AttributeOp, BackOp, BranchOp, CallOf, CallOp, Cell, cell, cell_made, cell_set, ChooseOp, Configuration, Connection, ConnectOp, CopyOf, CopyOp, DeclareOp, Do, DropOp, Either, ElementOf, ElementOp, ElementsOp, EndBlock, EndLevel, EndObject, EndPrefixed, EnterOp, Eval, Exec, Execs, FetchOp, FitsOf, FitsOp, Further, Given, GiveOp, IfOp, ImageOf, InnerOp, instance_in, Instances, Item, Joined, JoinOp, KeepOp, KeptOf, Key, Level, LevelOp, Link, MemberOf, MemberOp, NewOf, NewOp, NoTerm, ObjectOp, Of, One, OneOp, Op, PastOp, place_in, PlaceOf, plain, PrefixedOp, ProcedureValue, QualifiedElementOf, QualifiedElementOp, QualifiedPlaceOf, QuaOf, QuaOp, RaiseOp, ReferOp, RemoteCallOf, ShareOp, StandardOf, StandardOp, StepOp, StepTestOp, StoreOp, SwapOp, Target, Term, Terms, TestOp, ToAddress, ToCell, ToPlace, ToReference, ToReferenceAt, ToText, ToTextAt, ToTextOf, Tree, Two, TwoOp, Unbuilt, Val, ValueAt, WhenOp, WhileElementOp}
 use Rattle.sim_meaning.specs.Pending as pending
 use Rattle.sim_meaning.specs.Statements as statement
-use Rattle.sim_meaning.specs.Statements.{assigned, compound, elements, entered_at, exec, execs, first_branch, lefts, looping, raised, reading}
+use Rattle.sim_meaning.specs.Statements.{assigned, begin_of, compound, elements, entered_at, exec, execs, first_branch, inner_begun, lefts, levels_of_instance, looping, prefix_begun, raised, reading}
 use Rattle.sim_meaning.specs.Steps.{count, each, eval, go, put_back, putting, stored, value_at, with_value}
-use Rattle.sim_meaning.specs.Texts.{BlockText, ProcedureText}
+use Rattle.sim_meaning.specs.Texts.{BlockText, ProcedureText, declared_at, kind_named}
 use Rattle.sim_meaning.specs.Texts as texts
 use Rattle.sim_finite.proofs.Closing.{close_small}
-use Rattle.sim_finite.proofs.Lifts.{Goes, assigning_goes, choosing_goes, computing_goes, copying_goes, entering_goes, finding_goes, having_goes, integers_goes, joining_goes, making_goes, many_goes, none, one_goes, performing_goes, popping_goes, step_goes, ticking_goes, truth_goes, two_goes, when_goes}
-use Rattle.sim_finite.proofs.Weights.{Lower, chain_weight, elements_weight, expression_weight, lighter, op_weight, statements_weight, term_weight, terms_weight, ticked, weight, work_weight}
+use Rattle.sim_finite.proofs.Lifts.{Goes, assigning_goes, choosing_goes, computing_goes, copying_goes, entering_goes, finding_goes, having_goes, integers_goes, joining_goes, keeping_goes, making_goes, many_goes, none, object_goes, one_goes, performing_goes, plain_goes, popping_goes, qualifying_goes, step_goes, ticking_goes, truth_goes, two_goes, when_goes}
+use Rattle.sim_finite.proofs.Weights.{Lower, arms_weight, bounds_weight, chain_weight, declarations_weight, elements_weight, expression_weight, levels_weight, lighter, names_weight, op_weight, segments_weight, statements_weight, target_weight, term_weight, terms_weight, ticked, weight, work_weight}
 
 -- ---- worlds with the same ticks
 
@@ -80,21 +88,87 @@ module _ (P : World → Configuration → Type 0) where
   back_goes (ProcedureValue k j) t o m f x = x o m refl
   back_goes (Tree e) t o m f x = x o m refl
 
+  pub putting_reference_goes : (s : Source) (line : ℕ) (p : Place Key (Option ℕ)) (v : Plain) (o : World) (m : Instances) (f : World → Instances → Run Configuration) → ((q : World) (m : Instances) → q.ticks ≡ o.ticks → Goes P (f q m)) → Goes P (putting_reference s line p v o m f)
+  unfolding putting_reference
+  putting_reference_goes s line (CellPlace j key None) v o m f x = none P o
+  putting_reference_goes s line (CellPlace j key (Some k)) v o m f x = qualifying_goes P line (is_in s m k) v o _ (having_goes P (cell_set m j key (Of v)) o _ (λ m. x o m refl))
+  putting_reference_goes s line (ElementPlace a n None) v o m f x = none P o
+  putting_reference_goes s line (ElementPlace a n (Some k)) v o m f x = qualifying_goes P line (is_in s m k) v o _ (set_goes a n v (live_array o a) (element o a n) o _ (λ q same. x q m same))
+  putting_reference_goes s line (ImagePlace n) v o m f x = none P o
+
 -- ---- what is pending of operands, and of a controlled variable
 
 each_weight : (ts : Terms) (w : List Item) → work_weight (each ts w) ≡ terms_weight ts + work_weight w
 each_weight NoTerm w = omega arith
 each_weight (Further t ts) w = omega (arith, each_weight ts w)
 
-reading_weight : (t : Target) (w : List Item) → work_weight (reading t w) ≤ 1 + work_weight w
+reading_weight : (t : Target) (w : List Item) → work_weight (reading t w) ≤ target_weight t + work_weight w
 reading_weight (ToCell j key) w = omega arith
 reading_weight ToAddress w = omega arith
 reading_weight (ToText line) w = omega arith
 reading_weight (ToTextOf j key line) w = omega arith
+reading_weight (ToReference line) w = omega arith
+reading_weight (ToPlace a) w = omega arith
+reading_weight (ToTextAt a line) w = omega arith
+reading_weight (ToReferenceAt a line) w = omega arith
 
 branch_weight : (b : Statements) (w : List Item) → work_weight (first_branch b w) ≤ 1 + work_weight w
 branch_weight NoStatement w = omega arith
 branch_weight (Also a more) w = omega arith
+
+-- ---- the entry of a prefixed block takes a tick
+
+module _ (P : World → Configuration → Type 0) where
+  pub prefixed_goes : (s : Source) (l : Limits) (o : World) (m : Instances) (rest : List Activation) (k line : ℕ) (values : List Val) (encloser : Option ℕ) (end : Item) (xs : List Level) → ((p : World) (c : Configuration) → o.ticks < p.ticks → p.ticks ≤ l.ticks → P p c) → Goes P (prefixed_entered s l o m rest k line values encloser end xs)
+  prefixed_goes s l o m rest k line values encloser end xs x =
+      having_goes P (filled_in values (Some (cells_of_levels s xs)) (class_formals s.tables k)) o _ (λ filled. entering_goes P l line (words_of_cells (cells_of_levels s xs)) o _ (λ p more most.
+      let same = handed_ticks (length m.instances) (arrays_by_value (formals_from s (class_formals s.tables k)) values) p in x _ _ (omega (arith, more, same)) (omega (arith, most, same))))
+
+-- ---- what is pending of levels
+
+inner_weight : (last : Bool) (xs : List Level) (w : List Item) → work_weight (with_inner last xs w) ≤ levels_weight xs + work_weight w
+inner_weight true xs w = omega arith
+inner_weight false xs w = omega arith
+
+further_some : (s : Source) (i : ℕ) (first : DeclNo) (x : Identifier) (xs : List Identifier) (w : List Item) (d : DeclNo) → declared_at s x.token.0 ≡ Some d → work_weight (further_arrays s i first (x ∷ xs) w) ≡ 3 + work_weight (further_arrays s i first xs w)
+further_some s i first x xs w d e = rw e (omega arith)
+
+further_none : (s : Source) (i : ℕ) (first : DeclNo) (x : Identifier) (xs : List Identifier) (w : List Item) → declared_at s x.token.0 ≡ None → work_weight (further_arrays s i first (x ∷ xs) w) ≡ 2 + work_weight (further_arrays s i first xs w)
+further_none s i first x xs w e = rw e (omega arith)
+
+further_weight : (s : Source) (i : ℕ) (first : DeclNo) (xs : List Identifier) (w : List Item) → work_weight (further_arrays s i first xs w) ≤ names_weight xs + work_weight w
+further_weight s i first [] w = omega arith
+further_weight s i first (x ∷ xs) w = by_declared (declared_at s x.token.0) refl (further_weight s i first xs w)
+  where
+    by_declared : (o : Option DeclNo) → declared_at s x.token.0 ≡ o → work_weight (further_arrays s i first xs w) ≤ names_weight xs + work_weight w → work_weight (further_arrays s i first (x ∷ xs) w) ≤ 3 + names_weight xs + work_weight w
+    by_declared None e less = omega (arith, further_none s i first x xs w e, less)
+    by_declared (Some d) e less = omega (arith, further_some s i first x xs w d e, less)
+
+first_weight : (s : Source) (i : ℕ) (d : Option DeclNo) (xs : List Identifier) (w : List Item) → work_weight (first_array s i d xs w) ≤ 1 + names_weight xs + work_weight w
+first_weight s i None xs w = omega arith
+first_weight s i (Some d) xs w = omega (arith, further_weight s i d xs w)
+
+arrays_weight : (s : Source) (i : ℕ) (kind : Kind) (n : ℕ) (xs : List Identifier) (w : List Item) → work_weight (arrays_of s i kind n xs w) ≤ names_weight xs + work_weight w
+arrays_weight s i kind n [] w = omega arith
+arrays_weight s i kind n (x ∷ xs) w = omega (arith, first_weight s i (declared_at s x.token.0) xs w)
+
+bounds_small : (s : Source) (m : Instances) (i : ℕ) (bs : List BoundPair) (w : List Item) → work_weight (bounds_of s m i bs w) ≤ bounds_weight bs + work_weight w
+bounds_small s m i [] w = omega arith
+bounds_small s m i (b ∷ bs) w = omega (arith, close_small s m i b.lower, close_small s m i b.upper, bounds_small s m i bs w)
+
+segments_small : (s : Source) (m : Instances) (i : ℕ) (kind : Kind) (xs : List Arrayed) (w : List Item) → work_weight (segments_of s m i kind xs w) ≤ segments_weight xs + work_weight w
+segments_small s m i kind [] w = omega arith
+segments_small s m i kind (a ∷ more) w =
+    let last = segments_of s m i kind more w in
+    omega (arith, bounds_small s m i a.bounds (arrays_of s i kind (length a.bounds) a.names last), arrays_weight s i kind (length a.bounds) a.names last, segments_small s m i kind more w)
+
+declarations_small : (s : Source) (m : Instances) (i : ℕ) (ds : Declarations) (w : List Item) → work_weight (arrays_declared s m i ds w) ≤ declarations_weight ds + work_weight w
+declarations_small s m i NoDeclaration w = omega arith
+declarations_small s m i (With (Variables type vs) ds) w = declarations_small s m i ds w
+declarations_small s m i (With (Arrays type token segments) ds) w =
+    omega (arith, segments_small s m i (kind_named type) segments (arrays_declared s m i ds w), declarations_small s m i ds w)
+declarations_small s m i (With (DeclareProcedure result token h a end) ds) w = declarations_small s m i ds w
+declarations_small s m i (With (DeclareClass prefix token h interface a end) ds) w = declarations_small s m i ds w
 
 -- ---- operators
 
@@ -120,14 +194,27 @@ module _ (s : Source) (l : Limits) (o : World) (m : Instances) (i : ℕ) (w : Li
   eval_falls (CopyOf line a) = lighter refl (omega arith)
   eval_falls (CallOf j k ts line) = lighter refl (omega (arith, each_weight ts (Do (CallOp k (count ts) line) ∷ w)))
   eval_falls (StandardOf name ts line) = lighter refl (omega (arith, each_weight ts (Do (StandardOp name line) ∷ w)))
+  eval_falls (NewOf j k ts line) = lighter refl (omega (arith, each_weight ts (Do (NewOp k (count ts) line) ∷ w)))
+  eval_falls (AttributeOf k key class line a) = lighter refl (omega arith)
+  eval_falls (RemoteCallOf a k ts line) = lighter refl (omega (arith, each_weight ts (Do (CallOp k (count ts) line) ∷ w)))
+  eval_falls (QualifiedPlaceOf j key k) = lighter refl (omega arith)
+  eval_falls (QualifiedElementOf line k a ts) = lighter refl (omega (arith, each_weight ts (Do (QualifiedElementOp (count ts) line k) ∷ w)))
+  eval_falls (MemberOf member k a) = lighter refl (omega arith)
+  eval_falls (QuaOf k line a) = lighter refl (omega arith)
+  eval_falls (FitsOf k line a) = lighter refl (omega arith)
+  eval_falls (KeptOf a) = lighter refl (omega arith)
   eval_falls Unbuilt = none (From 1) o
 
-  store_falls : (t : Target) → Falls 1 (stored o m i w vals rest t)
+  store_falls : (t : Target) → Falls (target_weight t) (stored o m i w vals rest t)
   store_falls (ToCell j key) = popping_goes (From 1) vals o _ (λ v vals. having_goes (From 1) (cell_set m j key v) o _ (λ m. lighter refl (omega arith)))
   store_falls ToAddress =
       popping_goes (From 1) vals o _ (λ v vals. popping_goes (From 1) vals o _ (λ p vals. having_goes (From 1) (place_in p) o _ (λ p. putting_goes (From 1) p v o m _ (λ q m same. lighter same (omega arith)))))
   store_falls (ToText line) = assigning_goes (From 1) plain line vals o _ (λ p vals same. lighter same (omega arith))
   store_falls (ToTextOf j key line) = assigning_goes (From 1) plain line vals o _ (λ p vals same. lighter same (omega arith))
+  store_falls (ToReference line) = lighter refl (omega arith)
+  store_falls (ToPlace a) = lighter refl (omega arith)
+  store_falls (ToTextAt a line) = assigning_goes (From (3 + term_weight a)) plain line vals o _ (λ p vals same. lighter same (omega arith))
+  store_falls (ToReferenceAt a line) = lighter refl (omega arith)
 
   -- an entry takes a tick
   block_falls : (k line : ℕ) (x : Option texts.Text) → Falls 1 (sub_block_entered s l o m i w vals rest k line x)
@@ -148,6 +235,22 @@ module _ (s : Source) (l : Limits) (o : World) (m : Instances) (i : ℕ) (w : Li
   call_falls k n line =
       many_goes (From 1) n [] vals o _ (λ values vals. popping_goes (From 1) vals o _ (λ v vals. having_goes (From 1) (instance_in v) o _ (λ j. when_goes (From 1) (is_live m j) o _ (procedure_falls vals k line values j (texts.text s k)))))
 
+  -- so do the entries of objects and of prefixed blocks
+  object_falls : (vals : List Val) (k line : ℕ) (values : List Val) (j : ℕ) (xs : List Level) → Falls 1 (object_entered s l o m i w vals rest k line values j xs)
+  object_falls vals k line values j xs =
+      having_goes (From 1) (filled_in values (Some (cells_of_levels s xs)) (class_formals s.tables k)) o _ (λ filled. entering_goes (From 1) l line (words_of_cells (cells_of_levels s xs)) o _ (λ p more most.
+      let same = handed_ticks (length m.instances) (arrays_by_value (formals_from s (class_formals s.tables k)) values) p in ticked (omega (arith, more, same)) (omega (arith, most, same))))
+
+  generation_falls : (k n line : ℕ) → Falls 1 (generated s l o m i w vals rest k n line)
+  generation_falls k n line =
+      many_goes (From 1) n [] vals o _ (λ values vals. popping_goes (From 1) vals o _ (λ v vals. having_goes (From 1) (instance_in v) o _ (λ j. when_goes (From 1) (is_live m j) o _ (having_goes (From 1) (levels s k) o _ (λ xs.
+      object_falls vals k line values j xs)))))
+
+  prefix_falls : (k n line : ℕ) → Falls 1 (prefix_done s l o m i w vals rest k n line)
+  prefix_falls k n line =
+      many_goes (From 1) n [] vals o _ (λ values vals. having_goes (From 1) (levels s k) o _ (λ xs.
+      prefixed_goes (From 1) s l o m (record { instance = i; work = w; values = vals } ∷ rest) k line values (Some i) EndPrefixed xs (λ p c more most. ticked more most)))
+
   -- a statement that is not empty takes a tick
   compound_falls : (b : Block) (p : World) → o.ticks < p.ticks → p.ticks ≤ l.ticks → Falls 1 (compound s p m i w vals rest b)
   compound_falls (Begin token NoDeclaration ss end) p lt le = ticked lt le
@@ -160,8 +263,16 @@ module _ (s : Source) (l : Limits) (o : World) (m : Instances) (i : ℕ) (w : Li
   exec_falls : (a : Statement) → Falls 1 (exec s l o m i w vals rest a)
   exec_falls (syntax.Empty token) = lighter refl (omega arith)
   exec_falls (syntax.Compound b) = ticking_goes (From 1) l o _ (λ p more most. compound_falls b p (omega (arith, more)) most)
-  exec_falls (syntax.Prefixed class arguments b) = none (From 1) o
-  exec_falls (syntax.Inner token) = none (From 1) o
+  exec_falls (syntax.Prefixed class es b) = ticking_goes (From 1) l o _ (λ p more most. by_block p (omega (arith, more)) most (block_around s (begin_of b)))
+    where
+      by_block : (p : World) → o.ticks < p.ticks → p.ticks ≤ l.ticks → (k : Option ℕ) → Falls 1 (prefix_begun s p m i w vals rest class es k)
+      by_block p lt le None = none (From 1) p
+      by_block p lt le (Some k) = ticked lt le
+  exec_falls (syntax.Inner token) = ticking_goes (From 1) l o _ (λ p more most. by_level p (omega (arith, more)) most (block_around s token))
+    where
+      by_level : (p : World) → o.ticks < p.ticks → p.ticks ≤ l.ticks → (k : Option ℕ) → Falls 1 (inner_begun s p m i w vals rest k)
+      by_level p lt le None = none (From 1) p
+      by_level p lt le (Some k) = having_goes (From 1) (levels_of_instance s (text_at m i)) p _ (λ xs. ticked lt le)
   exec_falls (syntax.Call e) = ticking_goes (From 1) l o _ (λ p more most. ticked (omega (arith, more)) most)
   exec_falls (syntax.Assign left rs) = ticking_goes (From 1) l o _ (λ p more most. by_lefts p (omega (arith, more)) most _ _)
     where
@@ -175,15 +286,50 @@ module _ (s : Source) (l : Limits) (o : World) (m : Instances) (i : ℕ) (w : Li
       by_target : (p : World) → o.ticks < p.ticks → p.ticks ≤ l.ticks → (t : Option Target) → Falls 1 (looping p m i w vals rest t es a)
       by_target p lt le None = none (From 1) p
       by_target p lt le (Some t) = ticked lt le
-  exec_falls (syntax.Inspect token object opening a end other) = none (From 1) o
-  exec_falls (syntax.InspectWhen token object arms other) = none (From 1) o
+  exec_falls (syntax.Inspect token object opening a end other) = ticking_goes (From 1) l o _ (λ p more most. ticked (omega (arith, more)) most)
+  exec_falls (syntax.InspectWhen token object arms other) = ticking_goes (From 1) l o _ (λ p more most. ticked (omega (arith, more)) most)
   exec_falls (syntax.Activate token word process schedule) = none (From 1) o
 
   execs_falls : (ss : Statements) → Falls (statements_weight ss) (execs o m i w vals rest ss)
   execs_falls NoStatement = lighter refl (omega arith)
   execs_falls (Also a more) = lighter refl (omega arith)
 
-  elements_falls : (t : Target) (es : List Element) (a : Statement) → Falls (elements_weight es) (elements s l o m i w vals rest t es a)
+  -- connections: one arm is left less, or a statement is begun
+  connected_falls : (n k j : ℕ) (vals : List Val) (a : Statement) → 3 ≤ n → Falls n (connected o m i w vals rest k j a)
+  connected_falls n k j vals a h = having_goes (From n) (cell_made m i (Connection k) (Of (Object j))) o _ (λ m. lighter refl (omega (arith, h)))
+
+  inspect_falls : (vals : List Val) (k : ℕ) (a : Statement) (other : Statements) (p : Plain) → Falls (3 + statements_weight other) (object_connected o m i w vals rest k a other p)
+  inspect_falls vals k a other (Object j) = connected_falls (3 + statements_weight other) k j vals a (omega arith)
+  inspect_falls vals k a other Nothing = lighter refl (omega arith)
+  inspect_falls vals k a other (Integer z) = none (From (3 + statements_weight other)) o
+  inspect_falls vals k a other (Truth b) = none (From (3 + statements_weight other)) o
+  inspect_falls vals k a other (Character c) = none (From (3 + statements_weight other)) o
+  inspect_falls vals k a other (Text t) = none (From (3 + statements_weight other)) o
+
+  arm_falls : (vals : List Val) (fits : Bool) (k j : ℕ) (a : Statement) (more : Arms) (other : Statements) → Falls (3 + ((1 + arms_weight more) + statements_weight other)) (arm_tried o m i w vals rest fits k j a more other)
+  arm_falls vals true k j a more other = connected_falls (3 + ((1 + arms_weight more) + statements_weight other)) k j vals a (omega arith)
+  arm_falls vals false k j a more other = lighter refl (omega arith)
+
+  arms_falls : (vals : List Val) (arms : Arms) (other : Statements) (p : Plain) → Falls (3 + (arms_weight arms + statements_weight other)) (arms_tried s o m i w vals rest arms other p)
+  arms_falls vals (When token class opening a end more) other (Object j) =
+      having_goes (From (3 + ((1 + arms_weight more) + statements_weight other))) (class_at s class.token.0) o _ (λ k. arm_falls vals (is_in s m k j) opening j a more other)
+  arms_falls vals NoArm other (Object j) = lighter refl (omega arith)
+  arms_falls vals NoArm other Nothing = lighter refl (omega arith)
+  arms_falls vals (When token class opening a end more) other Nothing = lighter refl (omega arith)
+  arms_falls vals NoArm other (Integer z) = none (From (3 + (0 + statements_weight other))) o
+  arms_falls vals NoArm other (Truth b) = none (From (3 + (0 + statements_weight other))) o
+  arms_falls vals NoArm other (Character c) = none (From (3 + (0 + statements_weight other))) o
+  arms_falls vals NoArm other (Text t) = none (From (3 + (0 + statements_weight other))) o
+  arms_falls vals (When token class opening a end more) other (Integer z) = none (From (3 + ((1 + arms_weight more) + statements_weight other))) o
+  arms_falls vals (When token class opening a end more) other (Truth b) = none (From (3 + ((1 + arms_weight more) + statements_weight other))) o
+  arms_falls vals (When token class opening a end more) other (Character c) = none (From (3 + ((1 + arms_weight more) + statements_weight other))) o
+  arms_falls vals (When token class opening a end more) other (Text t) = none (From (3 + ((1 + arms_weight more) + statements_weight other))) o
+
+  inner_falls : (xs : List Level) → Falls (levels_weight xs) (inner_done o m i w vals rest xs)
+  inner_falls [] = lighter refl (omega arith)
+  inner_falls (x ∷ xs) = lighter refl (omega (arith, inner_weight x.inner_last xs (EndLevel x.text ∷ w)))
+
+  elements_falls : (t : Target) (es : List Element) (a : Statement) → Falls (elements_weight t es) (elements s l o m i w vals rest t es a)
   elements_falls t [] a = lighter refl (omega arith)
   elements_falls t (syntax.Once e ∷ es) a = ticking_goes (From 1) l o _ (λ p more most. ticked (omega (arith, more)) most)
   elements_falls t (syntax.While e token c ∷ es) a = lighter refl (omega arith)
@@ -193,7 +339,7 @@ module _ (s : Source) (l : Limits) (o : World) (m : Instances) (i : ℕ) (w : Li
   give_falls v [] = lighter refl (omega arith)
   give_falls v (t ∷ ts) = lighter refl (omega arith)
 
-  raise_falls : (t : Target) (line : ℕ) (step limit : Expression) (a : Statement) → Falls (7 + expression_weight step) (raised s o m i w vals rest t line step limit a)
+  raise_falls : (t : Target) (line : ℕ) (step limit : Expression) (a : Statement) → Falls (7 + (expression_weight step + (target_weight t + target_weight t))) (raised s o m i w vals rest t line step limit a)
   raise_falls t line step limit a = lighter refl (omega (arith, close_small s m i step, reading_weight t (Do (TwoOp (dyadic.Calculate calculation.Add) line) ∷ Do (StoreOp t) ∷ Do (BackOp (StepTestOp t line step limit a)) ∷ w)))
 
   pub op_falls : (op : Op) → Falls (op_weight op) (do_op s l o m i w vals rest op)
@@ -207,15 +353,32 @@ module _ (s : Source) (l : Limits) (o : World) (m : Instances) (i : ℕ) (w : Li
   op_falls (CopyOp line) = popping_goes (From 1) vals o _ (λ v vals. having_goes (From 1) (array_in v) o _ (λ a. copying_goes (From 1) l line i a o _ (λ n p same. lighter same (omega arith))))
   op_falls (CallOp k n line) = call_falls k n line
   op_falls (StandardOp name line) = performing_goes (From 1) put_back (back_goes (From 1)) _ l line name vals o m _ (λ p m value vals same. lighter same (omega arith))
+  op_falls (NewOp k n line) = generation_falls k n line
+  op_falls (AttributeOp k key class line) = object_goes (From 1) plain line vals o _ (λ j vals. when_goes (From 1) (is_in s m k j) o _ (lighter refl (omega arith)))
+  op_falls (ObjectOp line) = object_goes (From 1) plain line vals o _ (λ j vals. lighter refl (omega arith))
+  op_falls (QualifiedElementOp n line k) = finding_goes (From 1) plain array_in n line vals o _ (λ a k vals. lighter refl (omega arith))
+  op_falls (MemberOp member k) = plain_goes (From 1) plain vals o _ (λ p vals. having_goes (From 1) (is_member s m member k p) o _ (λ b. lighter refl (omega arith)))
+  op_falls (QuaOp k line) = object_goes (From 1) plain line vals o _ (λ j vals. qualifying_goes (From 1) line (is_in s m k) (Object j) o _ (lighter refl (omega arith)))
+  op_falls (FitsOp k line) = plain_goes (From 1) plain vals o _ (λ p vals. qualifying_goes (From 1) line (is_in s m k) p o _ (lighter refl (omega arith)))
+  op_falls KeepOp = popping_goes (From 1) vals o _ (λ v vals. having_goes (From 1) (array_in v) o _ (λ a. keeping_goes (From 1) a o _ (λ p same. lighter same (omega arith))))
   op_falls DropOp = popping_goes (From 1) vals o _ (λ v vals. lighter refl (omega arith))
   op_falls AgainOp = popping_goes (From 1) vals o _ (λ v vals. lighter refl (omega arith))
+  op_falls SwapOp = popping_goes (From 1) vals o _ (λ v vals. popping_goes (From 1) vals o _ (λ u vals. lighter refl (omega arith)))
   op_falls (StoreOp t) = store_falls t
   op_falls (ShareOp ts) = popping_goes (From (op_weight (ShareOp ts))) vals o _ (λ v vals. lighter refl (omega arith))
   op_falls (GiveOp v ts) = give_falls v ts
+  op_falls (ReferOp line) =
+      plain_goes (From 1) plain vals o _ (λ p vals. popping_goes (From 1) vals o _ (λ v vals. having_goes (From 1) (place_in v) o _ (λ a. putting_reference_goes (From 1) s line a p o m _ (λ q m same. lighter same (omega arith)))))
   op_falls (ArrayOp kind n line) = integers_goes (From 1) plain (2 * n) [] vals o _ (λ bounds vals. making_goes (From 1) l line i kind (pairs bounds) o _ (λ n p same. lighter same (omega arith)))
   op_falls (Exec a) = exec_falls a
   op_falls (Execs ss) = execs_falls ss
   op_falls (EnterOp k line) = block_falls k line (texts.text s k)
+  op_falls (PrefixedOp k n line) = prefix_falls k n line
+  op_falls (DeclareOp ds) = lighter refl (omega (arith, declarations_small s m i ds w))
+  op_falls (LevelOp k) = lighter refl (omega arith)
+  op_falls (InnerOp xs) = inner_falls xs
+  op_falls (ConnectOp k a other) = plain_goes (From (3 + statements_weight other)) plain vals o _ (λ p vals. inspect_falls vals k a other p)
+  op_falls (WhenOp arms other) = plain_goes (From (3 + (arms_weight arms + statements_weight other))) plain vals o _ (λ p vals. arms_falls vals arms other p)
   op_falls (ChooseOp a b) =
       truth_goes (From (op_weight (ChooseOp a b))) plain vals o _ (λ c vals. choosing_goes (From (op_weight (ChooseOp a b))) c _ _ (lighter refl (omega (arith, branch_weight b w))) (lighter refl (omega arith)))
   op_falls (TestOp c a) = ticking_goes (From 1) l o _ (λ p more most. ticked (omega (arith, more)) most)
@@ -235,3 +398,17 @@ pub leaving_falls : (s : Source) (l : Limits) (o : World) (m : Instances) (i n :
 unfolding leaving
 leaving_falls s l o m i n [] v = none (Lower l o.ticks (1 + n + 0)) o
 leaving_falls s l o m i n (a ∷ rest) v = lighter (back_ticks (is_given_at_end m i) o i _) (omega arith)
+
+-- an object ends, and what is below goes on
+pub object_ended_falls : (s : Source) (l : Limits) (o : World) (m : Instances) (i n : ℕ) (rest : List Activation) → Goes (Lower l o.ticks (1 + n + chain_weight rest)) (ticking l o (λ p. object_ended p m i rest))
+unfolding object_ended
+object_ended_falls s l o m i n rest = ticking_goes (Lower l o.ticks (1 + n + chain_weight rest)) l o _ (λ p more most. by_standing p (omega (arith, more)) most (slice_get m.standings i) rest)
+  where
+    by_standing : (p : World) → o.ticks < p.ticks → p.ticks ≤ l.ticks → (x : Option (Standing Activation)) (below : List Activation) → Goes (Lower l o.ticks (1 + n + chain_weight rest)) (ended_as p m i below x)
+    by_standing p lt le (Some AttachedObject) [] = tt
+    by_standing p lt le (Some AttachedObject) (a ∷ below) = ticked lt le
+    by_standing p lt le None below = tt
+    by_standing p lt le (Some (NoObject main)) below = tt
+    by_standing p lt le (Some (DetachedObject chain)) below = tt
+    by_standing p lt le (Some ResumedObject) below = tt
+    by_standing p lt le (Some TerminatedObject) below = tt
