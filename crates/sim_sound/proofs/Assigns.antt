@@ -20,7 +20,7 @@ module _ (s : Source) (ok : Typed s) (o : AllArrays) (m : Instances) (i t : ℕ)
   -- the addresses that are in hand
   abbrev pub address : Target → List Kinds → List Kinds
   address (ToCell j key) ks = ks
-  address ToAddress ks = AddressOf k ∷ ks
+  address ToAddress ks = AddressOf (Simply k) ∷ ks
   address (ToText line) ks = Value (Simply kind.Text) ∷ ks
   address (ToTextOf j key line) ks = Value (Simply kind.Text) ∷ ks
 
@@ -30,15 +30,15 @@ module _ (s : Source) (ok : Typed s) (o : AllArrays) (m : Instances) (i t : ℕ)
 
   abbrev pub EachFine : List Target → Type 0
   EachFine [] = Unit {0}
-  EachFine (x ∷ xs) = ((ks : List Kinds) → TargetFine s m i x k (address x ks) ks) × EachFine xs
+  EachFine (x ∷ xs) = ((ks : List Kinds) → TargetFine s m i x (Simply k) (address x ks) ks) × EachFine xs
 
-  targets_append : (xs : List Target) (y : Target) (before middle behind : List Kinds) → TargetsFine s m i xs k before middle → TargetFine s m i y k middle behind → TargetsFine s m i (xs ++ y ∷ []) k before behind
-  targets_append [] y before middle behind a b = (behind, subst (λ z. TargetFine s m i y k z behind) a b, refl)
+  targets_append : (xs : List Target) (y : Target) (before middle behind : List Kinds) → TargetsFine s m i xs (Simply k) before middle → TargetFine s m i y (Simply k) middle behind → TargetsFine s m i (xs ++ y ∷ []) (Simply k) before behind
+  targets_append [] y before middle behind a b = (behind, subst (λ z. TargetFine s m i y (Simply k) z behind) a b, refl)
   targets_append (x ∷ xs) y before middle behind a b = (a.0, a.1, targets_append xs y a.0 middle behind a.2 b)
 
-  pub shared : (xs : List Target) (ks : List Kinds) → EachFine xs → TargetsFine s m i (reverse xs) k (addresses xs ks) ks
+  pub shared : (xs : List Target) (ks : List Kinds) → EachFine xs → TargetsFine s m i (reverse xs) (Simply k) (addresses xs ks) ks
   shared [] ks a = refl
-  shared (x ∷ xs) ks a = subst (λ z. TargetsFine s m i z k (addresses xs (address x ks)) ks) (sym (reverse_first x xs)) (targets_append (reverse xs) x (addresses xs (address x ks)) (address x ks) ks (shared xs (address x ks) a.1) (a.0 ks))
+  shared (x ∷ xs) ks a = subst (λ z. TargetsFine s m i z (Simply k) (addresses xs (address x ks)) ks) (sym (reverse_first x xs)) (targets_append (reverse xs) x (addresses xs (address x ks)) (address x ks) ks (shared xs (address x ks) a.1) (a.0 ks))
 
   -- what is found of left sides
   pub record Found (es : List LeftSide) : Type 0 where
@@ -61,12 +61,12 @@ module _ (s : Source) (ok : Typed s) (o : AllArrays) (m : Instances) (i t : ℕ)
     is = record { work = Do (Eval x) ∷ (f.is).work; targets = ToAddress ∷ (f.is).targets };
     found = ap (λ z. statements.before z (lefts s m i es)) is ∙ ap (statements.before (LeftAddress x)) f.found;
     each = (λ ks. refl, f.each);
-    works = λ w ks h. ([], AddressOf k ∷ ks, (Some (AddressOf k), a, refl, refl), f.works w (AddressOf k ∷ ks) h);
+    works = λ w ks h. ([], AddressOf (Simply k) ∷ ks, (Some (AddressOf (Simply k)), a, refl, refl), f.works w (AddressOf (Simply k) ∷ ks) h);
   }
   before_is (LeftText line x) es e is a f = record {
     is = record { work = Do (Eval x) ∷ (f.is).work; targets = ToText line ∷ (f.is).targets };
     found = ap (λ z. statements.before z (lefts s m i es)) is ∙ ap (statements.before (LeftText line x)) f.found;
-    each = (λ ks. (a.0, refl), f.each);
+    each = (λ ks. (ap Simply a.0, refl), f.each);
     works = λ w ks h. ([], Value (Simply kind.Text) ∷ ks, (simple kind.Text, a.1, refl, refl), f.works w (Value (Simply kind.Text) ∷ ks) h);
   }
   before_is LeftUnbuilt es e is a f = absurd a
@@ -77,6 +77,6 @@ module _ (s : Source) (ok : Typed s) (o : AllArrays) (m : Instances) (i t : ℕ)
 
   -- the value is in hand, on top of the addresses
   pub assigning_fine : (xs : List Target) (ks : List Kinds) → EachFine xs → OpFine s o m i t (assigning xs) [] [] (Value (Simply k) ∷ addresses xs ks) ks
-  assigning_fine [] ks a = (k, ks, refl, refl, refl)
-  assigning_fine (x ∷ []) ks a = value_stored k (address x ks) refl (a.0 ks) refl
-  assigning_fine (x ∷ y ∷ ys) ks a = (k, addresses (x ∷ y ∷ ys) ks, refl, shared (x ∷ y ∷ ys) ks a, refl)
+  assigning_fine [] ks a = (Simply k, ks, refl, refl, refl)
+  assigning_fine (x ∷ []) ks a = value_stored (Simply k) (address x ks) refl (a.0 ks) refl
+  assigning_fine (x ∷ y ∷ ys) ks a = (Simply k, addresses (x ∷ y ∷ ys) ks, refl, shared (x ∷ y ∷ ys) ks a, refl)

@@ -7,7 +7,7 @@ use Rattle.sim_code.specs.Instances.{Instance, live}
 use Rattle.sim_meaning.specs.Pending.{ArrayValue, Connection, Declared, Held, Instances, Key, Of, Result, Val, cell, cell_set, held, held_set}
 use Rattle.sim_meaning.specs.Texts.{BlockText, ProcedureText, Text, text}
 use Rattle.sim_sound.specs.Typed.{Among, ArrayOf, Holds, Refers, Simply, key_holds, result_holds}
-use Rattle.sim_sound.proofs.Sound.{AllArrays, Begun, CellIs, CellTarget, InstanceFine, KeyAmong, Made, Present, StoreFine, ValFine, in_whole, keys_in, own_made}
+use Rattle.sim_sound.proofs.Sound.{AllArrays, Begun, CellIs, CellTarget, InstanceFine, IsPlain, KeyAmong, Made, Present, StoreFine, ValFine, in_whole, keys_in, own_made}
 use Rattle.sim_sound.proofs.Changes.{held_fine, held_plain, set_there}
 use Rattle.sim_code.specs.Instances as instances
 
@@ -18,6 +18,14 @@ val_up s o m j i le (ArrayOf k) (ArrayValue n) a = record { it = a.it; lives = a
 val_up s o m j i le (Simply k) _ a = absurd a
 val_up s o m j i le (Refers c) _ a = absurd a
 val_up s o m j i le (ArrayOf k) _ a = absurd a
+
+-- what a variable may hold is the same for all instances
+pub plain_anywhere : (s : Source) (o : AllArrays) (m : Instances) (j i : ℕ) (h : Holds) (v : Val) → IsPlain h → ValFine s o m j h v → ValFine s o m i h v
+plain_anywhere s o m j i (Simply k) (Of p) is a = a
+plain_anywhere s o m j i (Refers c) (Of p) is a = a
+plain_anywhere s o m j i (Simply k) _ is a = absurd a
+plain_anywhere s o m j i (Refers c) _ is a = absurd a
+plain_anywhere s o m j i (ArrayOf k) v is a = absurd is
 
 result_simple : (x : Option Text) (k : Kind) → result_holds x ≡ Some (ArrayOf k) → ⊥
 result_simple (Some (ProcedureText (Some type) g a)) k e = cc
@@ -70,8 +78,8 @@ cell_found s o m i t todo e key h b (own_made {d = d} same name is there not) =
     let x = own_cell s o m i t todo p.now key h p.lives (fine_at s o m i t todo b.store p) p.made (λ c f a. not (same_among d c key todo name f a)) is there in
     (x.0, ap (λ z. cell m z key) same ∙ x.1, x.2)
 
-pub target_cell : (s : Source) (o : AllArrays) (m : Instances) (i j : ℕ) (key : Key) (k : Kind) → StoreFine s o m → CellTarget s m i j key k → (v : Val) × (cell m j key ≡ Some v) × ValFine s o m j (Simply k) v
-target_cell s o m i j key k store c = own_cell s o m j c.around [] (c.whole).now key (Simply k) (c.whole).lives (fine_at s o m j c.around [] store c.whole) (c.whole).made (λ d f a. none_among d a) c.holds c.there
+pub target_cell : (s : Source) (o : AllArrays) (m : Instances) (i j : ℕ) (key : Key) (h : Holds) → StoreFine s o m → CellTarget s m i j key h → (v : Val) × (cell m j key ≡ Some v) × ValFine s o m j h v
+target_cell s o m i j key h store c = own_cell s o m j c.around [] (c.whole).now key h (c.whole).lives (fine_at s o m j c.around [] store c.whole) (c.whole).made (λ d f a. none_among d a) c.holds c.there
 
 -- ---- a cell is set
 

@@ -139,7 +139,7 @@ module _ (s : Source) (ok : Typed s) (m : Instances) (i t : ℕ) (todo : List De
   array_fine : (d : DeclNo) (line : ℕ) (es : Expressions) (ts : Terms) (Indices : Type 0) (k : Kind) (h : Holds) → entry_holds (entry_of s.tables d) ≡ Some (ArrayOf k) → (Indices → IntegersFine s m i t todo ts) → ArrayNames s from d es Indices k h → Fine (array_term s m i line d es ts) (Some (Value h))
   array_fine d line NoMore ts Indices k h e go a = cell_seen d (ArrayOf k) (λ j. Cell j (Declared d.0)) (Some (Value h)) e a.1 (λ j c. subst (λ z. Fine (Cell j (Declared d.0)) (Some (Value z))) a.0 c)
   array_fine d line (Then x es) ts Indices k h e go a =
-      cell_seen d (ArrayOf k) (λ j. ValueAt (ElementOf line (Cell j (Declared d.0)) ts)) (Some (Value h)) e a.1 (λ j c. (k, AddressOf k, refl, ap (λ z. Some (Value z)) a.0, (k, refl, c, go a.2)))
+      cell_seen d (ArrayOf k) (λ j. ValueAt (ElementOf line (Cell j (Declared d.0)) ts)) (Some (Value h)) e a.1 (λ j c. (Simply k, AddressOf (Simply k), refl, ap (λ z. Some (Value z)) a.0, (k, refl, c, go a.2)))
 
   formal_fine : (d : DeclNo) (f : Mode) (g : FormalKind) (ty : Option SimType) (line : ℕ) (es : Expressions) (ts : Terms) (Indices : Type 0) (h : Holds) → entry_holds (entry_of s.tables d) ≡ formal_holds f g ty → (Indices → IntegersFine s m i t todo ts) → HeldNames s from d es Indices (formal_holds f g ty) h → Fine (formal_term s m i line d f g es ts) (Some (Value h))
   formal_fine d mode.ByValue shape.Simple (Some ty) line es ts Indices h e go a = variable_fine d es (kind_of_type ty) h e a
@@ -181,7 +181,7 @@ module _ (s : Source) (ok : Typed s) (m : Instances) (i t : ℕ) (todo : List De
       (r.0, ap held_kinds r.1, x ∷ value_kinds a.1, subst (λ z. OperandsAre z (x ∷ value_kinds a.1)) (sym a.2) (is, values_are a.1), (x, value_kinds a.1, refl, f, ops a.1 a.3))
 
   name_fine : (line : ℕ) (ts : Terms) (Operands : List Kind → Type 0) → ((ks : List Kind) → Operands ks → OperandsFine s m i t todo ts (value_kinds ks)) → (is_image : Bool) (on : Option Standard) (n : Standard) (image : ℕ) (h : Option Holds) → IsImage image → NameGives is_image on n Operands h → Fine (name_term is_image on n image line ts) (held_kinds h)
-  name_fine line ts Operands ops true on n image h is a = (kind.Text, ImageAddress, refl, ap held_kinds a.0, (refl, is))
+  name_fine line ts Operands ops true on n image h is a = (Simply kind.Text, ImageAddress, refl, ap held_kinds a.0, (refl, is))
   name_fine line ts Operands ops false (Some of_text) n image h is a = of_text_fine line ts Operands ops of_text (ImageOf image) ImageAddress h (refl, is) refl a
   name_fine line ts Operands ops false None n image h is a =
       let r = a.0 in
@@ -222,30 +222,31 @@ module _ (s : Source) (ok : Typed s) (m : Instances) (i t : ℕ) (todo : List De
 
   -- ---- what is before a dot
 
-  variable_place_fine : (d : DeclNo) (es : Expressions) (k : Kind) → entry_holds (entry_of s.tables d) ≡ Some (Simply k) → VariableNames s from d es (Simply k) (Simply kind.Text) → Fine (variable_place s m i d es) (Some (AddressOf kind.Text))
+  variable_place_fine : (d : DeclNo) (es : Expressions) (k : Kind) → entry_holds (entry_of s.tables d) ≡ Some (Simply k) → VariableNames s from d es (Simply k) (Simply kind.Text) → Fine (variable_place s m i d es) (Some (AddressOf (Simply kind.Text)))
   unfolding home_of
   variable_place_fine d NoMore k e a =
       let x = reach (block_of s d) a.1 in
       let w = x.3 in
-      found_in (home_of s m i d) x.0 (λ j. PlaceOf j (Declared d.0)) (Some (AddressOf kind.Text)) x.1 (
-        kind.Text,
+      found_in (home_of s m i d) x.0 (λ j. PlaceOf j (Declared d.0)) (Some (AddressOf (Simply kind.Text))) x.1 (
+        Simply kind.Text,
         refl,
         record {
           around = block_of s d;
           before = x.2;
           whole = w;
           holds = e ∙ ap Some a.0;
+          plain = tt;
           there = key_there s ok (block_of s d) w.words d (Simply k) w.has_text e (among_block s ok d (Simply k) e);
         },
       )
   variable_place_fine d (Then x es) k e a = absurd a
 
-  array_place_fine : (d : DeclNo) (line : ℕ) (es : Expressions) (ts : Terms) (Indices : Type 0) (k : Kind) → entry_holds (entry_of s.tables d) ≡ Some (ArrayOf k) → (Indices → IntegersFine s m i t todo ts) → ArrayNames s from d es Indices k (Simply kind.Text) → Fine (array_place s m i line d es ts) (Some (AddressOf kind.Text))
+  array_place_fine : (d : DeclNo) (line : ℕ) (es : Expressions) (ts : Terms) (Indices : Type 0) (k : Kind) → entry_holds (entry_of s.tables d) ≡ Some (ArrayOf k) → (Indices → IntegersFine s m i t todo ts) → ArrayNames s from d es Indices k (Simply kind.Text) → Fine (array_place s m i line d es ts) (Some (AddressOf (Simply kind.Text)))
   array_place_fine d line NoMore ts Indices k e go a = let f = a.0 in absurd (cc)
   array_place_fine d line (Then x es) ts Indices k e go a =
-      cell_seen d (ArrayOf k) (λ j. ElementOf line (Cell j (Declared d.0)) ts) (Some (AddressOf kind.Text)) e a.1 (λ j c. (k, ap (λ z. Some (AddressOf z)) (same_simple k kind.Text a.0), c, go a.2))
+      cell_seen d (ArrayOf k) (λ j. ElementOf line (Cell j (Declared d.0)) ts) (Some (AddressOf (Simply kind.Text))) e a.1 (λ j c. (k, ap (λ z. Some (AddressOf (Simply z))) (same_simple k kind.Text a.0), c, go a.2))
 
-  formal_place_fine : (d : DeclNo) (f : Mode) (g : FormalKind) (ty : Option SimType) (line : ℕ) (es : Expressions) (ts : Terms) (Indices : Type 0) → entry_holds (entry_of s.tables d) ≡ formal_holds f g ty → (Indices → IntegersFine s m i t todo ts) → HeldNames s from d es Indices (formal_holds f g ty) (Simply kind.Text) → Fine (formal_place s m i line d f g es ts) (Some (AddressOf kind.Text))
+  formal_place_fine : (d : DeclNo) (f : Mode) (g : FormalKind) (ty : Option SimType) (line : ℕ) (es : Expressions) (ts : Terms) (Indices : Type 0) → entry_holds (entry_of s.tables d) ≡ formal_holds f g ty → (Indices → IntegersFine s m i t todo ts) → HeldNames s from d es Indices (formal_holds f g ty) (Simply kind.Text) → Fine (formal_place s m i line d f g es ts) (Some (AddressOf (Simply kind.Text)))
   formal_place_fine d mode.ByValue shape.Simple (Some ty) line es ts Indices e go a = variable_place_fine d es (kind_of_type ty) e a
   formal_place_fine d mode.ByReference shape.Simple (Some ty) line es ts Indices e go a = variable_place_fine d es (kind_of_type ty) e a
   formal_place_fine d mode.ByValue shape.Array (Some ty) line es ts Indices e go a = array_place_fine d line es ts Indices (kind_of_type ty) e go a
@@ -253,7 +254,7 @@ module _ (s : Source) (ok : Typed s) (m : Instances) (i t : ℕ) (todo : List De
   formal_place_fine d _ _ _ line es ts Indices e go a = absurd a
 
   module _ (line : ℕ) (es : Expressions) (ts : Terms) (Indices : Type 0) (Operands : List Kind → Type 0) (Actuals : List Formal → Type 0) (ints : Indices → IntegersFine s m i t todo ts) where
-    declared_place_fine : (d : DeclNo) (e : Option Entry) → entry_of s.tables d ≡ e → is_variable_entry e es ≡ true → DeclaredGives s from d es Indices Actuals e (Some (Simply kind.Text)) → Fine (declared_place s m i line d e es ts) (Some (AddressOf kind.Text))
+    declared_place_fine : (d : DeclNo) (e : Option Entry) → entry_of s.tables d ≡ e → is_variable_entry e es ≡ true → DeclaredGives s from d es Indices Actuals e (Some (Simply kind.Text)) → Fine (declared_place s m i line d e es ts) (Some (AddressOf (Simply kind.Text)))
     declared_place_fine d (Some (entry.Variable ty)) e v a = variable_place_fine d es (kind_of_type ty) (ap entry_holds e) a
     declared_place_fine d (Some (entry.Array ty n)) e v a = array_place_fine d line es ts Indices (kind_of_type ty) (ap entry_holds e) ints a
     declared_place_fine d (Some (entry.Formal f)) e v a = formal_place_fine d f.mode f.kind f.ty line es ts Indices (ap entry_holds e) ints a
@@ -264,7 +265,7 @@ module _ (s : Source) (ok : Typed s) (m : Instances) (i t : ℕ) (todo : List De
 
     named_place_fine : (x : Option Denotation) → is_variable_denoted s x es ≡ true → NamedGives s from x es Indices Operands Actuals (Some (Simply kind.Text)) → (y : Kinds) × Fine (named_place s m i line x es ts) (Some y) × OperandIs kind.Text y
     named_place_fine None v a = absurd a
-    named_place_fine (Some (denotation.Declared d)) v a = (AddressOf kind.Text, declared_place_fine d (entry_of s.tables d) refl v a, (refl, refl))
+    named_place_fine (Some (denotation.Declared d)) v a = (AddressOf (Simply kind.Text), declared_place_fine d (entry_of s.tables d) refl v a, (refl, refl))
     named_place_fine (Some (denotation.Standard n)) v a = (ImageAddress, (refl, tt), refl)
 
   two_fine : (x : Sort) (line : ℕ) (k v : Kind) (a b : Term) (h : Holds) → SortKinds x k v → Simply v ≡ h → Fine a (simple k) → Fine b (simple k) → Fine (two_term x line a b) (Some (Value h))

@@ -99,7 +99,7 @@ module _ (s : Source) (o : World) (g : List Sight) (long : length g ≡ length o
         Value (ArrayOf k) ∷ ks,
         (Some (Value (ArrayOf k)), a.2, refl, refl),
         each_integers ts (Do (ElementOp (count ts) line) ∷ w) todo (Value (ArrayOf k) ∷ ks) a.3
-            (todo, AddressOf k ∷ ks, (k, ks, refl, refl, refl), subst (λ z. Work w todo (given z ks)) (sym a.1) work),
+            (todo, AddressOf (Simply k) ∷ ks, (k, ks, refl, refl, refl), subst (λ z. Work w todo (given z ks)) (sym a.1) work),
       )
   eval_goes (ValueAt x) r w vals todo ks b h a work =
       let k = a.0 in
@@ -107,7 +107,7 @@ module _ (s : Source) (o : World) (g : List Sight) (long : length g ≡ length o
         todo,
         a.1 ∷ ks,
         (Some a.1, a.4, refl, refl),
-        (todo, Value (Simply k) ∷ ks, (k, a.1, ks, a.2, refl, refl, refl), subst (λ z. Work w todo (given z ks)) (sym a.3) work),
+        (todo, Value k ∷ ks, (k, a.1, ks, a.2, refl, refl, refl), subst (λ z. Work w todo (given z ks)) (sym a.3) work),
       )
   eval_goes (PlaceOf e key) r w vals todo ks b h a work =
       goes_on w (Address (CellPlace e key None) ∷ vals) todo (AddressOf a.0 ∷ ks) b (a.2, h) (subst (λ z. Work w todo (given z ks)) (sym a.1) work)

@@ -9,7 +9,7 @@ use Rattle.sim_code.specs.Instances.{CellPlace, ElementPlace, ImagePlace, Instan
 use Rattle.sim_meaning.specs.Pending.{Activation, Address, ArrayValue, BackOp, BranchOp, CallOf, Cell, CopyOf, Do, Either, ElementOf, ElementsOp, EndBlock, EndProcedure, EndProgram, Eval, Further, Given, GiveOp, Held, IfOp, ImageOf, Instances, Item, Joined, Key, Link, NoTerm, Of, One, Op, PlaceOf, ProcedureValue, RaiseOp, ShareOp, StandardOf, StepTestOp, StoreOp, Target, Term, Terms, ToAddress, ToCell, ToText, ToTextOf, Tree, Two, Unbuilt, Val, ValueAt, WhileElementOp}
 use Rattle.sim_sound.specs.Typed.{ArrayOf, Holds, Refers, Simply, key_holds}
 use Rattle.sim_sound.proofs.Lists.{there_is}
-use Rattle.sim_sound.proofs.Sound.{AddressOf, AllArrays, ArrayFine, CellFine, CellIs, CellTarget, CellsFine, ChainFine, Copied, CopyFine, DeepFine, ElementFine, Enclosed, HandFine, HandsFine, ImageAddress, InstanceFine, IntegersFine, Kinds, LinkTo, ObjectOf, OpFine, OperandsFine, Present, ReferenceFine, StoreFine, StoreOpFine, TargetFine, TargetsFine, TermFine, TermsFine, ValFine, Value, VariableFine, WorkFine, alone, array_stored, in_whole, own_made, value_stored, within}
+use Rattle.sim_sound.proofs.Sound.{AddressOf, AllArrays, ArrayFine, CellFine, CellIs, CellTarget, CellsFine, ChainFine, Copied, CopyFine, DeepFine, ElementFine, ElementHolds, Enclosed, HandFine, HandsFine, ImageAddress, InstanceFine, IntegersFine, Kinds, LinkTo, ObjectOf, OpFine, OperandsFine, Present, ReferenceFine, StoreFine, StoreOpFine, TargetFine, TargetsFine, TermFine, TermsFine, ValFine, Value, VariableFine, WorkFine, alone, array_stored, in_whole, own_made, value_stored, within}
 
 -- values and cells of an instance, where its arrays and all objects are still there
 module _ (s : Source) (o : AllArrays) (m : Instances) (o' : AllArrays) (m' : Instances) (j : ℕ) (arrays : (k : Kind) (a : ℕ) → ArrayFine o j k a → ArrayFine o' j k a) (objects : (i class : ℕ) → ObjectOf s m i class → ObjectOf s m' i class) where
@@ -66,12 +66,17 @@ module _ (s : Source) (o : AllArrays) (m : Instances) (o' : AllArrays) (m' : Ins
 
   -- ---- what is in hand, and what is pending
 
+  element_later : (j : ℕ) → j < bound → (h : Holds) (n i : ℕ) → ElementHolds o j h n i → ElementHolds o' j h n i
+  element_later j lt (Simply k) n i a = e.elements j k n i lt a
+  element_later j lt (Refers c) n i a = absurd a
+  element_later j lt (ArrayOf k) n i a = absurd a
+
   pub hand_later : (j : ℕ) → j < bound → (k : Kinds) (v : Val) → HandFine s o m j k v → HandFine s o' m' j k v
   hand_later j lt (Value h) v a = val_later j lt h v a
-  hand_later j lt (AddressOf k) (Address (ElementPlace n i None)) a = e.elements j k n i lt a
+  hand_later j lt (AddressOf h) (Address (ElementPlace n i None)) a = element_later j lt h n i a
   hand_later j lt (LinkTo u) (Link n) a = let less : n < bound = omega (arith, a.0, lt) in (a.0, e.present n u [] less a.1)
   hand_later j lt (AddressOf k) (Address (ElementPlace n i (Some c))) a = absurd a
-  hand_later j lt (AddressOf k) (Address (CellPlace n key None)) a = let less : n < bound = omega (arith, a.before, lt) in record { around = a.around; before = a.before; whole = e.present n a.around [] less a.whole; holds = a.holds; there = a.there }
+  hand_later j lt (AddressOf k) (Address (CellPlace n key None)) a = let less : n < bound = omega (arith, a.before, lt) in record { around = a.around; before = a.before; whole = e.present n a.around [] less a.whole; holds = a.holds; plain = a.plain; there = a.there }
   hand_later j lt (AddressOf k) (Address (CellPlace n key (Some c))) a = absurd a
   hand_later j lt ImageAddress (Address (ImagePlace n)) a = a
   hand_later j lt ImageAddress (Address (CellPlace n key c)) a = absurd a
@@ -105,8 +110,8 @@ module _ (s : Source) (o : AllArrays) (m : Instances) (o' : AllArrays) (m' : Ins
     read_later todo n key h (in_whole {u = u} le b holds there) = let less : n < bound = omega (arith, le, lt) in in_whole le (e.present n u [] less b) holds there
     read_later todo n key h (own_made is same holds there not) = own_made is same holds there not
 
-    pub cell_target_later : (n : ℕ) (key : Key) (k : Kind) → CellTarget s m j n key k → CellTarget s m' j n key k
-    cell_target_later n key k a = let less : n < bound = omega (arith, a.before, lt) in record { around = a.around; before = a.before; whole = e.present n a.around [] less a.whole; holds = a.holds; there = a.there }
+    pub cell_target_later : (n : ℕ) (key : Key) (h : Holds) → CellTarget s m j n key h → CellTarget s m' j n key h
+    cell_target_later n key h a = let less : n < bound = omega (arith, a.before, lt) in record { around = a.around; before = a.before; whole = e.present n a.around [] less a.whole; holds = a.holds; plain = a.plain; there = a.there }
 
     mutual
       pub term_later : (todo : List DeclNo) (x : Term) (g : Option Kinds) → TermFine s m j t todo x g → TermFine s m' j t todo x g
@@ -148,21 +153,21 @@ module _ (s : Source) (o : AllArrays) (m : Instances) (o' : AllArrays) (m' : Ins
       terms_later todo NoTerm hs a = a
       terms_later todo (Further x xs) hs a = (a.0, a.1, a.2, term_later todo x _ a.3, terms_later todo xs a.1 a.4)
 
-    target_later : (x : Target) (k : Kind) (before behind : List Kinds) → TargetFine s m j x k before behind → TargetFine s m' j x k before behind
+    target_later : (x : Target) (k : Holds) (before behind : List Kinds) → TargetFine s m j x k before behind → TargetFine s m' j x k before behind
     target_later (ToCell n key) k before behind a = (cell_target_later n key k a.0, a.1)
     target_later ToAddress k before behind a = a
     target_later (ToText line) k before behind a = a
     target_later (ToTextOf n key line) k before behind a = a
 
-    targets_later : (ts : List Target) (k : Kind) (before behind : List Kinds) → TargetsFine s m j ts k before behind → TargetsFine s m' j ts k before behind
+    targets_later : (ts : List Target) (k : Holds) (before behind : List Kinds) → TargetsFine s m j ts k before behind → TargetsFine s m' j ts k before behind
     targets_later [] k before behind a = a
     targets_later (x ∷ xs) k before behind a = (a.0, target_later x k before a.0 a.1, targets_later xs k a.0 behind a.2)
 
     variable_later : (x : Target) (k : Kind) → VariableFine s m j x k → VariableFine s m' j x k
-    variable_later (ToCell n key) k a = cell_target_later n key k a
+    variable_later (ToCell n key) k a = cell_target_later n key (Simply k) a
     variable_later ToAddress k a = a
     variable_later (ToText line) k a = a
-    variable_later (ToTextOf n key line) k a = (cell_target_later n key k a.0, a.1)
+    variable_later (ToTextOf n key line) k a = (cell_target_later n key (Simply k) a.0, a.1)
 
     stored_later : (todo todo' : List DeclNo) (x : Target) (before behind : List Kinds) → StoreOpFine s o m j t todo todo' x before behind → StoreOpFine s o' m' j t todo todo' x before behind
     stored_later todo todo' x before behind (value_stored k next is a same) = value_stored k next is (target_later x k next behind a) same
@@ -173,7 +178,7 @@ module _ (s : Source) (o : AllArrays) (m : Instances) (o' : AllArrays) (m' : Ins
     op_later (IfOp x y) todo todo' before behind a = (a.0, a.1, term_later todo x _ a.2, term_later todo y _ a.3, a.4, a.5, a.6)
     op_later (StoreOp x) todo todo' before behind a = stored_later todo todo' x before behind a
     op_later (ShareOp ts) todo todo' before behind a = (a.0, a.1, a.2, targets_later ts a.0 a.1 behind a.3, a.4)
-    op_later (GiveOp v ts) todo todo' before behind a = (a.0, val_later j lt (Simply a.0) v a.1, targets_later ts a.0 before behind a.2, a.3)
+    op_later (GiveOp v ts) todo todo' before behind a = (a.0, val_later j lt a.0 v a.1, targets_later ts a.0 before behind a.2, a.3)
     op_later (BranchOp x next) todo todo' before behind a = (a.0, a.1, a.2, a.3, op_later next [] [] behind behind a.4)
     op_later (BackOp op) todo todo' before behind a = op_later op todo todo' before behind a
     op_later (ElementsOp x es y) todo todo' before behind a = (a.0, a.1, a.2, (let r = a.3 in (r.0, variable_later x r.0 r.1, r.2, r.3)))

@@ -31,8 +31,8 @@ use Rattle.sim_sound.proofs.Reach.{Reaches, among_block, key_of_result, key_ther
 
 module _ (s : Source) (ok : Typed s) (o : AllArrays) (m : Instances) (i t : ℕ) (whole : Begun s o m i t []) where
   abbrev pub LeftFine : Left → Kind → Type 0
-  LeftFine (LeftCell j key) k = CellTarget s m i j key k
-  LeftFine (LeftAddress x) k = TermFine s m i t [] x (Some (AddressOf k))
+  LeftFine (LeftCell j key) k = CellTarget s m i j key (Simply k)
+  LeftFine (LeftAddress x) k = TermFine s m i t [] x (Some (AddressOf (Simply k)))
   LeftFine (LeftText line x) k = (k ≡ kind.Text) × TermFine s m i t [] x (simple kind.Text)
   LeftFine LeftUnbuilt k = ⊥
 
@@ -52,6 +52,7 @@ module _ (s : Source) (ok : Typed s) (o : AllArrays) (m : Instances) (i t : ℕ)
         before = x.2;
         whole = w;
         holds = e ∙ ap (λ z. Some (Simply z)) same;
+        plain = tt;
         there = key_there s ok (block_of s d) w.words d (Simply k0) w.has_text e (among_block s ok d (Simply k0) e);
       })
 
@@ -61,7 +62,7 @@ module _ (s : Source) (ok : Typed s) (o : AllArrays) (m : Instances) (i t : ℕ)
       let x = reach (block_of s d) sees in
       let w = x.3 in
       found_left (home_of s m i d) x.0 (λ j. LeftAddress (ElementOf line (Cell j (Declared d.0)) (close_all s m i (Then e es)))) k x.1
-      (k0, ap (λ z. Some (AddressOf z)) same, (ArrayOf k0, refl, Rattle.sim_sound.proofs.Sound.in_whole x.2 w is (key_there s ok (block_of s d) w.words d (ArrayOf k0) w.has_text is (among_block s ok d (ArrayOf k0) is))), integers_fine s ok m i t [] (Some t) reach (Then e es) a)
+      (k0, ap (λ z. Some (AddressOf (Simply z))) same, (ArrayOf k0, refl, Rattle.sim_sound.proofs.Sound.in_whole x.2 w is (key_there s ok (block_of s d) w.words d (ArrayOf k0) w.has_text is (among_block s ok d (ArrayOf k0) is))), integers_fine s ok m i t [] (Some t) reach (Then e es) a)
 
   -- what a left side holds
   result_is : (d : DeclNo) (type : SimType) (u : ℕ) (k : Kind) → entry_of s.tables d ≡ Some (entry.Procedure (Some type) u) → kind_of_type type ≡ k → Around s.tables t u → LeftFine (result_left s m i u NoMore) k
@@ -74,6 +75,7 @@ module _ (s : Source) (ok : Typed s) (o : AllArrays) (m : Instances) (i t : ℕ)
         before = x.2;
         whole = x.3;
         holds = holds ∙ ap (λ z. Some (Simply z)) same;
+        plain = tt;
         there = by_type p.given p.same p.is;
       })
     where

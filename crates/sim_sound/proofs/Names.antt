@@ -223,13 +223,17 @@ module _ {S : Type 0} (P : World → S → Type 0) (s : Source) (o : World) (g :
       (p.0, ap (operand o m) p.1, p.2 ∙ (let f : k' ≡ k = cc in f), λ n f. absurd (cc))
   operand_read store k (Value (Refers c)) v is a = absurd (cc)
   operand_read store k (Value (ArrayOf k')) v is a = absurd (cc)
-  operand_read store k (AddressOf k') (Address (ElementPlace a n None)) is f =
+  operand_read store k (AddressOf (Refers c)) (Address (ElementPlace a n None)) is f = absurd f
+  operand_read store k (AddressOf (ArrayOf c)) (Address (ElementPlace a n None)) is f = absurd f
+  operand_read store k (AddressOf (Simply k')) (Address (ElementPlace a n None)) is f =
+      let e = is.1 in
+      let text : k' ≡ kind.Text = cc in
       let q = element_there g o j a n k' f in
-      place_read k (Address (ElementPlace a n None)) (plain_in (of_plain (element o a n))) q.0 is.0 (ap (λ z. plain_in (of_plain z)) q.1) (q.2 ∙ is.1) refl (λ i g. cc)
+      place_read k (Address (ElementPlace a n None)) (plain_in (of_plain (element o a n))) q.0 is.0 (ap (λ z. plain_in (of_plain z)) q.1) (q.2 ∙ text) refl (λ i g. cc)
   operand_read store k (AddressOf k') (Address (CellPlace e key None)) is c =
       let q = target_cell s (see g o) m j e key k' store c in
-      let p = plain_of s g o m e k' q.0 q.2 in
-      place_read k (Address (CellPlace e key None)) (plain_in (cell m e key)) p.0 is.0 (ap plain_in q.1 ∙ ap (λ z. plain_in (Some z)) p.1) (p.2 ∙ is.1) refl (λ i g. cc)
+      let p = plain_of s g o m e kind.Text q.0 (subst (λ z. ValFine s (see g o) m e z q.0) is.1 q.2) in
+      place_read k (Address (CellPlace e key None)) (plain_in (cell m e key)) p.0 is.0 (ap plain_in q.1 ∙ ap (λ z. plain_in (Some z)) p.1) p.2 refl (λ i g. cc)
   operand_read store k (AddressOf k') (Address (ElementPlace a n (Some c))) is f = absurd f
   operand_read store k (AddressOf k') (Address (CellPlace a n (Some c))) is f = absurd f
   operand_read store k (AddressOf k') (Address (ImagePlace n)) is f = absurd f

@@ -15,7 +15,7 @@ use Rattle.sim_code.specs.Outcome.{ArrayOf as OneArray, World}
 use Rattle.sim_meaning.specs.Meaning.{do_op}
 use Rattle.sim_meaning.specs.Pending.{Activation, Address, AgainOp, ArrayOp, ArrayValue, Configuration, CopyOp, Declared, Do, DropOp, ElementOp, Eval, FetchOp, GiveOp, IfOp, Instances, Item, JoinOp, Of, OneOp, Op, PastOp, ShareOp, StandardOp, StepOp, StoreOp, Target, Term, ToAddress, ToCell, ToText, ToTextOf, TwoOp, Val, array_in, cell_set, place_in}
 use Rattle.sim_meaning.specs.Steps.{go, putting, text_assigned, value_at, with_value}
-use Rattle.sim_sound.specs.Typed.{ArrayOf, Simply, Typed, some_holds, standard_kind}
+use Rattle.sim_sound.specs.Typed.{ArrayOf, Holds, Simply, Typed, some_holds, standard_kind}
 use Rattle.sim_sound.proofs.ArrayEvents.{NewArray, added_fine, array_is, copied_array, copied_fine, found_element, made_array}
 use Rattle.sim_sound.proofs.Changes.{copies_array, later_array, more}
 use Rattle.sim_sound.proofs.Evals.{IsFine, Work, eval_goes, goes_on}
@@ -68,14 +68,14 @@ module _ (s : Source) (ok : Typed s) (l : Limits) (o : World) (g : List Sight) (
       (goes_on s o g long m i t rest top (Do (Eval y) ∷ w) vs todo a.1 b more (todo, a.0 ∷ a.1, (Some a.0, a.3, refl, refl), works _ a.5 a.6)))
 
   pub element_op : (n line : ℕ) → OpFine s (see g o) m i t (ElementOp n line) todo todo' before behind → Stepped (ElementOp n line)
-  element_op n line a = found_element P s m i a.0 n line a.1 vals o g (λ array index vs. go o m i w (Address (ElementPlace array index None) ∷ vs) rest) (hand _ a.2) (λ array index vs e more. goes (Address (ElementPlace array index None) ∷ vs) (AddressOf a.0 ∷ a.1) (e, more) (works _ a.3 a.4))
+  element_op n line a = found_element P s m i a.0 n line a.1 vals o g (λ array index vs. go o m i w (Address (ElementPlace array index None) ∷ vs) rest) (hand _ a.2) (λ array index vs e more. goes (Address (ElementPlace array index None) ∷ vs) (AddressOf (Simply a.0) ∷ a.1) (e, more) (works _ a.3 a.4))
 
   pub fetch_op : OpFine s (see g o) m i t FetchOp todo todo' before behind → Stepped FetchOp
   fetch_op a =
       any_popped P s (see g o) m i a.1 a.2 vals o (λ v vs. having (place_in v) o (λ p. having (value_at o m p) o (λ v. go o m i w (v ∷ vs) rest))) (hand _ a.4) (λ v vs is e more.
       fetched_goes s ok l o g long m i t rest top a.0 a.1 v w vs todo a.2 a.3 (leading a.1 a.0 (length vs) v a.3 e) b more (works _ a.5 a.6))
     where
-      leading : (x : Kinds) (k : Kind) (d : ℕ) (v : Val) → Leads x k → DeepFine s (see g o) m i d x v → HandFine s (see g o) m i x v
+      leading : (x : Kinds) (k : Holds) (d : ℕ) (v : Val) → Leads x k → DeepFine s (see g o) m i d x v → HandFine s (see g o) m i x v
       leading (AddressOf z) k d v is f = f
       leading ImageAddress k d v is f = f
       leading (Value z) k d v is f = absurd is
@@ -131,28 +131,28 @@ module _ (s : Source) (ok : Typed s) (l : Limits) (o : World) (g : List Sight) (
 
   pub share_op : (ts : List Target) → OpFine s (see g o) m i t (ShareOp ts) todo todo' before behind → Stepped (ShareOp ts)
   share_op ts a =
-      any_popped P s (see g o) m i (Value (Simply a.0)) a.1 vals o (λ v vs. go o m i (Do (GiveOp v ts) ∷ w) vs rest) (hand _ a.2) (λ v vs is e more.
+      any_popped P s (see g o) m i (Value a.0) a.1 vals o (λ v vs. go o m i (Do (GiveOp v ts) ∷ w) vs rest) (hand _ a.2) (λ v vs is e more.
       goes_on s o g long m i t rest top (Do (GiveOp v ts) ∷ w) vs todo a.1 b more (todo, behind, (a.0, e, a.3, refl), works behind refl a.4))
 
   pub give_op : (v : Val) (ts : List Target) → OpFine s (see g o) m i t (GiveOp v ts) todo todo' before behind → Stepped (GiveOp v ts)
   give_op v [] a = goes vals before h (works before a.2 a.3)
   give_op v (x ∷ xs) a =
       let ts = a.2 in
-      goes_on s o g long m i t rest top (Do (StoreOp x) ∷ Do (GiveOp v xs) ∷ w) (v ∷ vals) todo (Value (Simply a.0) ∷ before) b (a.1, h)
+      goes_on s o g long m i t rest top (Do (StoreOp x) ∷ Do (GiveOp v xs) ∷ w) (v ∷ vals) todo (Value a.0 ∷ before) b (a.1, h)
       (todo, ts.0, value_stored a.0 before refl ts.1 refl, (todo, behind, (a.0, a.1, ts.2, refl), works behind refl a.3))
 
-  text_stored : (line : ℕ) (k : Kind) (next : List Kinds) → before ≡ Value (Simply k) ∷ next → (k ≡ kind.Text) × (next ≡ Value (Simply kind.Text) ∷ behind) → todo' ≡ todo → Goes P (text_assigned o m i w vals rest line)
+  text_stored : (line : ℕ) (k : Holds) (next : List Kinds) → before ≡ Value k ∷ next → (k ≡ Simply kind.Text) × (next ≡ Value (Simply kind.Text) ∷ behind) → todo' ≡ todo → Goes P (text_assigned o m i w vals rest line)
   text_stored line k next is a same =
       assigning_goes P s (see g o) m i line behind vals o (λ p vs. go p m i w vs rest)
-      (hand _ (is ∙ ap (λ z. Value (Simply z) ∷ next) a.0 ∙ ap (λ z. Value (Simply kind.Text) ∷ z) a.1))
+      (hand _ (is ∙ ap (λ z. Value z ∷ next) a.0 ∙ ap (λ z. Value (Simply kind.Text) ∷ z) a.1))
       (λ frames vs more. goes vs behind more (works behind refl same))
 
   pub store_op : (x : Target) → OpFine s (see g o) m i t (StoreOp x) todo todo' before behind → Stepped (StoreOp x)
   store_op (ToCell j key) (value_stored k next is a same) =
-      any_popped P s (see g o) m i (Value (Simply k)) next vals o (λ v vs. having (cell_set m j key v) o (λ m. go o m i w vs rest)) (hand _ is) (λ v vs e here more.
+      any_popped P s (see g o) m i (Value k) next vals o (λ v vs. having (cell_set m j key v) o (λ m. go o m i w vs rest)) (hand _ is) (λ v vs e here more.
       set_goes s ok l o g long m i t rest top j j key k v w vs todo next a.0 here b more (works next (sym a.1) same))
   store_op ToAddress (value_stored k next is a same) =
-      any_popped P s (see g o) m i (Value (Simply k)) next vals o (λ v vs. popping vs o (λ p vs. having (place_in p) o (λ p. putting p v o m (λ o m. go o m i w vs rest)))) (hand _ is) (λ v vs e here more.
+      any_popped P s (see g o) m i (Value k) next vals o (λ v vs. popping vs o (λ p vs. having (place_in p) o (λ p. putting p v o m (λ o m. go o m i w vs rest)))) (hand _ is) (λ v vs e here more.
       any_popped P s (see g o) m i (AddressOf k) behind vs o (λ p vs. having (place_in p) o (λ p. putting p v o m (λ o m. go o m i w vs rest))) (subst (λ z. HandsFine s (see g o) m i z vs) a more) (λ p vs f there most.
       putting_goes s ok l o g long m i t rest top k p v w vs todo behind there here b most (works behind refl same)))
   store_op ToAddress (array_stored a) = let e = a.is in absurd (cc)

@@ -15,13 +15,13 @@ use Rattle.sim_code.specs.Instances.{CellPlace, ElementPlace, ImagePlace}
 use Rattle.sim_code.specs.Outcome.{ArrayOf as OneArray, Run, World}
 use Rattle.sim_meaning.specs.Pending.{Activation, Address, AgainOp, ArrayOp, ArrayValue, Cell, Configuration, CopyOp, Declared, Do, DropOp, ElementOp, Eval, FetchOp, GiveOp, Held, IfOp, Instances, Item, Key, Link, Of, OneOp, Op, PastOp, ProcedureValue, ShareOp, StandardOp, StepOp, StoreOp, Target, Term, ToAddress, ToCell, Tree, TwoOp, Val, array_in, cell, cell_set, held, place_in, plain}
 use Rattle.sim_meaning.specs.Steps.{go, of_plain, put_back, putting, value_at}
-use Rattle.sim_sound.specs.Typed.{Among, ArrayOf, Refers, Simply, Typed, first, key_holds, later}
-use Rattle.sim_sound.proofs.Cells.{cell_put, fine_at, target_cell}
+use Rattle.sim_sound.specs.Typed.{Among, ArrayOf, Holds, Refers, Simply, Typed, first, key_holds, later}
+use Rattle.sim_sound.proofs.Cells.{cell_put, fine_at, plain_anywhere, target_cell}
 use Rattle.sim_sound.proofs.Changes.{changed, copies_element, held_now, held_stays, later_element}
 use Rattle.sim_sound.proofs.Evals.{IsFine, Work, goes_on}
 use Rattle.sim_sound.proofs.Later.{Copies, Later, chain_later, hands_later, later_under, store_later, work_later}
 use Rattle.sim_sound.proofs.Lifts.{Goes, had, ran}
-use Rattle.sim_sound.proofs.Names.{AllBack, element_there, image_there, plain_of}
+use Rattle.sim_sound.proofs.Names.{AllBack, element_there, image_there}
 use Rattle.sim_sound.proofs.Lists.{if_true, no_some, set_len}
 use Rattle.sim_sound.proofs.Moves.{SameOnes, later_cell, operates_on, other, same_cell, same_ones, set_in, set_lives, store_cell}
 use Rattle.sim_sound.proofs.Sound.{AddressOf, AllArrays, ArrayFine, ArrayStored, Begun, CellTarget, ChainFine, Copied, ElementFine, Fine, HandFine, HandsFine, ImageAddress, Kinds, Leads, LinkTo, Made, OperandIs, Operates, Present, Sight, StoreFine, TargetFine, TargetsFine, ValFine, Value, Whole, WorkFine, array_stored, given, held_kinds, integers, runs, see, simple, value_stored}
@@ -72,22 +72,15 @@ module _ (s : Source) (ok : Typed s) (l : Limits) (o : World) (g : List Sight) (
 
   -- ---- a cell is set
 
-  pub set_goes : (j u : ℕ) (key : Key) (k : Kind) (v : Val) (w : List Item) (vals : List Val) (todo : List DeclNo) (ks : List Kinds) → CellTarget s m i j key k → ValFine s (see g o) m i (Simply k) v → Bg todo → Hd ks vals → Wk w todo ks → Go (having (cell_set m j key v) o (λ m. go o m i w vals rest))
-  set_goes j u key k v w vals todo ks c fine b h work =
+  pub set_goes : (j u : ℕ) (key : Key) (q : Holds) (v : Val) (w : List Item) (vals : List Val) (todo : List DeclNo) (ks : List Kinds) → CellTarget s m i j key q → ValFine s (see g o) m i q v → Bg todo → Hd ks vals → Wk w todo ks → Go (having (cell_set m j key v) o (λ m. go o m i w vals rest))
+  set_goes j u key q v w vals todo ks c fine b h work =
       let p = c.whole in
+      let here = plain_anywhere s (see g o) m i j q v c.plain fine in
       let x = p.now in
       let f = fine_at s (see g o) m j c.around [] b.store p in
       let r = cell_put s (see g o) m j c.around x key v p.lives f c.there in
-      had (IsFine s) (cell_set m j key v) (set_in s (see g o) m j c.around x p.lives p.of_text f key (Simply k) v c.holds (simple_here v fine) r.0 r.1) o (λ m. go o m i w vals rest) r.2
-      (later_goes g o long (set_in s (see g o) m j c.around x p.lives p.of_text f key (Simply k) v c.holds (simple_here v fine) r.0 r.1) (later_cell s (see g o) m j c.around x p.lives p.of_text f key (Simply k) v c.holds (simple_here v fine) r.0 r.1 (length m.instances)) same_copies (same_cell s (see g o) m j c.around x p.lives p.of_text f key (Simply k) v c.holds (simple_here v fine) r.0 r.1) (store_cell s (see g o) m j c.around x p.lives p.of_text f key (Simply k) v c.holds (simple_here v fine) r.0 r.1 b.store) w vals todo ks b h work)
-    where
-      simple_here : (v : Val) → ValFine s (see g o) m i (Simply k) v → ValFine s (see g o) m j (Simply k) v
-      simple_here (Of p) a = a
-      simple_here (Link n) a = absurd a
-      simple_here (Address n) a = absurd a
-      simple_here (ArrayValue n) a = absurd a
-      simple_here (ProcedureValue n e) a = absurd a
-      simple_here (Tree n) a = absurd a
+      had (IsFine s) (cell_set m j key v) (set_in s (see g o) m j c.around x p.lives p.of_text f key q v c.holds here r.0 r.1) o (λ m. go o m i w vals rest) r.2
+      (later_goes g o long (set_in s (see g o) m j c.around x p.lives p.of_text f key q v c.holds here r.0 r.1) (later_cell s (see g o) m j c.around x p.lives p.of_text f key q v c.holds here r.0 r.1 (length m.instances)) same_copies (same_cell s (see g o) m j c.around x p.lives p.of_text f key q v c.holds here r.0 r.1) (store_cell s (see g o) m j c.around x p.lives p.of_text f key q v c.holds here r.0 r.1 b.store) w vals todo ks b h work)
 
   made_now : (todo todo' : List DeclNo) (d : DeclNo) (v : Val) (hs cells : List Held) → Rattle.sim_meaning.specs.Pending.held_set (Declared d.0) v hs ≡ Some cells → todo ≡ d ∷ todo' → Made s t todo hs → Made s t todo' cells
   made_now todo todo' d v hs cells set is made e k holds in_text none =
@@ -126,59 +119,62 @@ module _ (s : Source) (ok : Typed s) (l : Limits) (o : World) (g : List Sight) (
       had (IsFine s) (element_set o a n p) (with_arrays o new.real) o (λ o. go o m i w vals rest) set
       (later_goes g (with_arrays o new.real) (long ∙ sym (set_len o.arrays a (Rattle.sim_sound.proofs.Changes.new (see g o) i k a n p f is))) m (later_element (see g o) i k a n p f is s m (length m.instances)) (λ j d less. copies_element (see g o) i k a n p f is j d) (same_ones m) (store_later s (see g o) m new (later_element (see g o) i k a n p f is s m (length m.instances)) b.store) w vals todo ks b h work)
 
-  pub putting_goes : (k : Kind) (p v : Val) (w : List Item) (vals : List Val) (todo : List DeclNo) (ks : List Kinds) → HandFine s (see g o) m i (AddressOf k) p → ValFine s (see g o) m i (Simply k) v → Bg todo → Hd ks vals → Wk w todo ks → Go (having (place_in p) o (λ p. putting p v o m (λ o m. go o m i w vals rest)))
+  pub putting_goes : (q : Holds) (p v : Val) (w : List Item) (vals : List Val) (todo : List DeclNo) (ks : List Kinds) → HandFine s (see g o) m i (AddressOf q) p → ValFine s (see g o) m i q v → Bg todo → Hd ks vals → Wk w todo ks → Go (having (place_in p) o (λ p. putting p v o m (λ o m. go o m i w vals rest)))
   unfolding putting
-  putting_goes k (Address (ElementPlace a n None)) (Of p) w vals todo ks f is b h work =
+  putting_goes (Simply k) (Address (ElementPlace a n None)) (Of p) w vals todo ks f is b h work =
       had (IsFine s) (Some (ElementPlace a n None)) (ElementPlace a n None) o (λ z. putting z (Of p) o m (λ o m. go o m i w vals rest)) refl
       (had (IsFine s) (Some p) p o (λ p. having (element_set o a n p) o (λ o. go o m i w vals rest)) refl (put_element a n k p w vals todo ks f is b h work))
-  putting_goes k (Address (ElementPlace a n None)) (Link z) w vals todo ks f is b h work = absurd is
-  putting_goes k (Address (ElementPlace a n None)) (Address z) w vals todo ks f is b h work = absurd is
-  putting_goes k (Address (ElementPlace a n None)) (ArrayValue z) w vals todo ks f is b h work = absurd is
-  putting_goes k (Address (ElementPlace a n None)) (ProcedureValue z y) w vals todo ks f is b h work = absurd is
-  putting_goes k (Address (ElementPlace a n None)) (Tree z) w vals todo ks f is b h work = absurd is
-  putting_goes k (Address (ElementPlace a n (Some c))) v w vals todo ks f is b h work = absurd f
-  putting_goes k (Address (CellPlace e key None)) v w vals todo ks c is b h work =
-      had (IsFine s) (Some (CellPlace e key None)) (CellPlace e key None) o (λ z. putting z v o m (λ o m. go o m i w vals rest)) refl (set_goes e e key k v w vals todo ks c is b h work)
-  putting_goes k (Address (CellPlace a n (Some c))) v w vals todo ks f is b h work = absurd f
-  putting_goes k (Address (ImagePlace a)) v w vals todo ks f is b h work = absurd f
-  putting_goes k (Of z) v w vals todo ks f is b h work = absurd f
-  putting_goes k (Link z) v w vals todo ks f is b h work = absurd f
-  putting_goes k (ArrayValue z) v w vals todo ks f is b h work = absurd f
-  putting_goes k (ProcedureValue z y) v w vals todo ks f is b h work = absurd f
-  putting_goes k (Tree z) v w vals todo ks f is b h work = absurd f
+  putting_goes (Simply k) (Address (ElementPlace a n None)) (Link z) w vals todo ks f is b h work = absurd is
+  putting_goes (Simply k) (Address (ElementPlace a n None)) (Address z) w vals todo ks f is b h work = absurd is
+  putting_goes (Simply k) (Address (ElementPlace a n None)) (ArrayValue z) w vals todo ks f is b h work = absurd is
+  putting_goes (Simply k) (Address (ElementPlace a n None)) (ProcedureValue z y) w vals todo ks f is b h work = absurd is
+  putting_goes (Simply k) (Address (ElementPlace a n None)) (Tree z) w vals todo ks f is b h work = absurd is
+  putting_goes (Refers c) (Address (ElementPlace a n None)) v w vals todo ks f is b h work = absurd f
+  putting_goes (ArrayOf k) (Address (ElementPlace a n None)) v w vals todo ks f is b h work = absurd f
+  putting_goes q (Address (ElementPlace a n (Some c))) v w vals todo ks f is b h work = absurd f
+  putting_goes q (Address (CellPlace e key None)) v w vals todo ks c is b h work =
+      had (IsFine s) (Some (CellPlace e key None)) (CellPlace e key None) o (λ z. putting z v o m (λ o m. go o m i w vals rest)) refl (set_goes e e key q v w vals todo ks c is b h work)
+  putting_goes q (Address (CellPlace a n (Some c))) v w vals todo ks f is b h work = absurd f
+  putting_goes q (Address (ImagePlace a)) v w vals todo ks f is b h work = absurd f
+  putting_goes q (Of z) v w vals todo ks f is b h work = absurd f
+  putting_goes q (Link z) v w vals todo ks f is b h work = absurd f
+  putting_goes q (ArrayValue z) v w vals todo ks f is b h work = absurd f
+  putting_goes q (ProcedureValue z y) v w vals todo ks f is b h work = absurd f
+  putting_goes q (Tree z) v w vals todo ks f is b h work = absurd f
 
-  pub fetched_goes : (k : Kind) (x : Kinds) (v : Val) (w : List Item) (vals : List Val) (todo : List DeclNo) (ks : List Kinds) → Leads x k → HandFine s (see g o) m i x v → Bg todo → Hd ks vals → Wk w todo (Value (Simply k) ∷ ks) → Go (having (place_in v) o (λ p. having (value_at o m p) o (λ v. go o m i w (v ∷ vals) rest)))
-  fetched_goes k (AddressOf k') (Address (ElementPlace a n None)) w vals todo ks is f b h work =
-      let q = element_there g o i a n k' f in
+  pub fetched_goes : (q : Holds) (x : Kinds) (v : Val) (w : List Item) (vals : List Val) (todo : List DeclNo) (ks : List Kinds) → Leads x q → HandFine s (see g o) m i x v → Bg todo → Hd ks vals → Wk w todo (Value q ∷ ks) → Go (having (place_in v) o (λ p. having (value_at o m p) o (λ v. go o m i w (v ∷ vals) rest)))
+  fetched_goes q (AddressOf (Simply k)) (Address (ElementPlace a n None)) w vals todo ks is f b h work =
+      let x = element_there g o i a n k f in
       had (IsFine s) (Some (ElementPlace a n None)) (ElementPlace a n None) o (λ p. having (value_at o m p) o (λ v. go o m i w (v ∷ vals) rest)) refl
-      (had (IsFine s) (of_plain (element o a n)) (Of q.0) o (λ v. go o m i w (v ∷ vals) rest) (ap of_plain q.1) (goes_on s o g long m i t rest top w (Of q.0 ∷ vals) todo (Value (Simply k) ∷ ks) b (q.2 ∙ is, h) work))
-  fetched_goes k (AddressOf k') (Address (CellPlace e key None)) w vals todo ks is c b h work =
-      let q = target_cell s (see g o) m i e key k' b.store c in
-      let p = plain_of s g o m e k' q.0 q.2 in
+      (had (IsFine s) (of_plain (element o a n)) (Of x.0) o (λ v. go o m i w (v ∷ vals) rest) (ap of_plain x.1) (goes_on s o g long m i t rest top w (Of x.0 ∷ vals) todo (Value q ∷ ks) b (subst (λ z. ValFine s (see g o) m i z (Of x.0)) is x.2, h) work))
+  fetched_goes q (AddressOf (Refers c)) (Address (ElementPlace a n None)) w vals todo ks is f b h work = absurd f
+  fetched_goes q (AddressOf (ArrayOf k)) (Address (ElementPlace a n None)) w vals todo ks is f b h work = absurd f
+  fetched_goes q (AddressOf q') (Address (CellPlace e key None)) w vals todo ks is c b h work =
+      let x = target_cell s (see g o) m i e key q' b.store c in
       had (IsFine s) (Some (CellPlace e key None)) (CellPlace e key None) o (λ p. having (value_at o m p) o (λ v. go o m i w (v ∷ vals) rest)) refl
-      (had (IsFine s) (cell m e key) (Of p.0) o (λ v. go o m i w (v ∷ vals) rest) (q.1 ∙ ap Some p.1) (goes_on s o g long m i t rest top w (Of p.0 ∷ vals) todo (Value (Simply k) ∷ ks) b (p.2 ∙ is, h) work))
-  fetched_goes k ImageAddress (Address (ImagePlace n)) w vals todo ks is f b h work =
+      (had (IsFine s) (cell m e key) x.0 o (λ v. go o m i w (v ∷ vals) rest) x.1 (goes_on s o g long m i t rest top w (x.0 ∷ vals) todo (Value q ∷ ks) b (subst (λ z. ValFine s (see g o) m i z x.0) is (plain_anywhere s (see g o) m e i q' x.0 c.plain x.2), h) work))
+  fetched_goes q ImageAddress (Address (ImagePlace n)) w vals todo ks is f b h work =
       let x = image_there o.store n f in
       had (IsFine s) (Some (ImagePlace n)) (ImagePlace n) o (λ p. having (value_at o m p) o (λ v. go o m i w (v ∷ vals) rest)) refl
-      (had (IsFine s) (of_plain (image_value o n)) (Of (Text x.0)) o (λ v. go o m i w (v ∷ vals) rest) (ap (λ z. of_plain (text_of z)) x.1) (goes_on s o g long m i t rest top w (Of (Text x.0) ∷ vals) todo (Value (Simply k) ∷ ks) b (sym is, h) work))
-  fetched_goes k (AddressOf k') (Address (ElementPlace a n (Some c))) w vals todo ks is f b h work = absurd f
-  fetched_goes k (AddressOf k') (Address (CellPlace a n (Some c))) w vals todo ks is f b h work = absurd f
-  fetched_goes k (AddressOf k') (Address (ImagePlace a)) w vals todo ks is f b h work = absurd f
-  fetched_goes k (AddressOf k') (Of z) w vals todo ks is f b h work = absurd f
-  fetched_goes k (AddressOf k') (Link z) w vals todo ks is f b h work = absurd f
-  fetched_goes k (AddressOf k') (ArrayValue z) w vals todo ks is f b h work = absurd f
-  fetched_goes k (AddressOf k') (ProcedureValue z y) w vals todo ks is f b h work = absurd f
-  fetched_goes k (AddressOf k') (Tree z) w vals todo ks is f b h work = absurd f
-  fetched_goes k ImageAddress (Address (ElementPlace a n c)) w vals todo ks is f b h work = absurd f
-  fetched_goes k ImageAddress (Address (CellPlace a n c)) w vals todo ks is f b h work = absurd f
-  fetched_goes k ImageAddress (Of z) w vals todo ks is f b h work = absurd f
-  fetched_goes k ImageAddress (Link z) w vals todo ks is f b h work = absurd f
-  fetched_goes k ImageAddress (ArrayValue z) w vals todo ks is f b h work = absurd f
-  fetched_goes k ImageAddress (ProcedureValue z y) w vals todo ks is f b h work = absurd f
-  fetched_goes k ImageAddress (Tree z) w vals todo ks is f b h work = absurd f
-  fetched_goes k (Value z) v w vals todo ks is f b h work = absurd is
-  fetched_goes k (Copied z) v w vals todo ks is f b h work = absurd is
-  fetched_goes k (LinkTo z) v w vals todo ks is f b h work = absurd is
+      (had (IsFine s) (of_plain (image_value o n)) (Of (Text x.0)) o (λ v. go o m i w (v ∷ vals) rest) (ap (λ z. of_plain (text_of z)) x.1) (goes_on s o g long m i t rest top w (Of (Text x.0) ∷ vals) todo (Value q ∷ ks) b (subst (λ z. ValFine s (see g o) m i z (Of (Text x.0))) (sym is) refl, h) work))
+  fetched_goes q (AddressOf q') (Address (ElementPlace a n (Some c))) w vals todo ks is f b h work = absurd f
+  fetched_goes q (AddressOf q') (Address (CellPlace a n (Some c))) w vals todo ks is f b h work = absurd f
+  fetched_goes q (AddressOf q') (Address (ImagePlace a)) w vals todo ks is f b h work = absurd f
+  fetched_goes q (AddressOf q') (Of z) w vals todo ks is f b h work = absurd f
+  fetched_goes q (AddressOf q') (Link z) w vals todo ks is f b h work = absurd f
+  fetched_goes q (AddressOf q') (ArrayValue z) w vals todo ks is f b h work = absurd f
+  fetched_goes q (AddressOf q') (ProcedureValue z y) w vals todo ks is f b h work = absurd f
+  fetched_goes q (AddressOf q') (Tree z) w vals todo ks is f b h work = absurd f
+  fetched_goes q ImageAddress (Address (ElementPlace a n c)) w vals todo ks is f b h work = absurd f
+  fetched_goes q ImageAddress (Address (CellPlace a n c)) w vals todo ks is f b h work = absurd f
+  fetched_goes q ImageAddress (Of z) w vals todo ks is f b h work = absurd f
+  fetched_goes q ImageAddress (Link z) w vals todo ks is f b h work = absurd f
+  fetched_goes q ImageAddress (ArrayValue z) w vals todo ks is f b h work = absurd f
+  fetched_goes q ImageAddress (ProcedureValue z y) w vals todo ks is f b h work = absurd f
+  fetched_goes q ImageAddress (Tree z) w vals todo ks is f b h work = absurd f
+  fetched_goes q (Value z) v w vals todo ks is f b h work = absurd is
+  fetched_goes q (Copied z) v w vals todo ks is f b h work = absurd is
+  fetched_goes q (LinkTo z) v w vals todo ks is f b h work = absurd is
 
 -- ---- a text that is put back to where it came from
 
@@ -190,6 +186,9 @@ module _ (s : Source) (ok : Typed s) (l : Limits) (o : World) (g : List Sight) (
   stays_on : Goes (IsFine s) (go Then m i w vals rest)
   stays_on = goes_on s o g long m i t rest top w vals todo ks b h work
 
+  text_there : (q : Holds) (x : TextVal) → q ≡ Simply kind.Text → ValFine s (see g Then) m i q (Of (Text x))
+  text_there q x is = subst (λ z. ValFine s (see g Then) m i z (Of (Text x))) (sym is) refl
+
   put_text : (v : Val) (x : TextVal) (from : Kinds) → OperandIs kind.Text from → HandFine s (see g o) m i from v → ((n : ℕ) → v ≡ Address (ImagePlace n) → (y : TextVal) × (image_at store n ≡ Some y) × (same_text y x ≡ true)) → Goes (IsFine s) (put_back v x Then m (λ p m. go p m i w vals rest))
   unfolding put_back putting having
   put_text (Of p) x from is a image = stays_on
@@ -197,8 +196,8 @@ module _ (s : Source) (ok : Typed s) (l : Limits) (o : World) (g : List Sight) (
   put_text (ArrayValue z) x from is a image = stays_on
   put_text (ProcedureValue z y) x from is a image = stays_on
   put_text (Tree z) x from is a image = stays_on
-  put_text (Address (ElementPlace n e None)) x (AddressOf k) is a image = putting_goes s ok l Then g long m i t rest top k (Address (ElementPlace n e None)) (Of (Text x)) w vals todo ks a (sym is.1) b h work
-  put_text (Address (CellPlace n e None)) x (AddressOf k) is a image = putting_goes s ok l Then g long m i t rest top k (Address (CellPlace n e None)) (Of (Text x)) w vals todo ks a (sym is.1) b h work
+  put_text (Address (ElementPlace n e None)) x (AddressOf q) is a image = putting_goes s ok l Then g long m i t rest top q (Address (ElementPlace n e None)) (Of (Text x)) w vals todo ks a (text_there q x is.1) b h work
+  put_text (Address (CellPlace n e None)) x (AddressOf q) is a image = putting_goes s ok l Then g long m i t rest top q (Address (CellPlace n e None)) (Of (Text x)) w vals todo ks a (text_there q x is.1) b h work
   put_text (Address (ImagePlace n)) x ImageAddress is a image =
       let y = image n refl in
       had (IsFine s) (image_set Then n (Text x)) (record Then { store = with_image store n x }) Then (λ p. go p m i w vals rest) (ap (λ z. image_moved Then n z (Some x)) y.1 ∙ if_true (same_text y.0 x) (Some (record Then { store = with_image store n x })) None y.2) stays_on

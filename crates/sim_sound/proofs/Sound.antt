@@ -79,6 +79,12 @@ ValFine s o m j (Refers c) (Of p) = ReferenceFine s m c p
 ValFine s o m j (ArrayOf k) (ArrayValue a) = ArrayFine o j k a
 ValFine s o m j _ _ = ⊥
 
+-- what a variable may hold
+abbrev pub IsPlain : Holds → Type 0
+IsPlain (Simply k) = Unit {0}
+IsPlain (Refers c) = Unit {0}
+IsPlain (ArrayOf k) = ⊥
+
 -- ---- cells
 
 -- A cell has what it holds; one of an array may have nothing yet.
@@ -149,7 +155,7 @@ pub record Begun (s : Source) (o : AllArrays) (m : Instances) (j t : ℕ) (todo 
 -- a value; where a variable or an element lies; where an image lies; an instance of a text; a copy for a parameter by value
 pub data Kinds : Type 0 where
   Value : Holds → Kinds
-  AddressOf : Kind → Kinds
+  AddressOf : Holds → Kinds
   ImageAddress : Kinds
   LinkTo : (text : ℕ) → Kinds
   Copied : Kind → Kinds
@@ -158,12 +164,18 @@ pub record ElementFine (o : AllArrays) (j : ℕ) (k : Kind) (a n : ℕ) : Type 0
   pub array : ArrayFine o j k a
   pub there : n < length (array.it).elements
 
+-- an element of an array that holds this
+abbrev pub ElementHolds : AllArrays → ℕ → Holds → (array element : ℕ) → Type 0
+ElementHolds o j (Simply k) a n = ElementFine o j k a n
+ElementHolds o j _ a n = ⊥
+
 -- a cell that a value is assigned to
-pub record CellTarget (s : Source) (m : Instances) (j e : ℕ) (key : Key) (k : Kind) : Type 0 where
+pub record CellTarget (s : Source) (m : Instances) (j e : ℕ) (key : Key) (h : Holds) : Type 0 where
   pub around : ℕ
   pub before : e ≤ j
   pub whole : Whole s m e around
-  pub holds : key_holds s around key ≡ Some (Simply k)
+  pub holds : key_holds s around key ≡ Some h
+  pub plain : IsPlain h
   pub there : KeyAmong key (keys_in s around (text s around))
 
 abbrev pub IsImage : ℕ → Type 0
@@ -173,8 +185,8 @@ IsImage (suc (suc n)) = ⊥
 
 abbrev pub HandFine : Source → AllArrays → Instances → ℕ → Kinds → Val → Type 0
 HandFine s o m j (Value h) v = ValFine s o m j h v
-HandFine s o m j (AddressOf k) (Address (ElementPlace a n None)) = ElementFine o j k a n
-HandFine s o m j (AddressOf k) (Address (CellPlace e key None)) = CellTarget s m j e key k
+HandFine s o m j (AddressOf h) (Address (ElementPlace a n None)) = ElementHolds o j h a n
+HandFine s o m j (AddressOf h) (Address (CellPlace e key None)) = CellTarget s m j e key h
 HandFine s o m j ImageAddress (Address (ImagePlace n)) = IsImage n
 HandFine s o m j (LinkTo u) (Link e) = (e ≤ j) × Whole s m e u
 HandFine s o m j _ _ = ⊥
@@ -244,16 +256,16 @@ pub record CallFine (s : Source) (m : Instances) (j e k : ℕ) (g : Option Kinds
   pub gives : held_kinds (result_holds (text s k)) ≡ g
   pub actuals : Actuals (formal_kinds (formals_of s k))
 
--- where something is read: a value of a kind, or the text that an image is
-abbrev pub Leads : Kinds → Kind → Type 0
-Leads (AddressOf k') k = k' ≡ k
-Leads ImageAddress k = k ≡ kind.Text
-Leads _ k = ⊥
+-- where something is read: what a variable or an element holds, or the text that an image is
+abbrev pub Leads : Kinds → Holds → Type 0
+Leads (AddressOf h') h = h' ≡ h
+Leads ImageAddress h = h ≡ Simply kind.Text
+Leads _ h = ⊥
 
 -- an operand of a kind: a value in hand, or where a text lies
 abbrev pub OperandIs : Kind → Kinds → Type 0
 OperandIs k (Value h) = h ≡ Simply k
-OperandIs k (AddressOf k') = (k ≡ kind.Text) × (k' ≡ kind.Text)
+OperandIs k (AddressOf h) = (k ≡ kind.Text) × (h ≡ Simply kind.Text)
 OperandIs k ImageAddress = k ≡ kind.Text
 OperandIs k (LinkTo t) = ⊥
 OperandIs k (Copied k') = ⊥
@@ -272,9 +284,9 @@ abbrev mutual
   TermFine s m j t todo (One op line a) g = (k : Kind) × OneKinds op k × (simple k ≡ g) × TermFine s m j t todo a (simple k)
   TermFine s m j t todo (Two op line a b) g = (k : Kind) × (v : Kind) × TwoKinds op k v × (simple v ≡ g) × TermFine s m j t todo a (simple k) × TermFine s m j t todo b (simple k)
   TermFine s m j t todo (Either c a b) g = (h : Kinds) × (Some h ≡ g) × TermFine s m j t todo c (simple kind.Boolean) × TermFine s m j t todo a g × TermFine s m j t todo b g
-  TermFine s m j t todo (ElementOf line a ts) g = (k : Kind) × (Some (AddressOf k) ≡ g) × TermFine s m j t todo a (Some (Value (ArrayOf k))) × IntegersFine s m j t todo ts
-  TermFine s m j t todo (ValueAt a) g = (k : Kind) × (x : Kinds) × Leads x k × (simple k ≡ g) × TermFine s m j t todo a (Some x)
-  TermFine s m j t todo (PlaceOf e key) g = (k : Kind) × (Some (AddressOf k) ≡ g) × CellTarget s m j e key k
+  TermFine s m j t todo (ElementOf line a ts) g = (k : Kind) × (Some (AddressOf (Simply k)) ≡ g) × TermFine s m j t todo a (Some (Value (ArrayOf k))) × IntegersFine s m j t todo ts
+  TermFine s m j t todo (ValueAt a) g = (h : Holds) × (x : Kinds) × Leads x h × (Some (Value h) ≡ g) × TermFine s m j t todo a (Some x)
+  TermFine s m j t todo (PlaceOf e key) g = (h : Holds) × (Some (AddressOf h) ≡ g) × CellTarget s m j e key h
   TermFine s m j t todo (ImageOf n) g = (Some ImageAddress ≡ g) × IsImage n
   TermFine s m j t todo (Joined line a b) g = (simple kind.Text ≡ g) × TermFine s m j t todo a (simple kind.Text) × TermFine s m j t todo b (simple kind.Text)
   TermFine s m j t todo (CopyOf line a) g = (k : Kind) × (Some (Copied k) ≡ g) × TermFine s m j t todo a (Some (Value (ArrayOf k)))
@@ -311,22 +323,22 @@ integers zero ks = ks
 integers (suc n) ks = Value (Simply kind.Integer) ∷ integers n ks
 
 -- what a value is assigned to
-abbrev pub TargetFine : Source → Instances → ℕ → Target → Kind → (before behind : List Kinds) → Type 0
-TargetFine s m j (ToCell e key) k before behind = CellTarget s m j e key k × (before ≡ behind)
-TargetFine s m j ToAddress k before behind = before ≡ AddressOf k ∷ behind
-TargetFine s m j (ToText line) k before behind = (k ≡ kind.Text) × (before ≡ Value (Simply kind.Text) ∷ behind)
-TargetFine s m j (ToTextOf e key line) k before behind = (k ≡ kind.Text) × (before ≡ Value (Simply kind.Text) ∷ behind)
+abbrev pub TargetFine : Source → Instances → ℕ → Target → Holds → (before behind : List Kinds) → Type 0
+TargetFine s m j (ToCell e key) h before behind = CellTarget s m j e key h × (before ≡ behind)
+TargetFine s m j ToAddress h before behind = before ≡ AddressOf h ∷ behind
+TargetFine s m j (ToText line) h before behind = (h ≡ Simply kind.Text) × (before ≡ Value (Simply kind.Text) ∷ behind)
+TargetFine s m j (ToTextOf e key line) h before behind = (h ≡ Simply kind.Text) × (before ≡ Value (Simply kind.Text) ∷ behind)
 
-abbrev pub TargetsFine : Source → Instances → ℕ → List Target → Kind → (before behind : List Kinds) → Type 0
-TargetsFine s m j [] k before behind = behind ≡ before
-TargetsFine s m j (x ∷ xs) k before behind = (next : List Kinds) × TargetFine s m j x k before next × TargetsFine s m j xs k next behind
+abbrev pub TargetsFine : Source → Instances → ℕ → List Target → Holds → (before behind : List Kinds) → Type 0
+TargetsFine s m j [] h before behind = behind ≡ before
+TargetsFine s m j (x ∷ xs) h before behind = (next : List Kinds) × TargetFine s m j x h before next × TargetsFine s m j xs h next behind
 
 -- a target that is a cell, the variable of a `for` list
 abbrev pub VariableFine : Source → Instances → ℕ → Target → Kind → Type 0
-VariableFine s m j (ToCell e key) k = CellTarget s m j e key k
+VariableFine s m j (ToCell e key) k = CellTarget s m j e key (Simply k)
 VariableFine s m j ToAddress k = ⊥
 VariableFine s m j (ToText line) k = ⊥
-VariableFine s m j (ToTextOf e key line) k = CellTarget s m j e key k × (k ≡ kind.Text)
+VariableFine s m j (ToTextOf e key line) k = CellTarget s m j e key (Simply k) × (k ≡ kind.Text)
 
 pub record CallOpFine (s : Source) (k n : ℕ) (before behind : List Kinds) : Type 0 where
   pub around : ℕ
@@ -351,7 +363,7 @@ pub record ArrayStored (s : Source) (j t : ℕ) (todo todo' : List DeclNo) (x : 
   pub «in» : before ≡ Value (ArrayOf kind) ∷ behind
 
 pub data StoreOpFine (s : Source) (o : AllArrays) (m : Instances) (j t : ℕ) (todo todo' : List DeclNo) (x : Target) (before behind : List Kinds) : Type 0 where
-  value_stored : (k : Kind) (next : List Kinds) → before ≡ Value (Simply k) ∷ next → TargetFine s m j x k next behind → todo' ≡ todo → StoreOpFine s o m j t todo todo' x before behind
+  value_stored : (h : Holds) (next : List Kinds) → before ≡ Value h ∷ next → TargetFine s m j x h next behind → todo' ≡ todo → StoreOpFine s o m j t todo todo' x before behind
   array_stored : ArrayStored s j t todo todo' x before behind → StoreOpFine s o m j t todo todo' x before behind
 
 -- a statement, or part of one: all arrays are made
@@ -370,8 +382,8 @@ OpFine s o m j t (Eval x) todo todo' before behind = (g : Option Kinds) × TermF
 OpFine s o m j t (OneOp op line) todo todo' before behind = (k : Kind) × (left : List Kinds) × OneKinds op k × (before ≡ Value (Simply k) ∷ left) × (behind ≡ before) × (todo' ≡ todo)
 OpFine s o m j t (TwoOp op line) todo todo' before behind = (k : Kind) × (v : Kind) × (left : List Kinds) × TwoKinds op k v × (before ≡ Value (Simply k) ∷ Value (Simply k) ∷ left) × (behind ≡ Value (Simply v) ∷ left) × (todo' ≡ todo)
 OpFine s o m j t (IfOp a b) todo todo' before behind = (h : Kinds) × (left : List Kinds) × TermFine s m j t todo a (Some h) × TermFine s m j t todo b (Some h) × (before ≡ Value (Simply kind.Boolean) ∷ left) × (behind ≡ h ∷ left) × (todo' ≡ todo)
-OpFine s o m j t (ElementOp n line) todo todo' before behind = (k : Kind) × (left : List Kinds) × (before ≡ integers n (Value (ArrayOf k) ∷ left)) × (behind ≡ AddressOf k ∷ left) × (todo' ≡ todo)
-OpFine s o m j t FetchOp todo todo' before behind = (k : Kind) × (x : Kinds) × (left : List Kinds) × Leads x k × (before ≡ x ∷ left) × (behind ≡ Value (Simply k) ∷ left) × (todo' ≡ todo)
+OpFine s o m j t (ElementOp n line) todo todo' before behind = (k : Kind) × (left : List Kinds) × (before ≡ integers n (Value (ArrayOf k) ∷ left)) × (behind ≡ AddressOf (Simply k) ∷ left) × (todo' ≡ todo)
+OpFine s o m j t FetchOp todo todo' before behind = (h : Holds) × (x : Kinds) × (left : List Kinds) × Leads x h × (before ≡ x ∷ left) × (behind ≡ Value h ∷ left) × (todo' ≡ todo)
 OpFine s o m j t (JoinOp line) todo todo' before behind = (left : List Kinds) × (before ≡ Value (Simply kind.Text) ∷ Value (Simply kind.Text) ∷ left) × (behind ≡ Value (Simply kind.Text) ∷ left) × (todo' ≡ todo)
 OpFine s o m j t (CopyOp line) todo todo' before behind = (k : Kind) × (left : List Kinds) × (c : Kinds) × IsCopy k c × (before ≡ Value (ArrayOf k) ∷ left) × (behind ≡ c ∷ left) × (todo' ≡ todo)
 OpFine s o m j t (CallOp k n line) todo todo' before behind = CallOpFine s k n before behind × (todo' ≡ todo)
@@ -380,8 +392,8 @@ OpFine s o m j t (StandardOp name line) todo todo' before behind =
 OpFine s o m j t DropOp todo todo' before behind = (k : Kinds) × (before ≡ k ∷ behind) × (todo' ≡ todo)
 OpFine s o m j t AgainOp todo todo' before behind = (k : Kind) × (left : List Kinds) × (before ≡ Value (Simply k) ∷ left) × (behind ≡ Value (Simply k) ∷ before) × (todo' ≡ todo)
 OpFine s o m j t (StoreOp x) todo todo' before behind = StoreOpFine s o m j t todo todo' x before behind
-OpFine s o m j t (ShareOp ts) todo todo' before behind = (k : Kind) × (next : List Kinds) × (before ≡ Value (Simply k) ∷ next) × TargetsFine s m j ts k next behind × (todo' ≡ todo)
-OpFine s o m j t (GiveOp v ts) todo todo' before behind = (k : Kind) × ValFine s o m j (Simply k) v × TargetsFine s m j ts k before behind × (todo' ≡ todo)
+OpFine s o m j t (ShareOp ts) todo todo' before behind = (h : Holds) × (next : List Kinds) × (before ≡ Value h ∷ next) × TargetsFine s m j ts h next behind × (todo' ≡ todo)
+OpFine s o m j t (GiveOp v ts) todo todo' before behind = (h : Holds) × ValFine s o m j h v × TargetsFine s m j ts h before behind × (todo' ≡ todo)
 OpFine s o m j t (ArrayOp k n line) todo todo' before behind = (left : List Kinds) × (before ≡ integers (2 * n) left) × (behind ≡ Value (ArrayOf k) ∷ left) × (todo' ≡ todo)
 OpFine s o m j t (Exec a) todo todo' before behind = Ready todo todo' before behind (StatementIs s t a)
 OpFine s o m j t (Execs ss) todo todo' before behind = Ready todo todo' before behind (StatementsAre s t ss)

@@ -172,10 +172,10 @@ module _ (s : Source) (ok : Typed s) (l : Limits) (o : World) (sights : List Sig
       ([], Value (Simply kind.Text) ∷ ks, (simple kind.Text, (Simply kind.Text, refl, in_whole y.before y.whole (y.holds ∙ ap (λ z. Some (Simply z)) c.1) y.there), refl, refl), x)
 
   stores : (x : Target) (k : Kind) (w : List Item) (ks : List Kinds) → VariableFine s m i x k → Wk w ks → Wk (Do (StoreOp x) ∷ w) (Value (Simply k) ∷ found x ks)
-  stores (ToCell j key) k w ks c x = ([], ks, value_stored k ks refl (c, refl) refl, x)
+  stores (ToCell j key) k w ks c x = ([], ks, value_stored (Simply k) ks refl (c, refl) refl, x)
   stores ToAddress k w ks c x = absurd c
   stores (ToText line) k w ks c x = absurd c
-  stores (ToTextOf j key line) k w ks c x = ([], ks, value_stored k (Value (Simply kind.Text) ∷ ks) refl (c.1, refl) refl, x)
+  stores (ToTextOf j key line) k w ks c x = ([], ks, value_stored (Simply k) (Value (Simply kind.Text) ∷ ks) refl (ap Simply c.1, refl) refl, x)
 
   -- an integer is no text
   stores_integer : (x : Target) (w : List Item) (ks : List Kinds) → VariableFine s m i x kind.Integer → Wk w ks → Wk (Do (StoreOp x) ∷ w) (Value (Simply kind.Integer) ∷ ks)
