@@ -30,14 +30,14 @@ use Rattle.sim_tree.specs.declared.stmt.When.{When}
 use Rattle.sim_tree.specs.Syntax.{Also, Begin, Compound, Declaration, DeclareClass, Heading, Interface, NoDeclaration, NoStatement, Statement, Statements, With, declarations, statements}
 use Rattle.sim_tree.specs.Syntax.{Block as BlockSyntax}
 use Rattle.sim_tree.specs.Syntax as syntax
-use Rattle.sim_tree.specs.SyntaxOfProgram.{arms, branch_syntax, class_syntax, heading_syntax, interface_syntax, prefix_syntax, program_syntax, statement_syntax, declaration_syntax, block_syntax, arm_syntax}
+use Rattle.sim_tree.specs.SyntaxOfProgram.{arms, branch_syntax, class_syntax, interface_syntax, prefix_syntax, program_syntax, statement_syntax, declaration_syntax, block_syntax, arm_syntax}
 use Rattle.sim_tree.proofs.ProgramSyntaxLemmas.{syntax-Empty, syntax-Block, syntax-PrefixedBlock, syntax-Inner, syntax-Call, syntax-Assignment, syntax-If, syntax-While, syntax-For, syntax-ForReference, syntax-Inspect, syntax-InspectWhen, syntax-Activation, syntax-Variables, syntax-Arrays, syntax-Procedure, syntax-Class, syntax-block, syntax-procedure, syntax-class, syntax-when}
 use Rattle.sim_scope.specs.declared.types.StandardClass.{StandardClass}
 use Rattle.sim_scope.specs.declared.types.StandardPrefix.{StandardPrefix}
 use Rattle.sim_scope.specs.Bodies.{classes_declared}
 use Rattle.sim_scope.specs.Runs.{each}
 use Rattle.sim_scope.specs.Standard.{standard_prefix}
-use Rattle.sim_meaning.specs.Texts.{BlockText, ClassText, ConnectionText, ProcedureText, StandardText, Text, arms_texts, block_texts, declaration_texts, declarations_texts, prefix_texts, prefixed_texts, program_texts, standard_texts, statement_texts, statements_texts}
+use Rattle.sim_meaning.specs.Texts.{BlockText, ClassText, ConnectionText, StandardText, Text, arms_texts, block_texts, declaration_texts, declarations_texts, prefix_texts, prefixed_texts, program_texts, standard_texts, statement_texts, statements_texts}
 use Rattle.program_texts.specs.declared.tree.TextTree.{TextTree}
 use Rattle.program_texts.specs.declared.tree.TextTree.TheVariants as tree
 use Rattle.program_texts.specs.TextTrees.{AreTexts, Lists, block_text, class_text, heading_of, inside_texts, of_arm, of_block, of_branch, of_class, of_class_head, of_class_statement, of_declaration, of_inside, of_prefixed, of_standard, of_statement, prefixed_text, text_in}

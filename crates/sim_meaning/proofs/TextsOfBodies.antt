@@ -1,13 +1,13 @@
 -- The texts of a program are those of its bodies.
 use Rattle.std.proofs.Common.{◌≡◌, ◌+◌, ℕ, List, [], ◌∷◌, ◌++◌, length, map, Option, Some, None, refl, ap, ◌∙◌, sym, append_assoc}
 use Rattle.sim_tree.specs.declared.expr.Identifier.{Identifier}
-use Rattle.sim_tree.specs.Syntax.{Expressions, Heading, Statement, Statements, Empty, Compound, Prefixed, Inner, Call, Assign, Choose, Repeat, For, Inspect, InspectWhen, Activate, NoStatement, Also, Arms, NoArm, When, Block, Begin, Declarations, NoDeclaration, With, Declaration, Variables, Arrays, DeclareProcedure, DeclareClass, Prefix, Program}
+use Rattle.sim_tree.specs.Syntax.{Expressions, Statement, Statements, Empty, Compound, Prefixed, Inner, Call, Assign, Choose, Repeat, For, Inspect, InspectWhen, Activate, NoStatement, Also, Arms, NoArm, When, Block, Begin, Declarations, NoDeclaration, With, Declaration, Variables, Arrays, DeclareProcedure, DeclareClass, Prefix, Program}
 use Rattle.sim_scope.specs.declared.types.BlockKind.{BlockKind}
 use Rattle.sim_scope.specs.declared.types.BlockKind.TheVariants as kind
 use Rattle.sim_scope.specs.declared.types.StandardClass.{StandardClass}
-use Rattle.sim_scope.specs.Bodies.{Around, Bodies, Body, OfConnection, OfClass, Part, arms_bodies, block_bodies, bodies_of, both, classes_declared, declaration_bodies, declarations_bodies, level_inside, no_body, one, prefix_bodies, prefixed_bodies, program_bodies, standard_bodies, standard_body, statement_bodies, statements_bodies, OfBlock, OfPrefixed, OfProcedure, program_around}
+use Rattle.sim_scope.specs.Bodies.{Around, Bodies, OfConnection, OfClass, Part, arms_bodies, block_bodies, bodies_of, both, classes_declared, declaration_bodies, declarations_bodies, level_inside, one, prefix_bodies, prefixed_bodies, program_bodies, standard_bodies, standard_body, statement_bodies, statements_bodies, OfBlock, OfPrefixed, OfProcedure, program_around}
 use Rattle.sim_scope.specs.Standard.{standard_prefix}
-use Rattle.sim_meaning.specs.Texts.{BlockText, ClassText, ConnectionText, PrefixedText, ProcedureText, StandardText, Text, arms_texts, block_texts, declaration_texts, declarations_texts, prefix_texts, prefixed_texts, program_texts, standard_texts, statement_texts, statements_texts, text_of, text_of_part}
+use Rattle.sim_meaning.specs.Texts.{BlockText, ConnectionText, PrefixedText, StandardText, Text, arms_texts, block_texts, declaration_texts, declarations_texts, prefix_texts, prefixed_texts, program_texts, standard_texts, statement_texts, statements_texts, text_of, text_of_part}
 
 map-append : {A B : Type 0} (f : A → B) (xs ys : List A) → map f (xs ++ ys) ≡ map f xs ++ map f ys
 map-append f [] ys = refl
