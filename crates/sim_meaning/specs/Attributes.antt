@@ -12,7 +12,6 @@ use Rattle.sim_scope.specs.declared.types.FormalKind.TheVariants as shape
 use Rattle.sim_scope.specs.declared.types.Mode.{Mode}
 use Rattle.sim_scope.specs.declared.types.Mode.TheVariants as mode
 use Rattle.sim_scope.specs.declared.types.SimType.{SimType}
-use Rattle.sim_scope.specs.Access.{is_connection, is_kind}
 use Rattle.sim_scope.specs.Scopes.{entry_of}
 use Rattle.sim_scope.specs.Source.{Source, block_of, found_at, level_of}
 use Rattle.sim_scope.specs.Tables.{BlockOf}
@@ -21,6 +20,7 @@ use Rattle.sim_tree.specs.Syntax.{Expressions, NoMore, Then}
 use Rattle.sim_values.specs.Plain.{Object}
 use Rattle.sim_code.specs.Instances.{at_level}
 use Rattle.sim_meaning.specs.Levels.{qualification}
+use Rattle.sim_meaning.specs.Texts.{ConnectionText, Text, text}
 use Rattle.sim_meaning.specs.Pending.{AttributeOf, Cell, Connection, Declared, ElementOf, FitsOf, Further, Given, Instances, KeptOf, Key, MemberOf, NewOf, NoTerm, PlaceOf, QuaOf, QualifiedElementOf, QualifiedPlaceOf, RemoteCallOf, Term, Terms, Unbuilt, ValueAt}
 
 -- what is there, or else another tree
@@ -30,9 +30,13 @@ if_any (Some a) f other = f a
 
 -- ---- connections
 
+abbrev pub is_connection : Option Text → Bool
+is_connection (Some ConnectionText) = true
+is_connection _ = false
+
 abbrev pub connection_in : Source → Option ℕ → Option ℕ
 connection_in s None = None
-connection_in s (Some k) = if is_kind is_connection s.tables k then Some k else None
+connection_in s (Some k) = if is_connection (text s k) then Some k else None
 
 -- the connection through which what an identifier denotes is seen, if it is one
 unfoldable pub connection_at : Source → (token : ℕ) → Option ℕ
