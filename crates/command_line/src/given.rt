@@ -1,5 +1,5 @@
 //! What the words behind a command give, read one by one.
-ghost use Rattle.std.specs.Prelude.{◌≡◌, None};
+ghost use Rattle.std.specs.Prelude.{◌≡◌, IfSome, None, Some, is_some, true};
 ghost use Rattle.std.specs.Option.{option_map};
 ghost use Rattle.command_line.specs.Given.{held, nothing, said, with_files, with_part, with_value, with_words};
 ghost use Rattle.command_line.specs.Words.{Names, dashed_kind, has_options, kind_of, limits_of, texts};
@@ -92,25 +92,14 @@ impl<'a> Given<'a> {
         ensures { option_map held result ≡ with_value (held self.entry) setting word.now }
     {
         let number = setting.value(word)?;
+        let mut given = self;
         match setting {
-            Setting::Storage if self.storage.is_none() => Some(Given {
-                storage: Some(number as u32),
-                ..self
-            }),
-            Setting::Ticks if self.ticks.is_none() => Some(Given {
-                ticks: Some(number),
-                ..self
-            }),
-            Setting::InLength if self.in_length.is_none() => Some(Given {
-                in_length: Some(number as u16),
-                ..self
-            }),
-            Setting::OutLength if self.out_length.is_none() => Some(Given {
-                out_length: Some(number as u16),
-                ..self
-            }),
-            _ => None,
+            Setting::Storage => set(&mut given.storage, number as u32)?,
+            Setting::Ticks => set(&mut given.ticks, number)?,
+            Setting::InLength => set(&mut given.in_length, number as u16)?,
+            Setting::OutLength => set(&mut given.out_length, number as u16)?,
         }
+        Some(given)
     }
 
     // The same with a file.
@@ -159,6 +148,18 @@ impl<'a> Given<'a> {
             out_length: self.out_length.unwrap_or(default.out_length),
         }
     }
+}
+
+// Sets what is not set yet, and answers nothing where it is.
+fn set<T: Copy>(slot: &mut Option<T>, value: T) -> Option<()>
+    ensures unset { IfSome result (λ _. (slot.old ≡ None) × (slot.new ≡ Some value)) }
+    ensures once { result ≡ None → is_some slot.old ≡ true }
+{
+    if slot.is_some() {
+        return None;
+    }
+    *slot = Some(value);
+    Some(())
 }
 
 // What a word is, by itself.
