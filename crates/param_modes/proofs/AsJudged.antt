@@ -103,12 +103,12 @@ misfits_generated naming None ty = refl
 misfits_generated naming (Some fault) ty = refl
 
 -- what is judged of the class and the number
-judged_new : (naming token : ℕ) (class : Denotation) (a : Actuals) (wrong only : Bool) → Judged Outcome
+abbrev judged_new : (naming token : ℕ) (class : Denotation) (a : Actuals) (wrong only : Bool) → Judged Outcome
 judged_new naming token class a wrong only = next (bars wrong token r.WrongNumber) (λ p. next (bars only token r.OnlyForPrefixing) (λ q. generated naming class a (p || q || false)))
 
 generated_as : (naming token : ℕ) (class : Denotation) (a : Actuals) (b only : Bool) → only ≡ false → a.typed ≡ true
     → faults (judged_new naming token class a (a.typed && not b) only).events ≡ faults (if b then misfit_events a.misfit else Broken token r.WrongNumber ∷ [])
-unfolding judged_new bars next gives telling
+unfolding bars next gives telling
 generated_as naming token class a true true is typed = absurd (cc)
 generated_as naming token class a false true is typed = absurd (cc)
 generated_as naming token class a true false is typed =
@@ -130,7 +130,7 @@ counted s d fs h = ap (formal_count_of s) (block_of_heading s d fs h) ∙ h.as_m
 
 pub as_generated : (s : Tables) (d : DeclNo) (fs : List Formal) (a : Actuals) (naming : ℕ) (name : Identifier) → HasClassHeading s d fs → is_only_prefix s (Declared d) ≡ false → a.typed ≡ true
     → faults (new_object s naming name (occurs (Some (Declared d)) false) a).events ≡ faults (settled (length fs) name.token.0 a)
-unfolding new_object judged_new
+unfolding new_object
 as_generated s d fs a naming name h only typed =
     let token = name.token.0 in
     generated_as naming token (Declared d) a (nat_eq (formal_count s (Declared d)) a.count) (is_only_prefix s (Declared d)) only typed

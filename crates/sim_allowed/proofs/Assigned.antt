@@ -76,20 +76,21 @@ left_of s k sign e t.NoneType p l texts h = absurd p
 
 -- where no rule is broken, the sign takes the type, and the left side is a variable
 record Targeted (sign : Assignment) (first : ℕ) (variable : Bool) (ty : SimType) : Type 0 where
-  takes : takes sign ty ≡ true
-  variable : variable ≡ true
+  taken : takes sign ty ≡ true
+  same : variable ≡ true
   is : (targets sign first variable ty).value ≡ side_of first (Some ty)
+
+-- the two rules on a left side, of whether each is kept
+abbrev both_kept : (first : ℕ) → SimType → (taken variable : Bool) → Judged Side
+both_kept first ty b v = next (bars (not b) first r.WrongType) (λ a. next (bars (not v) first r.LeftSideIsNoVariable) (λ c. side_unless first ty (a || c)))
 
 targeted : (s : Source) (sign : Assignment) (first : ℕ) (variable : Bool) (ty : SimType) → AllSay s (targets sign first variable ty).events → Targeted sign first variable ty
 unfolding targets bars next gives telling
 targeted s sign first variable ty said = go (takes sign ty) variable refl refl said
   where
-    judged : (b v : Bool) → Judged Side
-    judged b v = next (bars (not b) first r.WrongType) (λ a. next (bars (not v) first r.LeftSideIsNoVariable) (λ c. side_unless first ty (a || c)))
-
-    go : (b v : Bool) → takes sign ty ≡ b → variable ≡ v → AllSay s (judged b v).events → Targeted sign first variable ty
+    go : (b v : Bool) → takes sign ty ≡ b → variable ≡ v → AllSay s (both_kept first ty b v).events → Targeted sign first variable ty
     go true true taken same said =
-        record { takes = taken; variable = same; is = ap (λ z. (judged z variable).value) taken ∙ ap (λ z. (judged true z).value) same }
+        record { taken = taken; same = same; is = ap (λ z. (both_kept first ty z variable).value) taken ∙ ap (λ z. (both_kept first ty true z).value) same }
     go true false taken same said = absurd said.0
     go false v taken same said = absurd said.0
 
@@ -104,7 +105,7 @@ module _ (s : Source) (known : Tabled s) (k : ℕ) (e : Expression) (sign : Assi
       → AllSay s (targets sign first variable ty).events → TargetIs s k sign e (targets sign first variable ty).value
   target_of variable ty proper texts left said =
       let h = targeted s sign first variable ty said in
-      record { ty = ty; is = ap (λ (z : Side). z.ty) h.is; proper = proper; texts = texts; left = left h.takes h.variable }
+      record { ty = ty; is = ap (λ (z : Side). z.ty) h.is; proper = proper; texts = texts; left = left h.taken h.same }
 
   -- a text that is assigned to, and is no result
   text_value : (ty : SimType) → ValueIs s (Some k) e ty → own_result s e ≡ None → AllSay s (value_assigned sign first ty).events → TargetIs s k sign e (value_assigned sign first ty).value
@@ -125,7 +126,7 @@ module _ (s : Source) (known : Tabled s) (k : ℕ) (e : Expression) (sign : Assi
 
   -- no declared constant
   no_variable : (ty : SimType) → AllSay s (targets sign first false ty).events → ⊥
-  no_variable ty said = false≢true (targeted s sign first false ty said).variable
+  no_variable ty said = false≢true (targeted s sign first false ty said).same
 
   assigned_is : (o : Outcome) → Means false s (Some k) e o → (own_result s e ≡ None) → AllSay s (assigned_to sign first o).events → TargetIs s k sign e (assigned_to sign first o).value
   unfolding assigned_to no_target gives telling

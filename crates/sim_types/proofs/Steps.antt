@@ -1,5 +1,5 @@
 -- One judgement after another.
-use Rattle.std.proofs.Common.{◌≡◌, ℕ, ◌+◌, ◌||◌, Bool, List, [], ◌∷◌, ◌++◌, Option, refl, sym, ap, ◌∙◌, subst, append_assoc, append-nil}
+use Rattle.std.proofs.Common.{◌≡◌, ℕ, ◌+◌, ◌||◌, Bool, true, false, List, [], ◌∷◌, ◌++◌, Option, Some, None, refl, sym, ap, ◌∙◌, subst, append_assoc, append-nil}
 use Rattle.sim_base.specs.declared.numbering.TokenNo.{TokenNo}
 use Rattle.sim_base.specs.declared.rule.Rule.TheVariants as r
 use Rattle.sim_tree.specs.declared.expr.Identifier.{Identifier}
@@ -15,9 +15,10 @@ use Rattle.sim_scope.specs.declared.outcome.Side.{Side}
 use Rattle.sim_scope.specs.declared.scopes.Denotation.{Denotation}
 use Rattle.sim_scope.specs.declared.types.SimType.{SimType}
 use Rattle.sim_scope.specs.Actuals.{actual, as_value, barred_actual, barred_alone, more, parameter_at, untyped, value_fits, with_actual}
-use Rattle.sim_scope.specs.Calls.{attribute_by_value, attribute_in, attribute_of_value, barred_if, bound, located, remote_as, remote_at, used_in, used_or_barred}
+use Rattle.sim_scope.specs.Calls.{attribute_by_value, attribute_in, attribute_of_value, barred_if, barred_outcome, bound, located, nothing_there, remote_as, remote_at, remote_in, used, used_as, used_in, used_or_barred, used_there}
 use Rattle.sim_scope.specs.Found.{Event, Findings, after, found}
 use Rattle.sim_scope.specs.Judged.{Judged, Judges, bars, gives, next}
+use Rattle.sim_scope.specs.Levels.{has_classes}
 use Rattle.sim_scope.specs.Outcomes.{called, in_parentheses, parenthesized, side, side_of, type_in, value_of, valued, without_type}
 use Rattle.sim_scope.specs.References.{as_class, class_barred, class_fits, class_named, class_type, class_value, generated, is_no_reference, is_nowhere, is_only_prefix, member, new_of, only_prefix, other_chain, qualified, this_barred, this_fits, this_found, this_value, truth_of, wrong_number}
 use Rattle.sim_scope.specs.Runs.{run}
@@ -163,3 +164,36 @@ barred_actual_in_steps s t p b f g x y one is = judges_then (barred_alone s t.0 
 
 pub without_type_in_steps : (j : Judged Outcome) (f g : Findings) (o : Outcome) → Judges f g o j → Judges f g is.Refused (next j without_type)
 without_type_in_steps j f g o one = judges_then j (λ o. is.Refused) one refl
+
+-- an identifier where it stands, which a rule may bar
+pub used_nothing : (s : Tables) (naming : TokenNo) (x : Identifier) (o : Occurrence) (a : Actuals) (f : Findings) → o.denotes ≡ None → Judges f f is.Refused (used s naming.0 x o a)
+unfolding used
+used_nothing s naming x o a f none = judges_as (judges_gives f is.Refused) (ap (λ d. used_there s naming.0 x d o.barred a) (sym none))
+
+pub used_barred : (s : Tables) (naming : TokenNo) (x : Identifier) (o : Occurrence) (a : Actuals) (d : Denotation) (f g : Findings) (p q : Outcome) → o.denotes ≡ Some d → Judges f g p (used_as s naming.0 x d a) → o.barred ≡ true → q ≡ barred_outcome p
+    → Judges f g q (used s naming.0 x o a)
+unfolding used
+used_barred s naming x o a d f g p q denotes one barred is =
+    judges_as (judges_then (used_as s naming.0 x d a) barred_outcome one is)
+    (ap (λ b. used_there s naming.0 x (Some d) b a) (sym barred) ∙ ap (λ z. used_there s naming.0 x z o.barred a) (sym denotes))
+
+pub used_free : (s : Tables) (naming : TokenNo) (x : Identifier) (o : Occurrence) (a : Actuals) (d : Denotation) (f g : Findings) (p : Outcome) → o.denotes ≡ Some d → Judges f g p (used_as s naming.0 x d a) → o.barred ≡ false
+    → Judges f g p (used s naming.0 x o a)
+unfolding used
+used_free s naming x o a d f g p denotes one free =
+    judges_as one (ap (λ b. used_there s naming.0 x (Some d) b a) (sym free) ∙ ap (λ z. used_there s naming.0 x z o.barred a) (sym denotes))
+
+pub ruleset uses = (used_nothing, used_barred, used_free)
+
+-- an attribute of an object, whose class may have classes
+pub remote_nothing : (s : Tables) (m : Extent) (x : Identifier) (o : Option ℕ) (f : Findings) (y : Occurrence) → o ≡ None → y ≡ nothing_there → Judges f f y (remote_in s m x o)
+remote_nothing s m x o f y none is = judges_as (judges_gives f y) (ap (λ z. gives z) is ∙ ap (remote_in s m x) (sym none))
+
+pub remote_there : (s : Tables) (m : Extent) (x : Identifier) (o : Option ℕ) (block : ℕ) (f g h : Findings) (p b : Bool) (y : Occurrence) → o ≡ Some block → p ≡ has_classes s block → Judges f g b (bars p x.token.0 r.ClassWithClasses)
+    → Judges g h y (remote_at s m x block b) → Judges f h y (remote_in s m x o)
+remote_there s m x o block f g h p b y there classes one two =
+    judges_as
+    (judges_next (bars (has_classes s block) x.token.0 r.ClassWithClasses) (remote_at s m x block) (judges_as one (ap (λ z. bars z x.token.0 r.ClassWithClasses) classes)) two)
+    (ap (remote_in s m x) (sym there))
+
+pub ruleset remotes = (remote_nothing, remote_there)

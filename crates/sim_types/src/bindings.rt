@@ -265,7 +265,7 @@ fn remote_at(
 }
 
 /// An attribute of an object, whose class has no classes (`S17`).
-#[tactic(auto, unfolding(sim_scope::specs::Judged::gives, sim_scope::specs::Runs::run))]
+#[tactic(auto, using(crate::proofs::Steps::remotes))]
 fn remote_in(
     scopes: &Scopes,
     extent: Extent,

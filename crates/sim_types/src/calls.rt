@@ -481,7 +481,7 @@ fn barred_outcome(outcome: Outcome) -> Outcome
 }
 
 /// An identifier where it stands, with its actuals. The whole expression is named by a token.
-#[tactic(auto, unfolding(sim_scope::specs::Calls::used, sim_scope::specs::Judged::gives, sim_scope::specs::Runs::run))]
+#[tactic(auto, using(crate::proofs::Steps::uses))]
 pub(crate) fn used(
     scopes: &Scopes,
     found: &mut Found,
