@@ -27,13 +27,13 @@ use Rattle.sim_scope.specs.Tables.{Tables}
 use Rattle.sim_static.specs.StatementWalk.{FindsLeft, FindsLefts, IsLast, OwesLefts, left_of, of_assignment}
 use Rattle.sim_types.proofs.Steps.{judges_as, judges_gives, judges_next}
 
-pub targets_in_steps : (sign : Assignment) (t : TokenNo) (variable : Bool) (ty : SimType) (f g h k : Findings) (p q a b : Bool) (x : Side) → p ≡ not (takes sign ty) → Judges f g a (bars p t.0 r.WrongType)
-    → q ≡ not variable → Judges g h b (bars q t.0 r.LeftSideIsNoVariable) → Judges h k x (side_unless t.0 ty (a || b)) → Judges f k x (targets sign t.0 variable ty)
+pub targets_in_steps : (sign : Assignment) (t : TokenNo) (variable : Bool) (ty : SimType) (f g h k : Findings) (p q a b y : Bool) (x : Side) → p ≡ not (takes sign ty) → Judges f g a (bars p t.0 r.WrongType)
+    → q ≡ not variable → Judges g h b (bars q t.0 r.LeftSideIsNoVariable) → y ≡ (a || b) → Judges h k x (side_unless t.0 ty y) → Judges f k x (targets sign t.0 variable ty)
 unfolding targets
-targets_in_steps sign t variable ty f g h k p q a b x taken one none two three =
+targets_in_steps sign t variable ty f g h k p q a b y x taken one none two is three =
     judges_next (bars (not (takes sign ty)) t.0 r.WrongType) (λ a. next (bars (not variable) t.0 r.LeftSideIsNoVariable) (λ b. side_unless t.0 ty (a || b)))
     (judges_as one (ap (λ z. bars z t.0 r.WrongType) taken))
-    (judges_next (bars (not variable) t.0 r.LeftSideIsNoVariable) (λ b. side_unless t.0 ty (a || b)) (judges_as two (ap (λ z. bars z t.0 r.LeftSideIsNoVariable) none)) three)
+    (judges_next (bars (not variable) t.0 r.LeftSideIsNoVariable) (λ b. side_unless t.0 ty (a || b)) (judges_as two (ap (λ z. bars z t.0 r.LeftSideIsNoVariable) none)) (judges_as three (ap (side_unless t.0 ty) is)))
 
 pub call_assigned_in_steps : (s : Tables) (sign : Assignment) (t : TokenNo) (f g h : Findings) (o u : Outcome) (x : Side) → Judges f g u (called s o) → Judges g h x (assigned_to sign t.0 u) → Judges f h x (call_assigned s sign t.0 o)
 unfolding call_assigned

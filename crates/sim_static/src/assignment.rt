@@ -12,7 +12,7 @@ use sim_scope::{
     entry_of, lesser,
 };
 use sim_tree::{Assigned, Assignment, Expr, first_token};
-use sim_types::{bars, called, is_stream, judge, misfit_of, operand, result_in};
+use sim_types::{bars, called, either, is_stream, judge, misfit_of, operand, result_in};
 
 #[tactic(auto, unfolding(sim_scope::specs::Assignments::no_target, sim_scope::specs::Judged::telling, sim_scope::specs::Runs::run))]
 fn no_target(found: &mut Found, first: TokenNo, rule: Rule) -> Side
@@ -40,7 +40,7 @@ fn targets(found: &mut Found, sign: Assignment, first: TokenNo, variable: bool, 
 {
     let wrong = bars(found, !takes(sign, ty), first, Rule::WrongType);
     let none = bars(found, !variable, first, Rule::LeftSideIsNoVariable);
-    side_unless(found, first, ty, wrong || none)
+    side_unless(found, first, ty, either(wrong, none))
 }
 
 /// Whether a sign copies the characters of a text.

@@ -1,5 +1,5 @@
 -- One judgement after another.
-use Rattle.std.proofs.Common.{◌≡◌, ℕ, ◌+◌, ◌||◌, Bool, true, false, List, [], ◌∷◌, ◌++◌, Option, Some, None, refl, sym, ap, ◌∙◌, subst, append_assoc, append-nil}
+use Rattle.std.proofs.Common.{◌≡◌, ℕ, ◌+◌, ◌||◌, Bool, true, List, [], ◌∷◌, ◌++◌, Option, Some, None, refl, sym, ap, ◌∙◌, subst, append_assoc, append-nil}
 use Rattle.sim_base.specs.declared.numbering.TokenNo.{TokenNo}
 use Rattle.sim_base.specs.declared.rule.Rule.TheVariants as r
 use Rattle.sim_tree.specs.declared.expr.Identifier.{Identifier}
@@ -15,7 +15,7 @@ use Rattle.sim_scope.specs.declared.outcome.Side.{Side}
 use Rattle.sim_scope.specs.declared.scopes.Denotation.{Denotation}
 use Rattle.sim_scope.specs.declared.types.SimType.{SimType}
 use Rattle.sim_scope.specs.Actuals.{actual, as_value, barred_actual, barred_alone, more, parameter_at, untyped, value_fits, with_actual}
-use Rattle.sim_scope.specs.Calls.{attribute_by_value, attribute_in, attribute_of_value, barred_if, barred_outcome, bound, located, nothing_there, remote_as, remote_at, remote_in, used, used_as, used_in, used_or_barred, used_there}
+use Rattle.sim_scope.specs.Calls.{attribute_by_value, attribute_in, attribute_of_value, barred_if, barred_outcome, bound, located, nothing_there, or_barred, remote_as, remote_at, remote_in, used_in, used_or_barred}
 use Rattle.sim_scope.specs.Found.{Event, Findings, after, found}
 use Rattle.sim_scope.specs.Judged.{Judged, Judges, bars, gives, next}
 use Rattle.sim_scope.specs.Levels.{has_classes}
@@ -106,20 +106,20 @@ unfolding more next gives with_actual
 more-count s d a first o = refl
 
 -- several rules at one place, each by itself
-pub class_fits_in_steps : (s : Tables) (t : TokenNo) (class : Option Denotation) (ty : Option SimType) (f g h : Findings) (p q a b : Bool) → p ≡ other_chain s class ty → Judges f g a (bars p t.0 r.DifferentChains)
-    → q ≡ only_prefix s class → Judges g h b (bars q t.0 r.OnlyForPrefixing) → Judges f h (a || b) (class_fits s t.0 class ty)
+pub class_fits_in_steps : (s : Tables) (t : TokenNo) (class : Option Denotation) (ty : Option SimType) (f g h : Findings) (p q a b y : Bool) → p ≡ other_chain s class ty → Judges f g a (bars p t.0 r.DifferentChains)
+    → q ≡ only_prefix s class → Judges g h b (bars q t.0 r.OnlyForPrefixing) → y ≡ (a || b) → Judges f h y (class_fits s t.0 class ty)
 unfolding class_fits
-class_fits_in_steps s t class ty f g h p q a b other one only two =
+class_fits_in_steps s t class ty f g h p q a b y other one only two is =
     judges_next (bars (other_chain s class ty) t.0 r.DifferentChains) (λ a. next (bars (only_prefix s class) t.0 r.OnlyForPrefixing) (λ b. gives (a || b)))
     (judges_as one (ap (λ z. bars z t.0 r.DifferentChains) other))
-    (judges_then (bars (only_prefix s class) t.0 r.OnlyForPrefixing) (λ b. a || b) (judges_as two (ap (λ z. bars z t.0 r.OnlyForPrefixing) only)) refl)
+    (judges_then (bars (only_prefix s class) t.0 r.OnlyForPrefixing) (λ b. a || b) (judges_as two (ap (λ z. bars z t.0 r.OnlyForPrefixing) only)) is)
 
-pub class_barred_in_steps : (s : Tables) (x : Side) (t : TokenNo) (o : Occurrence) (f g h : Findings) (p a b : Bool) → p ≡ is_no_reference x.ty → Judges f g a (bars p x.first.0 r.WrongType)
-    → Judges g h b (class_fits s t.0 o.denotes x.ty) → Judges f h (a || b || o.barred) (class_barred s x t.0 o)
-class_barred_in_steps s x t o f g h p a b none one two =
+pub class_barred_in_steps : (s : Tables) (x : Side) (t : TokenNo) (o : Occurrence) (f g h : Findings) (p a b y z : Bool) → p ≡ is_no_reference x.ty → Judges f g a (bars p x.first.0 r.WrongType)
+    → Judges g h b (class_fits s t.0 o.denotes x.ty) → y ≡ (b || o.barred) → z ≡ (a || y) → Judges f h z (class_barred s x t.0 o)
+class_barred_in_steps s x t o f g h p a b y z none one two inner is =
     judges_next (bars (is_no_reference x.ty) x.first.0 r.WrongType) (λ a. next (class_fits s t.0 o.denotes x.ty) (λ b. gives (a || b || o.barred)))
     (judges_as one (ap (λ z. bars z x.first.0 r.WrongType) none))
-    (judges_then (class_fits s t.0 o.denotes x.ty) (λ b. a || b || o.barred) two refl)
+    (judges_then (class_fits s t.0 o.denotes x.ty) (λ b. a || b || o.barred) two (is ∙ ap (λ z. a || z) inner))
 
 pub member_in_steps : (s : Tables) (naming : TokenNo) (x : Side) (n : Identifier) (o : Occurrence) (f g h : Findings) (b : Bool) (y : Outcome) → Judges f g b (class_barred s x n.token.0 o)
     → Judges g h y (class_value naming.0 b x.ty o.denotes truth_of) → Judges f h y (member s naming.0 x n o)
@@ -131,33 +131,34 @@ pub qualified_in_steps : (s : Tables) (naming : TokenNo) (x : Side) (n : Identif
 unfolding qualified
 qualified_in_steps s naming x n o f g h b y one two = judges_next (class_barred s x n.token.0 o) (λ b. class_value naming.0 b x.ty o.denotes class_type) one two
 
-pub this_fits_in_steps : (s : Tables) (m : Extent) (t : TokenNo) (class : Denotation) (block : Option ℕ) (f g h k : Findings) (p q u a b c : Bool) → p ≡ is_nowhere block → Judges f g a (bars p t.0 r.ThisOutsideItsClass)
-    → q ≡ is_only_prefix s class → Judges g h b (bars q t.0 r.OnlyForPrefixing) → u ≡ this_barred s m t.0 block → Judges h k c (bars u t.0 r.BoundDependsOnItsBlock) → Judges f k (a || b || c) (this_fits s m t.0 class block)
+pub this_fits_in_steps : (s : Tables) (m : Extent) (t : TokenNo) (class : Denotation) (block : Option ℕ) (f g h k : Findings) (p q u a b c y z : Bool) → p ≡ is_nowhere block → Judges f g a (bars p t.0 r.ThisOutsideItsClass)
+    → q ≡ is_only_prefix s class → Judges g h b (bars q t.0 r.OnlyForPrefixing) → u ≡ this_barred s m t.0 block → Judges h k c (bars u t.0 r.BoundDependsOnItsBlock) → y ≡ (b || c) → z ≡ (a || y) → Judges f k z (this_fits s m t.0 class block)
 unfolding this_fits
-this_fits_in_steps s m t class block f g h k p q u a b c nowhere one only two own three =
+this_fits_in_steps s m t class block f g h k p q u a b c y z nowhere one only two own three inner is =
     judges_next (bars (is_nowhere block) t.0 r.ThisOutsideItsClass) (λ a. next (bars (is_only_prefix s class) t.0 r.OnlyForPrefixing) (λ b. next (bars (this_barred s m t.0 block) t.0 r.BoundDependsOnItsBlock) (λ c. gives (a || b || c))))
     (judges_as one (ap (λ z. bars z t.0 r.ThisOutsideItsClass) nowhere))
     (judges_next (bars (is_only_prefix s class) t.0 r.OnlyForPrefixing) (λ b. next (bars (this_barred s m t.0 block) t.0 r.BoundDependsOnItsBlock) (λ c. gives (a || b || c)))
     (judges_as two (ap (λ z. bars z t.0 r.OnlyForPrefixing) only))
-    (judges_then (bars (this_barred s m t.0 block) t.0 r.BoundDependsOnItsBlock) (λ c. a || b || c) (judges_as three (ap (λ z. bars z t.0 r.BoundDependsOnItsBlock) own)) refl))
+    (judges_then (bars (this_barred s m t.0 block) t.0 r.BoundDependsOnItsBlock) (λ c. a || b || c) (judges_as three (ap (λ z. bars z t.0 r.BoundDependsOnItsBlock) own)) (is ∙ ap (λ z. a || z) inner)))
 
-pub this_found_in_steps : (s : Tables) (m : Extent) (naming t : TokenNo) (class : Denotation) (barred : Bool) (block : Option ℕ) (f g h k : Findings) (b : Bool) (o : Outcome) → Judges f g tt (located naming.0 block)
-    → Judges g h b (this_fits s m t.0 class block) → Judges h k o (this_value naming.0 class (b || barred)) → Judges f k o (this_found s m naming.0 t.0 class barred block)
-this_found_in_steps s m naming t class barred block f g h k b o one two three =
+pub this_found_in_steps : (s : Tables) (m : Extent) (naming t : TokenNo) (class : Denotation) (barred : Bool) (block : Option ℕ) (f g h k : Findings) (b y : Bool) (o : Outcome) → Judges f g tt (located naming.0 block)
+    → Judges g h b (this_fits s m t.0 class block) → y ≡ (b || barred) → Judges h k o (this_value naming.0 class y) → Judges f k o (this_found s m naming.0 t.0 class barred block)
+this_found_in_steps s m naming t class barred block f g h k b y o one two is three =
     judges_next (located naming.0 block) (λ n. next (this_fits s m t.0 class block) (λ b. this_value naming.0 class (b || barred))) one
-    (judges_next (this_fits s m t.0 class block) (λ b. this_value naming.0 class (b || barred)) two three)
+    (judges_next (this_fits s m t.0 class block) (λ b. this_value naming.0 class (b || barred)) two (judges_as three (ap (this_value naming.0 class) is)))
 
-pub new_in_steps : (s : Tables) (naming t : TokenNo) (class : Denotation) (barred : Bool) (a : Actuals) (f g h k : Findings) (p q x y : Bool) (o : Outcome) → p ≡ wrong_number s class a → Judges f g x (bars p t.0 r.WrongNumber)
-    → q ≡ is_only_prefix s class → Judges g h y (bars q t.0 r.OnlyForPrefixing) → Judges h k o (generated naming.0 class a (x || y || barred)) → Judges f k o (new_of s naming.0 t.0 class barred a)
-new_in_steps s naming t class barred a f g h k p q x y o number one only two three =
+pub new_in_steps : (s : Tables) (naming t : TokenNo) (class : Denotation) (barred : Bool) (a : Actuals) (f g h k : Findings) (p q u v y z : Bool) (o : Outcome) → p ≡ wrong_number s class a → Judges f g u (bars p t.0 r.WrongNumber)
+    → q ≡ is_only_prefix s class → Judges g h v (bars q t.0 r.OnlyForPrefixing) → y ≡ (v || barred) → z ≡ (u || y) → Judges h k o (generated naming.0 class a z) → Judges f k o (new_of s naming.0 t.0 class barred a)
+new_in_steps s naming t class barred a f g h k p q u v y z o number one only two inner is three =
     judges_next (bars (wrong_number s class a) t.0 r.WrongNumber) (λ p. next (bars (is_only_prefix s class) t.0 r.OnlyForPrefixing) (λ q. generated naming.0 class a (p || q || barred)))
     (judges_as one (ap (λ z. bars z t.0 r.WrongNumber) number))
-    (judges_next (bars (is_only_prefix s class) t.0 r.OnlyForPrefixing) (λ q. generated naming.0 class a (x || q || barred)) (judges_as two (ap (λ z. bars z t.0 r.OnlyForPrefixing) only)) three)
+    (judges_next (bars (is_only_prefix s class) t.0 r.OnlyForPrefixing) (λ q. generated naming.0 class a (u || q || barred)) (judges_as two (ap (λ z. bars z t.0 r.OnlyForPrefixing) only))
+    (judges_as three (ap (generated naming.0 class a) (is ∙ ap (λ z. u || z) inner))))
 
-pub remote_at_in_steps : (s : Tables) (m : Extent) (x : Identifier) (block : ℕ) (barred : Bool) (d : Option Denotation) (f g : Findings) (o p : Occurrence) → d ≡ attribute_in s x.token.0 block x.name → Judges f g o (remote_as s m x block d)
-    → p ≡ barred_if barred o → Judges f g p (remote_at s m x block barred)
-remote_at_in_steps s m x block barred d f g o p at one is =
-    judges_then (remote_as s m x block (attribute_in s x.token.0 block x.name)) (barred_if barred) (judges_as one (ap (remote_as s m x block) at)) is
+pub remote_at_in_steps : (s : Tables) (m : Extent) (x : Identifier) (block : ℕ) (barred : Bool) (n : List ℕ) (d : Option Denotation) (f g : Findings) (o p : Occurrence) → d ≡ attribute_in s x.token.0 block n → n ≡ x.name
+    → Judges f g o (remote_as s m x block d) → p ≡ barred_if barred o → Judges f g p (remote_at s m x block barred)
+remote_at_in_steps s m x block barred n d f g o p at same one is =
+    judges_then (remote_as s m x block (attribute_in s x.token.0 block x.name)) (barred_if barred) (judges_as one (ap (remote_as s m x block) (at ∙ ap (attribute_in s x.token.0 block) same))) is
 
 pub barred_actual_in_steps : (s : Tables) (t : TokenNo) (p : Parameter) (b : Barred) (f g : Findings) (x y : Actual) → Judges f g x (barred_alone s t.0 p b) → y ≡ untyped → Judges f g y (barred_actual s t.0 p b)
 barred_actual_in_steps s t p b f g x y one is = judges_then (barred_alone s t.0 p b) (λ x. untyped) one is
@@ -165,25 +166,9 @@ barred_actual_in_steps s t p b f g x y one is = judges_then (barred_alone s t.0 
 pub without_type_in_steps : (j : Judged Outcome) (f g : Findings) (o : Outcome) → Judges f g o j → Judges f g is.Refused (next j without_type)
 without_type_in_steps j f g o one = judges_then j (λ o. is.Refused) one refl
 
--- an identifier where it stands, which a rule may bar
-pub used_nothing : (s : Tables) (naming : TokenNo) (x : Identifier) (o : Occurrence) (a : Actuals) (f : Findings) → o.denotes ≡ None → Judges f f is.Refused (used s naming.0 x o a)
-unfolding used
-used_nothing s naming x o a f none = judges_as (judges_gives f is.Refused) (ap (λ d. used_there s naming.0 x d o.barred a) (sym none))
-
-pub used_barred : (s : Tables) (naming : TokenNo) (x : Identifier) (o : Occurrence) (a : Actuals) (d : Denotation) (f g : Findings) (p q : Outcome) → o.denotes ≡ Some d → Judges f g p (used_as s naming.0 x d a) → o.barred ≡ true → q ≡ barred_outcome p
-    → Judges f g q (used s naming.0 x o a)
-unfolding used
-used_barred s naming x o a d f g p q denotes one barred is =
-    judges_as (judges_then (used_as s naming.0 x d a) barred_outcome one is)
-    (ap (λ b. used_there s naming.0 x (Some d) b a) (sym barred) ∙ ap (λ z. used_there s naming.0 x z o.barred a) (sym denotes))
-
-pub used_free : (s : Tables) (naming : TokenNo) (x : Identifier) (o : Occurrence) (a : Actuals) (d : Denotation) (f g : Findings) (p : Outcome) → o.denotes ≡ Some d → Judges f g p (used_as s naming.0 x d a) → o.barred ≡ false
-    → Judges f g p (used s naming.0 x o a)
-unfolding used
-used_free s naming x o a d f g p denotes one free =
-    judges_as one (ap (λ b. used_there s naming.0 x (Some d) b a) (sym free) ∙ ap (λ z. used_there s naming.0 x z o.barred a) (sym denotes))
-
-pub ruleset uses = (used_nothing, used_barred, used_free)
+-- what a rule bars has no type
+pub or_barred_in_steps : (j : Judged Outcome) (f g : Findings) (o y : Outcome) → Judges f g o j → y ≡ barred_outcome o → Judges f g y (or_barred true j)
+or_barred_in_steps j f g o y one is = judges_then j barred_outcome one is
 
 -- an attribute of an object, whose class may have classes
 pub remote_nothing : (s : Tables) (m : Extent) (x : Identifier) (o : Option ℕ) (f : Findings) (y : Occurrence) → o ≡ None → y ≡ nothing_there → Judges f f y (remote_in s m x o)

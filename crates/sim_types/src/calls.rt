@@ -1,7 +1,7 @@
 //! What an identifier is: alone, and with actual parameters or subscripts.
-ghost use Rattle.std.specs.Prelude.{◌≡◌, Some, nat_eq};
+ghost use Rattle.std.specs.Prelude.{◌≡◌, Some, nat_eq, true};
 ghost use Rattle.sim_scope.specs.Judged.{Judges};
-ghost use Rattle.sim_scope.specs.Calls.{alone, applied, applied_untyped, attribute_count, barred_outcome, declared_alone, declared_applied, element_of, formal_alone, formal_applied, inside_match, is_connection_at, is_undotted, match_at, match_found, match_seen, own_of, own_undotted, parameter_count, procedure_alone, resulting, standard_applied, through_connection, typed_if, used, used_as};
+ghost use Rattle.sim_scope.specs.Calls.{alone, applied, applied_untyped, attribute_count, barred_outcome, declared_alone, declared_applied, element_of, formal_alone, formal_applied, inside_match, is_connection_at, is_undotted, match_at, match_found, match_seen, or_barred, own_of, own_undotted, parameter_count, procedure_alone, resulting, standard_applied, through_connection, typed_if, used, used_as};
 
 use crate::headings::{block_in, formals_of, is_inside};
 use crate::outcomes::{breaks, call_of, is_standard_class, is_stream, varies};
@@ -480,8 +480,24 @@ fn barred_outcome(outcome: Outcome) -> Outcome
     }
 }
 
+/// An identifier that may not stand there, with its actuals: it has no type; alone it is judged on.
+#[tactic(auto, using(crate::proofs::Steps::or_barred_in_steps))]
+fn used_barred(
+    scopes: &Scopes,
+    found: &mut Found,
+    naming: TokenNo,
+    name: &Identifier,
+    denotation: Denotation,
+    actuals: Actuals,
+) -> Outcome
+    ensures { Judges found.old found.new result (or_barred true (used_as scopes.now naming.0 name.now denotation actuals)) }
+{
+    let outcome = used_as(scopes, found, naming, name, denotation, actuals);
+    barred_outcome(outcome)
+}
+
 /// An identifier where it stands, with its actuals. The whole expression is named by a token.
-#[tactic(auto, using(crate::proofs::Steps::uses))]
+#[tactic(auto, unfolding(sim_scope::specs::Calls::used, sim_scope::specs::Judged::gives, sim_scope::specs::Runs::run))]
 pub(crate) fn used(
     scopes: &Scopes,
     found: &mut Found,
@@ -494,11 +510,10 @@ pub(crate) fn used(
 {
     match occurrence.denotes {
         Some(denotation) => {
-            let outcome = used_as(scopes, found, naming, name, denotation, actuals);
             if occurrence.barred {
-                barred_outcome(outcome)
+                used_barred(scopes, found, naming, name, denotation, actuals)
             } else {
-                outcome
+                used_as(scopes, found, naming, name, denotation, actuals)
             }
         }
         None => Outcome::Refused,

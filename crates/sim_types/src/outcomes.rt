@@ -1,5 +1,5 @@
 //! What an expression is where a value is needed, and what operators make of operands.
-ghost use Rattle.std.specs.Prelude.{◌≡◌};
+ghost use Rattle.std.specs.Prelude.{◌≡◌, ◌||◌};
 ghost use Rattle.sim_scope.specs.Judged.{Judges, bars};
 ghost use Rattle.sim_scope.specs.Standard.{is_standard_class};
 ghost use Rattle.sim_scope.specs.Outcomes.{barred_called, breaks, call_of, called, has, in_parentheses, is_stream, one, parenthesized, procedure_called, side, side_of, signature_called, standard_called, three, two, type_in, value_of, valued, varies};
@@ -39,6 +39,13 @@ pub fn bars(found: &mut Found, so: bool, token: TokenNo, rule: Rule) -> bool
         found.note(token, rule);
     }
     so
+}
+
+/// Whether one of two rules is broken.
+pub fn either(first: bool, second: bool) -> bool
+    ensures { result ≡ (first || second) }
+{
+    first || second
 }
 
 /// A rule is broken at a token, and the expression is nothing.

@@ -6,7 +6,7 @@ ghost use Rattle.sim_scope.specs.References.{as_class, block_of_class, chained_w
 
 use crate::bindings::{bound, located, nothing_there, occurs};
 use crate::fit::is_reference;
-use crate::outcomes::{bars, breaks, has, is_standard_class};
+use crate::outcomes::{bars, breaks, either, has, is_standard_class};
 use sim_base::{DeclNo, Rule, TokenNo};
 use sim_scope::{
     Actuals, Denotation, Extent, Found, Occurrence, Outcome, Scopes, Side, SimType, StandardName,
@@ -170,7 +170,7 @@ pub fn class_fits(
         token,
         Rule::OnlyForPrefixing,
     );
-    other || only
+    either(other, only)
 }
 
 fn is_no_reference(ty: Option<SimType>) -> bool
@@ -200,7 +200,7 @@ fn class_barred(
         Rule::WrongType,
     );
     let barred = class_fits(scopes, found, token, occurrence.denotes, operand.ty);
-    wrong || barred || occurrence.barred
+    either(wrong, either(barred, occurrence.barred))
 }
 
 /// The type of an expression with `is` or `in`.
@@ -384,7 +384,7 @@ fn this_fits(
         token,
         Rule::BoundDependsOnItsBlock,
     );
-    outside || only || depends
+    either(outside, either(only, depends))
 }
 
 #[tactic(auto, unfolding(sim_scope::specs::Judged::gives, sim_scope::specs::Runs::run))]
@@ -413,7 +413,7 @@ fn this_found(
 {
     located(found, naming, block);
     let broken = this_fits(scopes, extent, found, token, class, block);
-    this_value(found, naming, class, broken || barred)
+    this_value(found, naming, class, either(broken, barred))
 }
 
 /// `this` of a class.
@@ -515,7 +515,8 @@ fn new_of(
         token,
         Rule::OnlyForPrefixing,
     );
-    generated(found, naming, class, actuals, wrong || only || barred)
+    let broken = either(wrong, either(only, barred));
+    generated(found, naming, class, actuals, broken)
 }
 
 /// `new`, with the actual parameters of all levels of the class.
