@@ -246,7 +246,6 @@ fn remote_as(
     }
 }
 
-#[tactic(auto, using(crate::proofs::Steps::remote_at_in_steps))]
 fn remote_at(
     scopes: &Scopes,
     extent: Extent,

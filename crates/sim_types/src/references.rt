@@ -148,7 +148,6 @@ fn other_chain(scopes: &Scopes, class: Option<Denotation>, ty: Option<SimType>) 
 }
 
 /// `S16` and `S21` of a class behind an operand of this type, each by itself; whether one is broken.
-#[tactic(auto, using(crate::proofs::Steps::class_fits_in_steps))]
 pub fn class_fits(
     scopes: &Scopes,
     found: &mut Found,
@@ -183,7 +182,6 @@ fn is_no_reference(ty: Option<SimType>) -> bool
 }
 
 /// Whether the operand is no reference (`S13`), or a rule bars the class behind it.
-#[tactic(auto, using(crate::proofs::Steps::class_barred_in_steps))]
 fn class_barred(
     scopes: &Scopes,
     found: &mut Found,
@@ -200,7 +198,8 @@ fn class_barred(
         Rule::WrongType,
     );
     let barred = class_fits(scopes, found, token, occurrence.denotes, operand.ty);
-    either(wrong, either(barred, occurrence.barred))
+    let inner = either(barred, occurrence.barred);
+    either(wrong, inner)
 }
 
 /// The type of an expression with `is` or `in`.
@@ -360,7 +359,6 @@ fn is_nowhere(block: Option<u32>) -> bool
 }
 
 /// `S18`, `S21` and `S22` of the class behind `this`, each by itself; whether one is broken.
-#[tactic(auto, using(crate::proofs::Steps::this_fits_in_steps))]
 fn this_fits(
     scopes: &Scopes,
     extent: Extent,
@@ -384,7 +382,8 @@ fn this_fits(
         token,
         Rule::BoundDependsOnItsBlock,
     );
-    either(outside, either(only, depends))
+    let inner = either(only, depends);
+    either(outside, inner)
 }
 
 #[tactic(auto, unfolding(sim_scope::specs::Judged::gives, sim_scope::specs::Runs::run))]
@@ -398,7 +397,6 @@ fn this_value(found: &mut Found, naming: TokenNo, class: Denotation, barred: boo
     }
 }
 
-#[tactic(auto, using(crate::proofs::Steps::this_found_in_steps))]
 fn this_found(
     scopes: &Scopes,
     extent: Extent,
@@ -413,7 +411,8 @@ fn this_found(
 {
     located(found, naming, block);
     let broken = this_fits(scopes, extent, found, token, class, block);
-    this_value(found, naming, class, either(broken, barred))
+    let refused = either(broken, barred);
+    this_value(found, naming, class, refused)
 }
 
 /// `this` of a class.
@@ -491,7 +490,6 @@ fn generated(
     }
 }
 
-#[tactic(auto, using(crate::proofs::Steps::new_in_steps))]
 fn new_of(
     scopes: &Scopes,
     found: &mut Found,
@@ -515,7 +513,8 @@ fn new_of(
         token,
         Rule::OnlyForPrefixing,
     );
-    let broken = either(wrong, either(only, barred));
+    let inner = either(only, barred);
+    let broken = either(wrong, inner);
     generated(found, naming, class, actuals, broken)
 }
 
