@@ -28,7 +28,7 @@ use Rattle.sim_tree.specs.declared.stmt.Timing.{Timing}
 use Rattle.sim_tree.specs.declared.stmt.TypeName.{TypeName}
 use Rattle.sim_tree.specs.declared.stmt.Variable.{Variable}
 use Rattle.sim_tree.specs.declared.stmt.When.{When}
-use Rattle.sim_tree.specs.Syntax.{Begin, Declarations, Heading, NoDeclaration, Statement, Statements, declarations, statements}
+use Rattle.sim_tree.specs.Syntax.{Begin, Compound, DeclareClass, Declarations, Heading, Interface, NoDeclaration, Statement, Statements, declarations, statements}
 use Rattle.sim_tree.specs.Syntax.{Block as BlockSyntax}
 use Rattle.sim_tree.specs.SyntaxOfProgram.{block_syntax, branch_syntax, declaration_syntax, heading_syntax, statement_syntax}
 use Rattle.sim_tree.proofs.ProgramSyntaxLemmas as v
@@ -439,9 +439,13 @@ module _ (b : Bound) where
       declaration_as a e bs ds x _ (ap declaration_syntax is ∙ v.syntax-Procedure r i p ∙ v.syntax-procedure p.name p.parameters p.modes p.specifications p.body p.end r i.0)
       (both a c e bs cs ds (ProcedureText r h (statement_syntax p.body.value) ∷ []) (statement_texts (statement_syntax p.body.value)) (subst (λ z. WritesTexts b a c bs cs (ProcedureText r h (statement_syntax z) ∷ [])) ey (own h)) (opened c e cs ds p.body.value (subst (λ z. TextsOfStatement b c e cs ds z) ey f)))
 
+  class_never : (n : ℕ) (r : Option Identifier) (i : ℕ) (h : Heading) (f : Interface) (a : Statement) (e : ℕ) → TextsBuilt (source_of b) n (declaration_texts (DeclareClass r i h f a e)) → ⊥
+  class_never n r i h f (Compound (Begin token ds ss end)) e g = g.0
+  class_never n r i h f _ e g = g.0
+
   pub declared_class : (a c : DraftOf) (bs : List BlockOf) (x : Decl) (r : Option Identifier) (i : TokenNo) (p : Class) → x ≡ d.Class r i p → c ≡ given_up a → TextsOfDeclaration b a c bs bs x
   declared_class a c bs x r i p is ec =
-      declaration_as a c bs bs x _ (ap declaration_syntax is ∙ v.syntax-Class r i p ∙ v.syntax-class p.name p.parameters p.modes p.specifications p.protections p.virtuals p.body p.end r i.0) (never a c bs _ (λ n h. h.0) ec)
+      declaration_as a c bs bs x _ (ap declaration_syntax is ∙ v.syntax-Class r i p ∙ v.syntax-class p.name p.parameters p.modes p.specifications p.protections p.virtuals p.body p.end r i.0) (never a c bs _ (λ n h. class_never n r i.0 (heading_syntax p.name p.parameters.items p.modes.items p.specifications.items) (Rattle.sim_tree.specs.SyntaxOfProgram.interface_syntax p.protections.items p.virtuals.items) (statement_syntax p.body.value) p.end.0 h) ec)
 
   -- ---- the program
 

@@ -13,7 +13,7 @@ use Rattle.sim_meaning.specs.Texts.{BlockText, Text, is_class_kind, text}
 use Rattle.codegen_expr.specs.CodeExpr.{block_number, blocks_before, is_connection}
 use Rattle.codegen_expr.specs.Drafts.{DraftOf}
 use Rattle.codegen.specs.BuiltProgram.{ProgramBuilt, is_special, texts_of}
-use Rattle.codegen.specs.Compiled.{CodeHas, TextCode}
+use Rattle.codegen.specs.Compiled.{CodeHas, Compiled, TextCode}
 use Rattle.codegen.specs.EmitProgram.{TextsCoded, WritesProgram}
 
 -- ---- lists
