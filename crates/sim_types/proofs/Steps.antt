@@ -115,11 +115,11 @@ class_fits_in_steps s t class ty f g h p q a b y other one only two is =
     (judges_then (bars (only_prefix s class) t.0 r.OnlyForPrefixing) (λ b. a || b) (judges_as two (ap (λ z. bars z t.0 r.OnlyForPrefixing) only)) is)
 
 pub class_barred_in_steps : (s : Tables) (x : Side) (t : TokenNo) (o : Occurrence) (f g h : Findings) (p a b y z : Bool) → p ≡ is_no_reference x.ty → Judges f g a (bars p x.first.0 r.WrongType)
-    → Judges g h b (class_fits s t.0 o.denotes x.ty) → y ≡ (b || o.barred) → z ≡ (a || y) → Judges f h z (class_barred s x t.0 o)
+    → Judges g h b (class_fits s t.0 o.denotes x.ty) → y ≡ (a || b) → z ≡ (y || o.barred) → Judges f h z (class_barred s x t.0 o)
 class_barred_in_steps s x t o f g h p a b y z none one two inner is =
     judges_next (bars (is_no_reference x.ty) x.first.0 r.WrongType) (λ a. next (class_fits s t.0 o.denotes x.ty) (λ b. gives (a || b || o.barred)))
     (judges_as one (ap (λ z. bars z x.first.0 r.WrongType) none))
-    (judges_then (class_fits s t.0 o.denotes x.ty) (λ b. a || b || o.barred) two (is ∙ ap (λ z. a || z) inner))
+    (judges_then (class_fits s t.0 o.denotes x.ty) (λ b. a || b || o.barred) two (is ∙ ap (λ w. w || o.barred) inner))
 
 pub member_in_steps : (s : Tables) (naming : TokenNo) (x : Side) (n : Identifier) (o : Occurrence) (f g h : Findings) (b : Bool) (y : Outcome) → Judges f g b (class_barred s x n.token.0 o)
     → Judges g h y (class_value naming.0 b x.ty o.denotes truth_of) → Judges f h y (member s naming.0 x n o)
@@ -132,14 +132,14 @@ unfolding qualified
 qualified_in_steps s naming x n o f g h b y one two = judges_next (class_barred s x n.token.0 o) (λ b. class_value naming.0 b x.ty o.denotes class_type) one two
 
 pub this_fits_in_steps : (s : Tables) (m : Extent) (t : TokenNo) (class : Denotation) (block : Option ℕ) (f g h k : Findings) (p q u a b c y z : Bool) → p ≡ is_nowhere block → Judges f g a (bars p t.0 r.ThisOutsideItsClass)
-    → q ≡ is_only_prefix s class → Judges g h b (bars q t.0 r.OnlyForPrefixing) → u ≡ this_barred s m t.0 block → Judges h k c (bars u t.0 r.BoundDependsOnItsBlock) → y ≡ (b || c) → z ≡ (a || y) → Judges f k z (this_fits s m t.0 class block)
+    → q ≡ is_only_prefix s class → Judges g h b (bars q t.0 r.OnlyForPrefixing) → u ≡ this_barred s m t.0 block → Judges h k c (bars u t.0 r.BoundDependsOnItsBlock) → y ≡ (a || b) → z ≡ (y || c) → Judges f k z (this_fits s m t.0 class block)
 unfolding this_fits
 this_fits_in_steps s m t class block f g h k p q u a b c y z nowhere one only two own three inner is =
     judges_next (bars (is_nowhere block) t.0 r.ThisOutsideItsClass) (λ a. next (bars (is_only_prefix s class) t.0 r.OnlyForPrefixing) (λ b. next (bars (this_barred s m t.0 block) t.0 r.BoundDependsOnItsBlock) (λ c. gives (a || b || c))))
     (judges_as one (ap (λ z. bars z t.0 r.ThisOutsideItsClass) nowhere))
     (judges_next (bars (is_only_prefix s class) t.0 r.OnlyForPrefixing) (λ b. next (bars (this_barred s m t.0 block) t.0 r.BoundDependsOnItsBlock) (λ c. gives (a || b || c)))
     (judges_as two (ap (λ z. bars z t.0 r.OnlyForPrefixing) only))
-    (judges_then (bars (this_barred s m t.0 block) t.0 r.BoundDependsOnItsBlock) (λ c. a || b || c) (judges_as three (ap (λ z. bars z t.0 r.BoundDependsOnItsBlock) own)) (is ∙ ap (λ z. a || z) inner)))
+    (judges_then (bars (this_barred s m t.0 block) t.0 r.BoundDependsOnItsBlock) (λ c. a || b || c) (judges_as three (ap (λ z. bars z t.0 r.BoundDependsOnItsBlock) own)) (is ∙ ap (λ w. w || c) inner)))
 
 pub this_found_in_steps : (s : Tables) (m : Extent) (naming t : TokenNo) (class : Denotation) (barred : Bool) (block : Option ℕ) (f g h k : Findings) (b y : Bool) (o : Outcome) → Judges f g tt (located naming.0 block)
     → Judges g h b (this_fits s m t.0 class block) → y ≡ (b || barred) → Judges h k o (this_value naming.0 class y) → Judges f k o (this_found s m naming.0 t.0 class barred block)
@@ -148,12 +148,12 @@ this_found_in_steps s m naming t class barred block f g h k b y o one two is thr
     (judges_next (this_fits s m t.0 class block) (λ b. this_value naming.0 class (b || barred)) two (judges_as three (ap (this_value naming.0 class) is)))
 
 pub new_in_steps : (s : Tables) (naming t : TokenNo) (class : Denotation) (barred : Bool) (a : Actuals) (f g h k : Findings) (p q u v y z : Bool) (o : Outcome) → p ≡ wrong_number s class a → Judges f g u (bars p t.0 r.WrongNumber)
-    → q ≡ is_only_prefix s class → Judges g h v (bars q t.0 r.OnlyForPrefixing) → y ≡ (v || barred) → z ≡ (u || y) → Judges h k o (generated naming.0 class a z) → Judges f k o (new_of s naming.0 t.0 class barred a)
+    → q ≡ is_only_prefix s class → Judges g h v (bars q t.0 r.OnlyForPrefixing) → y ≡ (u || v) → z ≡ (y || barred) → Judges h k o (generated naming.0 class a z) → Judges f k o (new_of s naming.0 t.0 class barred a)
 new_in_steps s naming t class barred a f g h k p q u v y z o number one only two inner is three =
     judges_next (bars (wrong_number s class a) t.0 r.WrongNumber) (λ p. next (bars (is_only_prefix s class) t.0 r.OnlyForPrefixing) (λ q. generated naming.0 class a (p || q || barred)))
     (judges_as one (ap (λ z. bars z t.0 r.WrongNumber) number))
     (judges_next (bars (is_only_prefix s class) t.0 r.OnlyForPrefixing) (λ q. generated naming.0 class a (u || q || barred)) (judges_as two (ap (λ z. bars z t.0 r.OnlyForPrefixing) only))
-    (judges_as three (ap (generated naming.0 class a) (is ∙ ap (λ z. u || z) inner))))
+    (judges_as three (ap (generated naming.0 class a) (is ∙ ap (λ w. w || barred) inner))))
 
 pub remote_at_in_steps : (s : Tables) (m : Extent) (x : Identifier) (block : ℕ) (barred : Bool) (n : List ℕ) (d : Option Denotation) (f g : Findings) (o p : Occurrence) → d ≡ attribute_in s x.token.0 block n → n ≡ x.name
     → Judges f g o (remote_as s m x block d) → p ≡ barred_if barred o → Judges f g p (remote_at s m x block barred)

@@ -481,7 +481,6 @@ fn barred_outcome(outcome: Outcome) -> Outcome
 }
 
 /// An identifier that may not stand there, with its actuals: it has no type; alone it is judged on.
-#[tactic(auto, using(crate::proofs::Steps::or_barred_in_steps))]
 fn used_barred(
     scopes: &Scopes,
     found: &mut Found,

@@ -198,8 +198,8 @@ fn class_barred(
         Rule::WrongType,
     );
     let barred = class_fits(scopes, found, token, occurrence.denotes, operand.ty);
-    let inner = either(barred, occurrence.barred);
-    either(wrong, inner)
+    let inner = either(wrong, barred);
+    either(inner, occurrence.barred)
 }
 
 /// The type of an expression with `is` or `in`.
@@ -382,8 +382,8 @@ fn this_fits(
         token,
         Rule::BoundDependsOnItsBlock,
     );
-    let inner = either(only, depends);
-    either(outside, inner)
+    let inner = either(outside, only);
+    either(inner, depends)
 }
 
 #[tactic(auto, unfolding(sim_scope::specs::Judged::gives, sim_scope::specs::Runs::run))]
@@ -513,8 +513,8 @@ fn new_of(
         token,
         Rule::OnlyForPrefixing,
     );
-    let inner = either(only, barred);
-    let broken = either(wrong, inner);
+    let inner = either(wrong, only);
+    let broken = either(inner, barred);
     generated(found, naming, class, actuals, broken)
 }
 
