@@ -167,9 +167,9 @@ module _ (line k n : ℕ) (variable whole : Term) (terms : Terms) (f : term_weig
   dot_small s m (Some (denotation.Declared d)) stream is_variable = omega (arith, most)
   dot_small s m (Some (denotation.Standard name)) stream is_variable = behind_small s m stream (procedure_named name) is_variable
 
-image_small : (x : Option ℕ) (n : ℕ) → 1 ≤ n → term_weight (image_place x) ≤ n
-image_small None n h = h
-image_small (Some k) n h = h
+image_small : (x : Option ℕ) (other : Term) (n : ℕ) → 1 ≤ n → term_weight other ≤ n → term_weight (image_place x other) ≤ n
+image_small None other n h g = g
+image_small (Some k) other n h g = h
 
 -- ---- what objects have
 
@@ -331,9 +331,11 @@ mutual
       (omega arith))
       (named_place_small s m i (9 + expressions_weight es) (omega arith) line (close_all s m i es) (omega (arith, close_all_small s m i es)) (denoted s name.token.0) es)
   close_place_small s m i (syntax.Dot token a name es) =
-      if_small (declared_attribute (denoted s name.token.0)) _ _ (expression_weight (syntax.Dot token a name es))
-      (attribute_place_small s (line_at s name.token.0) (close s m i a) (close_all s m i es) (expression_weight (syntax.Dot token a name es)) (omega (arith, close_small s m i a, close_all_small s m i es)) es)
-      (image_small (stream_of s a) (expression_weight (syntax.Dot token a name es)) (omega arith))
+      let n = expression_weight (syntax.Dot token a name es) in
+      image_small (stream_of s a) _ n (omega arith)
+      (if_small (declared_attribute (denoted s name.token.0)) _ _ n
+      (attribute_place_small s (line_at s name.token.0) (close s m i a) (close_all s m i es) n (omega (arith, close_small s m i a, close_all_small s m i es)) es)
+      (omega arith))
   close_place_small s m i (syntax.If token c a b) = omega arith
   close_place_small s m i (syntax.Binary op token a b) = omega arith
   close_place_small s m i (syntax.Not token a) = omega arith

@@ -278,9 +278,10 @@ declared_place s m i line d (Some (entry.Array element dimensions)) es terms = a
 declared_place s m i line d (Some (entry.Formal f)) es terms = formal_place s m i line d f.mode f.kind es terms
 declared_place s m i line d _ es terms = Unbuilt
 
-abbrev pub image_place : Option ℕ → Term
-image_place None = Unbuilt
-image_place (Some image) = ImageOf image
+-- the image of a stream, or what else is in front of the dot
+abbrev pub image_place : (stream : Option ℕ) → (other : Term) → Term
+image_place None other = other
+image_place (Some image) other = ImageOf image
 
 abbrev pub named_place : Source → Instances → ℕ → (line : ℕ) → Option Denotation → Expressions → Terms → Term
 named_place s m i line (Some (denotation.Declared d)) es terms = declared_place s m i line d (entry_of s.tables d) es terms
@@ -357,7 +358,7 @@ abbrev mutual
       (λ k. if_any (declared_attribute (denoted s name.token.0)) (place_of_attribute s (line_at s name.token.0) (connected_object s m i k) es (close_all s m i es)) Unbuilt)
       (named_place s m i (line_at s name.token.0) (denoted s name.token.0) es (close_all s m i es))
   close_place s m i (syntax.Dot token a name es) =
-      if_any (declared_attribute (denoted s name.token.0)) (place_of_attribute s (line_at s name.token.0) (close s m i a) es (close_all s m i es)) (image_place (stream_of s a))
+      image_place (stream_of s a) (if_any (declared_attribute (denoted s name.token.0)) (place_of_attribute s (line_at s name.token.0) (close s m i a) es (close_all s m i es)) Unbuilt)
   close_place s m i _ = Unbuilt
 
   pub close_all : Source → Instances → ℕ → Expressions → Terms

@@ -14,7 +14,7 @@ use Rattle.sim_tree.specs.declared.expr.Membership.TheVariants as membership
 use Rattle.sim_tree.specs.Syntax.{Declarations, Statements}
 use Rattle.sim_code.specs.Instances.{Instance}
 use Rattle.sim_meaning.specs.Pending.{Held, Instances, Level}
-use Rattle.sim_meaning.specs.Texts.{ClassText, PrefixedText, Text, text}
+use Rattle.sim_meaning.specs.Texts.{ClassText, PrefixedText, StandardText, Text, text}
 
 -- ---- the levels of a text, by their numbers
 
@@ -103,8 +103,17 @@ belongs s m membership.In class j = is_in s m class j
 
 -- ---- classes that are named
 
+abbrev pub is_class : Option Text → Bool
+is_class (Some (ClassText prefix h ds ss)) = true
+is_class (Some (StandardText which)) = true
+is_class _ = false
+
+abbrev pub class_text : Source → Option ℕ → Option ℕ
+class_text s None = None
+class_text s (Some k) = if is_class (text s k) then Some k else None
+
 abbrev pub class_denoted : Source → Option Denotation → Option ℕ
-class_denoted s (Some (denotation.Declared d)) = class_block s.tables d
+class_denoted s (Some (denotation.Declared d)) = class_text s (class_block s.tables d)
 class_denoted s _ = None
 
 -- the text of the class that an identifier denotes
@@ -113,5 +122,5 @@ class_at s token = class_denoted s (denoted s token)
 
 -- the qualification of a reference, as the text of that class
 unfoldable pub qualification : Source → Option SimType → Option ℕ
-qualification s (Some (t.Ref d)) = class_block s.tables d
+qualification s (Some (t.Ref d)) = class_text s (class_block s.tables d)
 qualification s _ = None
