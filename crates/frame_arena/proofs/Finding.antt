@@ -11,14 +11,14 @@ use Rattle.frame_arena.specs.declared.slot.Slot.{Slot}
 use Rattle.frame_arena.specs.Stacks.{values_of}
 use Rattle.frame_arena.proofs.Tops.{none_held}
 
-module _ (line : ℕ) (o : World) (go : List Value → Run Machine) where
+module _ (line class : ℕ) (o : World) (go : List Value → Run Machine) where
   abbrev pub placing : ℕ → List ℤ → List Value → ArrayOf → Run Machine
-  placing array subscripts rest a = computing line (element_place a.bounds subscripts) o (λ index. go (Address (ElementPlace array index 0) ∷ rest))
+  placing array subscripts rest a = computing line (element_place a.bounds subscripts) o (λ index. go (Address (ElementPlace array index class) ∷ rest))
 
   abbrev pub taking_array : List ℤ → List Value → Run Machine
   taking_array subscripts rest = popping rest o (λ v rest. having (array_in v) o (λ array. having (live_array o array) o (placing array subscripts rest)))
 
-  pub finding : (n : ℕ) (values : List Value) → finding_element plain array_in n line values o (λ array k rest. go (Address (ElementPlace array k 0) ∷ rest)) ≡ pop_integers plain n [] values o taking_array
+  pub finding : (n : ℕ) (values : List Value) → finding_element plain array_in n line values o (λ array k rest. go (Address (ElementPlace array k class) ∷ rest)) ≡ pop_integers plain n [] values o taking_array
   unfolding finding_element
   finding n values = refl
 
@@ -62,8 +62,8 @@ module _ (line : ℕ) (o : World) (go : List Value → Run Machine) where
 
   pub placing_error : (array : ℕ) (subscripts : List ℤ) (rest : List Value) (a : ArrayOf) (e : RunError) → element_place a.bounds subscripts ≡ Err e → placing array subscripts rest a ≡ stopping (RunFault e line) o
   unfolding computing
-  placing_error array subscripts rest a e h = ap (λ r. computing line r o (λ index. go (Address (ElementPlace array index 0) ∷ rest))) h
+  placing_error array subscripts rest a e h = ap (λ r. computing line r o (λ index. go (Address (ElementPlace array index class) ∷ rest))) h
 
-  pub placing_ok : (array : ℕ) (subscripts : List ℤ) (rest : List Value) (a : ArrayOf) (k : ℕ) → element_place a.bounds subscripts ≡ Ok k → placing array subscripts rest a ≡ go (Address (ElementPlace array k 0) ∷ rest)
+  pub placing_ok : (array : ℕ) (subscripts : List ℤ) (rest : List Value) (a : ArrayOf) (k : ℕ) → element_place a.bounds subscripts ≡ Ok k → placing array subscripts rest a ≡ go (Address (ElementPlace array k class) ∷ rest)
   unfolding computing
-  placing_ok array subscripts rest a k h = ap (λ r. computing line r o (λ index. go (Address (ElementPlace array index 0) ∷ rest))) h
+  placing_ok array subscripts rest a k h = ap (λ r. computing line r o (λ index. go (Address (ElementPlace array index class) ∷ rest))) h

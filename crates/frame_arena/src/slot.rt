@@ -144,6 +144,8 @@ impl Slot {
     pub fn object(frame: FrameRef) -> Slot
         requires { frame.stamp < 2 ^ 63 }
         ensures value { value_of result ≡ Of (Object frame.stamp) }
+        ensures leads { (frames : List Frame) (m : Frames) → Leads frames m frame → SlotLeads frames m result }
+        ensures no_array { names_array result.kind ≡ false }
         ensures held { cell_value result ≡ Some (value_of result) }
     {
         Slot {

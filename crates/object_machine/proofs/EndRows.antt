@@ -1,6 +1,6 @@
 -- The end of the program.
 use Rattle.std.proofs.Common.{◌≡◌, ℕ, zero, suc, List, sym, subst, refl, ap, ◌∙◌, arith}
-use Rattle.std.specs.Prelude.{true, ℤ, pos, negsuc, false, ◌==◌, if◌then◌else◌, Option, Some, None, slice_get}
+use Rattle.std.specs.Prelude.{ℤ, pos, negsuc, false, ◌==◌, if◌then◌else◌, Option, Some, None, slice_get}
 use Rattle.sim_base.specs.declared.limits.Limits.{Limits}
 use Rattle.sim_code.specs.Code.{CodeOf}
 use Rattle.sim_code.specs.declared.instr.Instr.TheVariants as i
@@ -8,9 +8,7 @@ use Rattle.sim_code.specs.Events.{having, no_rule, stopping, when}
 use Rattle.sim_code.specs.Instances.{Instance}
 use Rattle.sim_code.specs.Machine.{Activation, Cells, Frames, Machine, number, text_in}
 use Rattle.sim_code.specs.Outcome.{Normal, Run, World}
-use Rattle.sim_code.specs.Rows.{no_class, row}
-use Rattle.object_machine.specs.Arrayed.{is_unqualified}
-use Rattle.object_machine.proofs.Scalars.{off}
+use Rattle.sim_code.specs.Rows.{row}
 use Rattle.frame_arena.specs.declared.slot.Slot.{Slot}
 use Rattle.object_machine.specs.declared.machine.Registers.{Registers}
 use Rattle.object_machine.specs.Standing.{activation_at}
@@ -56,17 +54,3 @@ pub when_program : (k : ℕ) (o : World) → k ≡ 0 → when {S = Machine} (k =
 unfolding when
 when_program zero o h = refl
 when_program (suc n) o h = ap (λ z. if z == 0 then stopping Normal o else no_rule o) h
-
--- ---- an operand that may name a class
-
-pub no_class_named : (z : ℤ) (o : World) (q : Run Machine) → is_unqualified z ≡ true → having (no_class z) o (λ _. q) ≡ q
-unfolding having
-no_class_named (pos zero) o q e = refl
-no_class_named (pos (suc n)) o q e = absurd (off e)
-no_class_named (negsuc n) o q e = absurd (off e)
-
-pub class_named : (z : ℤ) (o : World) (q : Run Machine) → is_unqualified z ≡ false → having (no_class z) o (λ _. q) ≡ no_rule o
-unfolding having
-class_named (pos zero) o q e = absurd (off (sym e))
-class_named (pos (suc n)) o q e = refl
-class_named (negsuc n) o q e = refl

@@ -29,3 +29,4 @@ pub mod Supplied
 pub mod Calls
 pub mod Taking
 pub mod Passing
+pub mod ClassRows

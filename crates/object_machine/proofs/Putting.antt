@@ -8,7 +8,8 @@ use Rattle.sim_code.specs.Events.{having, image_set, no_rule, popping}
 use Rattle.sim_code.specs.Instances.{CellPlace, ElementPlace, Place}
 use Rattle.sim_code.specs.Machine.{Address, ArrayValue, Frames, Link, Machine, Of, ProcedureValue, ThunkValue, Value, cell_set, place_in, plain}
 use Rattle.sim_code.specs.Outcome.{ArrayOf, Run, World}
-use Rattle.sim_code.specs.Rows.{putting}
+use Rattle.sim_code.specs.Code.{CodeOf}
+use Rattle.sim_code.specs.Rows.{putting, storing}
 use Rattle.frame_arena.specs.declared.slot.Slot.{Slot}
 use Rattle.frame_arena.specs.declared.slot.SlotKind.{SlotKind}
 use Rattle.frame_arena.specs.declared.slot.SlotKind.TheVariants as k
@@ -24,36 +25,6 @@ use Rattle.object_machine.proofs.ArrayRows.{none_at, off, stands_arrays, top_at}
 module _ (o : World) (m : Frames) (K : List Value → World → Frames → Run Machine) where
   abbrev pub placed : Value → List Value → Value → Run Machine
   placed v rest address = having (place_in address) o (λ place. putting place v o m (K rest))
-
-  abbrev pub put_row : List Value → Run Machine
-  put_row values = popping values o (λ v st. popping st o (λ address st. placed v st address))
-
-  two_put : (v a : Value) (rest : List Value) → put_row (v ∷ a ∷ rest) ≡ placed v rest a
-  unfolding popping
-  two_put v a rest = refl
-
-  pub put_two : (depth : ℕ) (stack : List Slot) → 2 ≤ depth → depth ≤ length stack → put_row (values_of depth stack) ≡ placed (value_of (slot_at stack (depth - 2 + 1))) (values_of (depth - 2) stack) (value_of (slot_at stack (depth - 2)))
-  put_two depth stack h h2 =
-      ap put_row (sym (top_at depth (depth - 2 + 1) stack (omega (arith, h)) h2))
-      ∙ ap (λ l. put_row (value_of (slot_at stack (depth - 2 + 1)) ∷ l)) (sym (top_at (depth - 2 + 1) (depth - 2) stack refl (omega (arith, h, h2))))
-      ∙ two_put (value_of (slot_at stack (depth - 2 + 1))) (value_of (slot_at stack (depth - 2))) (values_of (depth - 2) stack)
-
-  none_put : put_row [] ≡ no_rule o
-  unfolding popping
-  none_put = refl
-
-  one_put : (v : Value) → put_row (v ∷ []) ≡ no_rule o
-  unfolding popping
-  one_put v = refl
-
-  held_put : (stack : List Slot) → put_row (values_of 1 stack) ≡ no_rule o
-  held_put [] = none_put
-  held_put (x ∷ xs) = one_put (value_of x)
-
-  pub put_few : (depth : ℕ) (stack : List Slot) → depth < 2 → put_row (values_of depth stack) ≡ no_rule o
-  put_few zero stack h = ap put_row (none_at stack) ∙ none_put
-  put_few (suc zero) stack h = held_put stack
-  put_few (suc (suc n)) stack h = absurd (omega (arith, h))
 
   pub put_other : (j : SlotKind) (s : Slot) (v : Value) (rest : List Value) → (j ≡ k.Cell → ⊥) → (j ≡ k.Element → ⊥) → (j ≡ k.Image → ⊥) → placed v rest (value_by j s) ≡ no_rule o
   unfolding having putting
@@ -107,6 +78,42 @@ module _ (o : World) (m : Frames) (K : List Value → World → Frames → Run M
   unfolding having putting
   put_element_is s v rest e e2 =
       ap (λ j. placed v rest (value_by j s)) e ∙ ap (λ n. putting (ElementPlace (count_of s.«data») s.more n) v o m (K rest)) e2
+
+-- ---- the row of a value that is put
+
+module _ (code : CodeOf) (line : ℕ) (o : World) (m : Frames) (K : List Value → World → Frames → Run Machine) where
+  abbrev pub stored_at : Value → List Value → Value → Run Machine
+  stored_at v rest address = having (place_in address) o (λ p. storing code line p v o m (K rest))
+
+  abbrev pub put_row : List Value → Run Machine
+  put_row values = popping values o (λ v st. popping st o (λ address st. stored_at v st address))
+
+  two_put : (v a : Value) (rest : List Value) → put_row (v ∷ a ∷ rest) ≡ stored_at v rest a
+  unfolding popping
+  two_put v a rest = refl
+
+  pub put_two : (depth : ℕ) (stack : List Slot) → 2 ≤ depth → depth ≤ length stack → put_row (values_of depth stack) ≡ stored_at (value_of (slot_at stack (depth - 2 + 1))) (values_of (depth - 2) stack) (value_of (slot_at stack (depth - 2)))
+  put_two depth stack h h2 =
+      ap put_row (sym (top_at depth (depth - 2 + 1) stack (omega (arith, h)) h2))
+      ∙ ap (λ l. put_row (value_of (slot_at stack (depth - 2 + 1)) ∷ l)) (sym (top_at (depth - 2 + 1) (depth - 2) stack refl (omega (arith, h, h2))))
+      ∙ two_put (value_of (slot_at stack (depth - 2 + 1))) (value_of (slot_at stack (depth - 2))) (values_of (depth - 2) stack)
+
+  none_put : put_row [] ≡ no_rule o
+  unfolding popping
+  none_put = refl
+
+  one_put : (v : Value) → put_row (v ∷ []) ≡ no_rule o
+  unfolding popping
+  one_put v = refl
+
+  held_put : (stack : List Slot) → put_row (values_of 1 stack) ≡ no_rule o
+  held_put [] = none_put
+  held_put (x ∷ xs) = one_put (value_of x)
+
+  pub put_few : (depth : ℕ) (stack : List Slot) → depth < 2 → put_row (values_of depth stack) ≡ no_rule o
+  put_few zero stack h = ap put_row (none_at stack) ∙ none_put
+  put_few (suc zero) stack h = held_put stack
+  put_few (suc (suc n)) stack h = absurd (omega (arith, h))
 
 pub not_plain : (v : Value) → is_plain v ≡ false → None ≡ plain v
 not_plain (Of p) h = absurd (off h)

@@ -13,3 +13,4 @@ pub mod Arrayed
 pub mod Covering
 pub mod Calling
 pub mod Taking
+pub mod Classing

@@ -5,17 +5,21 @@ ghost use Rattle.sim_code.specs.Events.{having, pop_integers, popping};
 ghost use Rattle.sim_code.specs.Instances.{ElementPlace};
 ghost use Rattle.sim_code.specs.Machine.{Address, ArrayValue, Frames, pushing, array_in, index as index_of, on, place_in, plain, value_at as value_at_place};
 ghost use Rattle.sim_code.specs.Outcome.{World};
-ghost use Rattle.sim_code.specs.Rows.{element_kind, no_class, putting};
+ghost use Rattle.sim_code.specs.Rows.{element_kind, row};
+ghost use Rattle.sim_code.specs.Code.{CodeOf};
+ghost use Rattle.sim_code.specs.declared.instr.Instr.{Instr};
+ghost use Rattle.object_machine.specs.Placing.{LeadsFrom, placed_in};
 ghost use Rattle.frame_arena.specs.Arrays.{AllLeadArrays, ElementsLead, HoldsArrays, SlotLeadsArray};
 ghost use Rattle.frame_arena.specs.Frames.{AllLead, Holds, SlotLeads, found_value};
 ghost use Rattle.frame_arena.specs.Slots.{count_of, value_of};
 ghost use Rattle.sim_code.specs.Outcome.{ArrayOf};
-ghost use Rattle.frame_arena.specs.Stacks.{integers_from, slot_at};
+ghost use Rattle.frame_arena.specs.Stacks.{integers_from, slot_at, values_of};
 ghost use Rattle.object_machine.specs.Arrayed.{value_there};
-ghost use Rattle.object_machine.specs.Standing.{Advances, HasImages, Obeys, Outside};
+ghost use Rattle.object_machine.specs.Standing.{Advances, HasImages, Leaves, Obeys, Outside, Stands, Untouched, activation_at, below_of};
 ghost use Rattle.sim_base.specs.declared.limits.Limits.{Limits as LimitsOf};
 ghost use Rattle.object_machine.specs.declared.machine.Storage.{Storage as StorageOf};
 
+use crate::cells::unqualified;
 use crate::constants::{element, index};
 use crate::machine::{Activation, Flow, Images, Registers, Storage};
 use crate::operands::{settle, settle_applied};
@@ -28,18 +32,30 @@ use sim_base::Limits;
 use sim_values::words_array;
 use std::alloc::{AllocError, Global};
 
-// Whether no class is named.
+/// The address of an element with a class, from the array and as many subscripts.
 #[inline(always)]
-fn unqualified(class: i64) -> Option<()>
-    ensures { result ≡ no_class class }
+pub fn element_address(
+    arrays: &Arrays,
+    stack: &mut [Slot],
+    regs: &mut Registers,
+    count: i64,
+    class: u32,
+) -> Flow
+    requires fits { regs.old.depth ≤ length stack.old }
+    requires short { regs.old.pc + 1 < 2 ^ 64 }
+    ensures fits { regs.new.depth ≤ length stack.new }
+    ensures next { Advances result regs.old regs.new }
+    ensures row { (l : Limits) (line : ℕ) (p : Storage) (below : List Activation) (now : Outside) → p.arrays ≡ arrays.now →
+        Obeys result l line (λ o m a b. index_of count o (λ n. finding_element plain array_in n line a.stack o (λ array k st. on o m a (Address (ElementPlace array k class) ∷ st) b))) p p regs.old regs.new stack.old stack.new below below now now }
 {
-    match class {
-        0 => Some(()),
-        _ => None,
-    }
+    let Some(number) = index(count) else {
+        return Flow::NoRule;
+    };
+    let applied = arrays.find_element(stack, regs.depth, number, class);
+    settle_applied(regs, applied)
 }
 
-/// The address of an element, from the array and as many subscripts.
+/// The address of an element, from the array and as many subscripts, where no class is named.
 #[inline(always)]
 pub fn elem(
     arrays: &Arrays,
@@ -47,22 +63,19 @@ pub fn elem(
     regs: &mut Registers,
     count: i64,
     class: i64,
-) -> Flow
+) -> Option<Flow>
     requires fits { regs.old.depth ≤ length stack.old }
     requires short { regs.old.pc + 1 < 2 ^ 64 }
     ensures fits { regs.new.depth ≤ length stack.new }
-    ensures next { Advances result regs.old regs.new }
-    ensures row { (l : Limits) (line : ℕ) (p : Storage) (below : List Activation) (now : Outside) → p.arrays ≡ arrays.now →
-        Obeys result l line (λ o m a b. having (no_class class) o (λ _. index_of count o (λ n. finding_element plain array_in n line a.stack o (λ array k st. on o m a (Address (ElementPlace array k 0) ∷ st) b)))) p p regs.old regs.new stack.old stack.new below below now now }
+    ensures other { (p : Storage) → Untouched result p p regs.old regs.new stack.old stack.new }
+    ensures next { IfSome result (λ f. Advances f regs.old regs.new) }
+    ensures row { IfSome result (λ f. (code : CodeOf) (l : Limits) (line : ℕ) (p : Storage) (below : List Activation) (now : Outside) → p.arrays ≡ arrays.now →
+        Obeys f l line (λ o m a b. row code l o m a b line (Instr.Elem count class)) p p regs.old regs.new stack.old stack.new below below now now) }
 {
-    let Some(_) = unqualified(class) else {
-        return Flow::NoRule;
-    };
-    let Some(number) = index(count) else {
-        return Flow::NoRule;
-    };
-    let applied = arrays.find_element(stack, regs.depth, number);
-    settle_applied(regs, applied)
+    if !unqualified(class) {
+        return None;
+    }
+    Some(element_address(arrays, stack, regs, count, 0))
 }
 
 /// Puts the value at an address in its place.
@@ -226,23 +239,25 @@ pub fn copy_array(
     Flow::On
 }
 
-/// Puts a value where an address below it leads.
+/// Puts a value where an address leads, and goes on with the values below a place.
 #[inline(always)]
-pub fn put(storage: &mut Storage, stack: &[Slot], regs: &mut Registers) -> Flow
-    requires fits { regs.old.depth ≤ length stack.now }
+pub fn put_down(
+    storage: &mut Storage,
+    address: Slot,
+    value: Slot,
+    at: usize,
+    regs: &mut Registers,
+) -> Flow
     requires short { regs.old.pc + 1 < 2 ^ 64 }
-    ensures fits { regs.new.depth ≤ length stack.now }
+    ensures fits { (room : ℕ) → regs.old.depth ≤ room → at ≤ room → regs.new.depth ≤ room }
     ensures valid { HasImages storage.old.texts storage.old.image → HasImages storage.new.texts storage.new.image }
     ensures frames { storage.new.frames ≡ storage.old.frames }
     ensures next { Advances result regs.old regs.new }
-    ensures row { (l : LimitsOf) (line : ℕ) (below : List Activation) (now : Outside) →
-        Obeys result l line (λ o m a b. popping a.stack o (λ v st. popping st o (λ address st. having (place_in address) o (λ place. putting place v o m (λ o m. on o m a st b))))) storage.old storage.new regs.old regs.new stack.now stack.now below below now now }
+    ensures row { (l : LimitsOf) (line : ℕ) (stack : List Slot) (below : List Activation) (before : Option (List ℕ)) (now : Outside) (o : World) (m : Frames) →
+        Stands l storage.old regs.old stack below before now o m → LeadsFrom storage.old o m address → LeadsFrom storage.old o m value →
+        Leaves result l line storage.new regs.new stack below before now (placed_in o m address value (λ o m. on o m (activation_at regs.old stack) (values_of at stack) (below_of below))) }
 {
-    if regs.depth < 2 {
-        return Flow::NoRule;
-    }
-    let at = regs.depth - 2;
-    match place(storage, stack[at], stack[at + 1]) {
+    match place(storage, address, value) {
         Placing::Done => {
             regs.depth = at;
             regs.pc += 1;
@@ -251,4 +266,27 @@ pub fn put(storage: &mut Storage, stack: &[Slot], regs: &mut Registers) -> Flow
         Placing::NoRule => Flow::NoRule,
         Placing::Memory => Flow::Memory,
     }
+}
+
+/// Puts a value where an address below it leads, which has no class.
+#[inline(always)]
+pub fn put(storage: &mut Storage, stack: &[Slot], regs: &mut Registers) -> Option<Flow>
+    requires fits { regs.old.depth ≤ length stack.now }
+    requires short { regs.old.pc + 1 < 2 ^ 64 }
+    ensures fits { regs.new.depth ≤ length stack.now }
+    ensures valid { HasImages storage.old.texts storage.old.image → HasImages storage.new.texts storage.new.image }
+    ensures frames { storage.new.frames ≡ storage.old.frames }
+    ensures other { Untouched result storage.old storage.new regs.old regs.new stack.now stack.now }
+    ensures next { IfSome result (λ f. Advances f regs.old regs.new) }
+    ensures row { IfSome result (λ f. (code : CodeOf) (l : LimitsOf) (line : ℕ) (below : List Activation) (now : Outside) →
+        Obeys f l line (λ o m a b. row code l o m a b line Instr.Put) storage.old storage.new regs.old regs.new stack.now stack.now below below now now) }
+{
+    if regs.depth < 2 {
+        return Some(Flow::NoRule);
+    }
+    let at = regs.depth - 2;
+    if stack[at].class != 0 {
+        return None;
+    }
+    Some(put_down(storage, stack[at], stack[at + 1], at, regs))
 }

@@ -6,7 +6,7 @@ ghost use Rattle.sim_code.specs.Machine.{Activation as ActivationOf, Address, Fr
 ghost use Rattle.sim_code.specs.Outcome.{Run, World};
 ghost use Rattle.sim_code.specs.Code.{CodeOf};
 ghost use Rattle.sim_code.specs.declared.instr.Instr.{Instr};
-ghost use Rattle.sim_code.specs.Rows.{no_class, pushed, row};
+ghost use Rattle.sim_code.specs.Rows.{pushed, row};
 ghost use Rattle.frame_arena.specs.Frames.{Has, Holds, IsSpan, Leads, number_in, span_number};
 ghost use Rattle.frame_arena.specs.Slots.{cell_value, value_of};
 ghost use Rattle.frame_arena.specs.Stacks.{slot_at};
@@ -14,7 +14,7 @@ ghost use Rattle.frame_arena.specs.Arrays.{AllLeadArrays, RegionOf, SlotLeadsArr
 ghost use Rattle.frame_arena.specs.Frames.{AllLead, SlotLeads};
 ghost use Rattle.sim_code.specs.Outcome.{ArrayOf};
 ghost use Rattle.object_machine.specs.Arrayed.{is_unqualified};
-ghost use Rattle.object_machine.specs.Standing.{Advances, Obeys, Outside, SameBut};
+ghost use Rattle.object_machine.specs.Standing.{Advances, Obeys, Outside, SameBut, Untouched};
 
 use crate::constants::index;
 use crate::machine::{Activation, Flow, Registers, Storage};
@@ -172,8 +172,8 @@ pub fn end_level(frames: &[Frame], regs: &Registers, operand: i64) -> Flow
     Flow::Normal
 }
 
-/// Pushes the address of a cell. It stops as for want of memory where the cell's number is 2^32 or more: no frame has such a cell.
-/// `own` is the span of some frame.
+/// Pushes the address of a cell, where no class is named. It stops as for want of memory where the cell's number is 2^32 or more: no
+/// frame has such a cell. `own` is the span of some frame.
 #[inline(always)]
 pub fn address(
     frames: &[Frame],
@@ -183,6 +183,31 @@ pub fn address(
     level: i64,
     cell: i64,
     class: i64,
+) -> Option<Flow>
+    requires own { IsSpan frames.now own }
+    requires fits { regs.old.depth ≤ length stack.old }
+    requires short { regs.old.pc + 1 < 2 ^ 64 }
+    ensures fits { regs.new.depth ≤ length stack.new }
+    ensures other { (p : Storage) → Untouched result p p regs.old regs.new stack.old stack.new }
+    ensures next { IfSome result (λ f. Advances f regs.old regs.new) }
+    ensures row { IfSome result (λ f. (code : CodeOf) (l : Limits) (line : ℕ) (p : Storage) (below : List Activation) (now : Outside) → p.frames.items ≡ frames.now →
+        Obeys f l line (λ o m a b. row code l o m a b line (Instr.Addr level cell class)) p p regs.old regs.new stack.old stack.new below below now now) }
+{
+    if !unqualified(class) {
+        return None;
+    }
+    Some(plain_address(frames, own, stack, regs, level, cell))
+}
+
+// The same, without a class.
+#[inline(always)]
+fn plain_address(
+    frames: &[Frame],
+    own: Span,
+    stack: &mut [Slot],
+    regs: &mut Registers,
+    level: i64,
+    cell: i64,
 ) -> Flow
     requires own { IsSpan frames.now own }
     requires fits { regs.old.depth ≤ length stack.old }
@@ -190,11 +215,8 @@ pub fn address(
     ensures fits { regs.new.depth ≤ length stack.new }
     ensures next { Advances result regs.old regs.new }
     ensures row { (l : Limits) (line : ℕ) (p : Storage) (below : List Activation) (now : Outside) → p.frames.items ≡ frames.now →
-        Obeys result l line (λ o m a b. having (no_class class) o (λ _. cell_at m a level cell o (λ j c. pushed o m a b (Address (CellPlace j c 0))))) p p regs.old regs.new stack.old stack.new below below now now }
+        Obeys result l line (λ o m a b. cell_at m a level cell o (λ j c. pushed o m a b (Address (CellPlace j c 0)))) p p regs.old regs.new stack.old stack.new below below now now }
 {
-    if !unqualified(class) {
-        return Flow::NoRule;
-    }
     let Some(span) = level_span(frames, own, regs.home, level) else {
         return Flow::NoRule;
     };
@@ -214,9 +236,9 @@ pub fn address(
     push(stack, regs, Slot::cell(frame, short, 0))
 }
 
-// Whether no class is named.
+/// Whether no class is named.
 #[inline(always)]
-fn unqualified(class: i64) -> bool
+pub fn unqualified(class: i64) -> bool
     ensures { result ≡ is_unqualified class }
 {
     match class {

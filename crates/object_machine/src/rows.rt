@@ -14,6 +14,10 @@ use crate::cells::{address, end_level, link, load, store};
 use crate::control::{jump, jump_if_false, tick};
 use crate::machine::{Activation, Flow, Registers, Storage};
 use crate::names::quiet_standard;
+use crate::objects::{
+    attribute_address, not_none, qua, qualified_address, qualified_element, qualified_put,
+    test_class, this,
+};
 use crate::operands::{
     drop_top, dup, one, push_character, push_integer, push_none, push_truth, relation, step_test,
     swap, two,
@@ -23,7 +27,7 @@ use crate::texts::{image_address, notext};
 use frame_arena::Slot;
 use frame_arena::frames::Span;
 use sim_base::Limits;
-use sim_code::{Instr, Lined};
+use sim_code::{BlockRecord, ClassRecord, Instr, Lined};
 use sim_values::{Calculation, Connective, Dyadic, Monadic};
 
 // The end of the program.
@@ -103,18 +107,10 @@ pub fn obey(
             cell,
         )),
         Instr::Link(level) => Some(link(&storage.frames, stack, regs, level)),
-        Instr::Addr { level, cell, class } => Some(address(
-            &storage.frames,
-            own,
-            stack,
-            regs,
-            level,
-            cell,
-            class,
-        )),
-        Instr::Elem { subscripts, class } => {
-            Some(elem(&storage.arrays, stack, regs, subscripts, class))
+        Instr::Addr { level, cell, class } => {
+            address(&storage.frames, own, stack, regs, level, cell, class)
         }
+        Instr::Elem { subscripts, class } => elem(&storage.arrays, stack, regs, subscripts, class),
         Instr::Fetch => Some(fetch(
             &storage.frames,
             &storage.cells,
@@ -123,7 +119,7 @@ pub fn obey(
             stack,
             regs,
         )),
-        Instr::Put => Some(put(storage, stack, regs)),
+        Instr::Put => put(storage, stack, regs),
         Instr::Dup => Some(dup(stack, regs)),
         Instr::Pop => Some(drop_top(stack, regs)),
         Instr::Swap => Some(swap(stack, regs)),
@@ -152,6 +148,8 @@ pub fn obey(
 /// Does an instruction that leaves the frame on top where it is, of those that `obey` does not do; at one that it does the machine
 /// stops as for want of memory.
 pub fn obey_other(
+    blocks: &[BlockRecord],
+    classes: &[ClassRecord],
     limits: &Limits,
     storage: &mut Storage,
     stack: &mut [Slot],
@@ -163,7 +161,7 @@ pub fn obey_other(
     requires images { HasImages storage.old.texts storage.old.image }
     ensures fits { regs.new.depth ≤ length stack.new }
     ensures valid { HasImages storage.new.texts storage.new.image }
-    ensures row { (code : CodeOf) (line : ℕ) (below : List Activation) (now : Outside) →
+    ensures row { (code : CodeOf) (line : ℕ) (below : List Activation) (now : Outside) → code.blocks ≡ blocks.now → code.classes ≡ classes.now →
         Obeys result limits.now line (λ o m a b. row code limits.now o m a b line instr) storage.old storage.new regs.old regs.new stack.old stack.new below below now now }
 {
     match instr {
@@ -176,13 +174,20 @@ pub fn obey_other(
         Instr::RelT(operand) => relation_of_texts(&storage.texts, stack, regs, operand),
         Instr::SameT => relate(&storage.texts, stack, regs, None),
         Instr::EndLevel(level) => end_level(&storage.frames, regs, level),
-        Instr::This(_) => no_rule(),
-        Instr::AddrR { .. } => no_rule(),
+        Instr::This(level) => this(&storage.frames, stack, regs, level),
+        Instr::Addr { level, cell, class } => {
+            qualified_address(&storage.frames, classes, stack, regs, level, cell, class)
+        }
+        Instr::AddrR { cell, class } => attribute_address(classes, stack, regs, cell, class),
+        Instr::Elem { subscripts, class } => {
+            qualified_element(&storage.arrays, classes, stack, regs, subscripts, class)
+        }
+        Instr::Put => qualified_put(blocks, classes, storage, stack, regs),
         Instr::AddrImg(number) => image_address(stack, regs, number),
         Instr::NoText => notext(stack, regs),
-        Instr::Is(_) => no_rule(),
-        Instr::In(_) => no_rule(),
-        Instr::Qua(_) => no_rule(),
+        Instr::Is(class) => test_class(&storage.frames, blocks, classes, true, stack, regs, class),
+        Instr::In(class) => test_class(&storage.frames, blocks, classes, false, stack, regs, class),
+        Instr::Qua(class) => qua(&storage.frames, blocks, classes, stack, regs, class),
         Instr::ProcVal(_) => no_rule(),
         Instr::Virt(_) => no_rule(),
         Instr::Check(_) => no_rule(),
@@ -200,7 +205,7 @@ pub fn obey_other(
         Instr::Detach => no_rule(),
         Instr::Attach => no_rule(),
         Instr::Resume => no_rule(),
-        Instr::NotNone => no_rule(),
+        Instr::NotNone => not_none(stack, regs),
         _ => not_built(),
     }
 }

@@ -44,6 +44,7 @@ pub fn run<I: Source, O: Sink>(
                 &code.blocks,
                 &code.instrs,
                 &code.texts,
+                &code.classes,
                 limits,
                 &mut storage,
                 input,

@@ -19,7 +19,7 @@ use crate::pairs::assign;
 use crate::rows::obey_other;
 use crate::texts::constant;
 use sim_base::{ByteString, Limits};
-use sim_code::{BlockRecord, Instr, Lined};
+use sim_code::{BlockRecord, ClassRecord, Instr, Lined};
 use sim_ports::{Sink, Source};
 use std::alloc::Global;
 
@@ -45,6 +45,7 @@ pub fn step<I: Source, O: Sink>(
     blocks: &[BlockRecord],
     instrs: &[Lined],
     constants: &[ByteString],
+    classes: &[ClassRecord],
     limits: &Limits,
     storage: &mut Storage,
     input: &mut I,
@@ -65,7 +66,7 @@ pub fn step<I: Source, O: Sink>(
     ensures read { InputEnds (I.faults input.old) (I.faults input.new) result }
     ensures takes { (s : List ℕ) → I.left input.old ≡ Some s → (code : CodeOf) (line : ℕ) →
         StepTakes limits.now (λ o m a b. row code limits.now o m a b line instr) storage.old top.old.registers top.old.stack.items below.old.items (outside (O.written out.old) s) input.old input.new }
-    ensures row { Onward (I.left input.old) (I.left input.new) (λ s t. Still result (O.written out.old) (O.written out.new) × ((code : CodeOf) (line : ℕ) → code.blocks ≡ blocks.now → code.instrs ≡ instrs.now → code.texts ≡ constants.now →
+    ensures row { Onward (I.left input.old) (I.left input.new) (λ s t. Still result (O.written out.old) (O.written out.new) × ((code : CodeOf) (line : ℕ) → code.blocks ≡ blocks.now → code.instrs ≡ instrs.now → code.texts ≡ constants.now → code.classes ≡ classes.now →
         Obeys result limits.now line (λ o m a b. row code limits.now o m a b line instr) storage.old storage.new top.old.registers top.new.registers top.old.stack.items top.new.stack.items below.old.items below.new.items (outside (O.written out.old) s) (outside (O.written out.new) t))) }
 {
     match instr {
@@ -105,7 +106,15 @@ pub fn step<I: Source, O: Sink>(
             without_ports(flow)
         }
         _ => {
-            let flow = obey_other(limits, storage, &mut top.stack, &mut top.registers, instr);
+            let flow = obey_other(
+                blocks,
+                classes,
+                limits,
+                storage,
+                &mut top.stack,
+                &mut top.registers,
+                instr,
+            );
             without_ports(flow)
         }
     }

@@ -18,7 +18,7 @@ use Rattle.sim_values.specs.Store.{Effect, Store, output_of, writes}
 use Rattle.sim_values.specs.Texts.{assign, characters}
 use Rattle.sim_values.specs.Words.{array_words, is_exhausted}
 use Rattle.sim_code.specs.Outcome.{ArrayOf, Ending, Ended, Going, Run, World, after, next}
-use Rattle.sim_code.specs.Events.{answering, applying_one, applying_two, assigning, choosing, computing, entering, having, integer_in, no_rule, performing, pop_integers, pop_many, pop_operands, pop_plain, pop_text, pop_truth, popping, putting_back, stopping, taking, testing_step, text_val, ticking, truth_in, when, with_texts}
+use Rattle.sim_code.specs.Events.{answering, applying_one, applying_two, assigning, choosing, computing, entering, having, integer_in, no_rule, performing, pop_integers, pop_many, pop_object, pop_operands, pop_plain, pop_text, pop_truth, popping, putting_back, referring, stopping, taking, testing_step, text_val, ticking, truth_in, when, with_texts}
 use Rattle.sim_code.specs.Arrays.{copying_array, element_place, finding_element, keeping_array, live_array, making_array}
 use Rattle.sim_code.specs.Growing.{Grown, written}
 
@@ -332,6 +332,19 @@ module _ (S : Type 0) where
     pub grows_text : (vals : List V) (o : World) (go : TextVal → List V → Run S) → ((t : TextVal) (rest : List V) → Grows o.store.written (go t rest)) → Grows o.store.written (pop_text plain vals o go)
     unfolding pop_text
     grows_text vals o go h = grows_plain vals o _ (λ p rest. grows_having TextVal (text_val p) o _ (λ t _. h t rest))
+
+    grows_referring : (line : ℕ) (p : Plain) (o : World) (go : ℕ → Run S) → ((j : ℕ) → Grows o.store.written (go j)) → Grows o.store.written (referring line p o go)
+    unfolding referring
+    grows_referring line (Object j) o go h = h j
+    grows_referring line Nothing o go h = grows_stopping _ o
+    grows_referring line (Integer z) o go h = grows_no_rule o
+    grows_referring line (Truth b) o go h = grows_no_rule o
+    grows_referring line (Character c) o go h = grows_no_rule o
+    grows_referring line (Text t) o go h = grows_no_rule o
+
+    pub grows_object : (line : ℕ) (vals : List V) (o : World) (go : ℕ → List V → Run S) → ((j : ℕ) (rest : List V) → Grows o.store.written (go j rest)) → Grows o.store.written (pop_object plain line vals o go)
+    unfolding pop_object
+    grows_object line vals o go h = grows_plain vals o _ (λ p rest. grows_referring line p o _ (λ j. h j rest))
 
     pub grows_assigning : (line : ℕ) (vals : List V) (o : World) (go : World → List V → Run S) → ((p : World) (rest : List V) → Grows p.store.written (go p rest)) → Grows o.store.written (assigning plain line vals o go)
     unfolding assigning

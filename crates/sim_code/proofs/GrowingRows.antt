@@ -21,9 +21,10 @@ use Rattle.sim_code.specs.Events.{image_moved, image_set, no_rule, text_val}
 use Rattle.sim_code.specs.Arrays.{element, element_set, element_set_in, giving_back, handed_over, live_array, owned_by, with_array}
 use Rattle.sim_code.specs.Instances.{CellPlace, ElementPlace, ImagePlace, Place, at_level, is_given_at_end, is_live}
 use Rattle.sim_code.specs.Machine.{Activation, Address, ArrayValue, Cells, Frames, Link, Machine, Of, ProcedureValue, ThunkValue, Value, arrays_by_value, words_of_block, array_in, block_at, cell, cell_at, cell_set, frame_in, index, jumping, leaving, level, number, operand, own_block, owner, place_in, plain, pushing, pushing_any, same_kind, value_at, with_result}
-use Rattle.sim_code.specs.Rows.{code_of, comparison_of, element_kind, entering_procedure, mstep, mrun, no_class, on_chain, one_row, opening, pushed, put_back, putting, row, standard_of, truth_of, two_row}
+use Rattle.sim_code.specs.Classes.{admitting, class_named, in_class, is_in, is_of, may_stand, qualifying}
+use Rattle.sim_code.specs.Rows.{class_at, code_of, comparison_of, element_kind, entering_procedure, mstep, mrun, no_class, on_chain, one_row, opening, pushed, put_back, putting, qualified, row, standard_of, storing, truth_of, two_row, without_class}
 use Rattle.sim_code.specs.Growing.{Grown, OutputGrows, written}
-use Rattle.sim_code.proofs.Growing.{Grows, after_grows, after_more, grown_same, grows_assigning, grows_choosing, grows_copying, grows_entering, grows_finding, grows_having, grows_if, grows_integers, grows_keeping, grows_making, grows_many, grows_no_rule, grows_one, grows_performing, grows_popping, grows_step, grows_stopping, grows_ticking, grows_truth, grows_two, grows_when}
+use Rattle.sim_code.proofs.Growing.{Grows, after_grows, after_more, grown_same, grows_assigning, grows_choosing, grows_copying, grows_entering, grows_finding, grows_having, grows_if, grows_integers, grows_keeping, grows_making, grows_many, grows_no_rule, grows_object, grows_one, grows_performing, grows_plain, grows_popping, grows_step, grows_stopping, grows_ticking, grows_truth, grows_two, grows_when}
 
 -- going on here writes nothing
 abbrev Here : World → Run Machine → Type 0
@@ -126,6 +127,22 @@ putting_grows (ElementPlace a n zero) v o m go h = grows_having Machine Plain (p
 putting_grows (ElementPlace a n (suc k)) v o m go h = grows_no_rule Machine o
 putting_grows (ImagePlace n) v o m go h = grows_having Machine Plain (plain v) o _ (λ p _. grows_having Machine World (image_set o n p) o _ (λ q is. subst (λ w. Grows w (go q m)) (image_same o n p q is) (h q m)))
 
+-- classes
+qualified_grows : (code : CodeOf) (z : ℤ) (o : World) (go : ℕ → Run Machine) → ((q : ℕ) → Here o (go q)) → Here o (qualified code z o go)
+qualified_grows code (pos zero) o go h = grows_having Machine (Unit {0}) (no_class (pos zero)) o _ (λ _ _. h 0)
+qualified_grows code (pos (suc n)) o go h = grows_having Machine ℕ (class_named code (pos (suc n))) o go (λ q _. h q)
+qualified_grows code (negsuc n) o go h = grows_having Machine ℕ (class_named code (negsuc n)) o go (λ q _. h q)
+
+qualifying_grows : (line : ℕ) (holds : Option Bool) (o : World) (r : Run Machine) → Here o r → Here o (qualifying line holds o r)
+qualifying_grows line holds o r h = grows_having Machine Bool holds o _ (λ b _. grows_choosing Machine b o r _ h (grows_stopping Machine _ o))
+
+admitting_grows : (code : CodeOf) (m : Frames) (line class : ℕ) (v : Value) (o : World) (r : Run Machine) → Here o r → Here o (admitting code m line class v o r)
+admitting_grows code m line zero v o r h = h
+admitting_grows code m line (suc c) v o r h = qualifying_grows line (may_stand code m (suc c) (plain v)) o r h
+
+storing_grows : (code : CodeOf) (line : ℕ) (p : Place ℕ ℕ) (v : Value) (o : World) (m : Frames) (go : World → Frames → Run Machine) → ((o : World) (m : Frames) → Here o (go o m)) → Here o (storing code line p v o m go)
+storing_grows code line p v o m go h = admitting_grows code m line (class_at p) v o _ (putting_grows (without_class p) v o m go h)
+
 back_grows : (v : Value) (t : TextVal) (o : World) (m : Frames) (go : World → Frames → Run Machine) → ((o : World) (m : Frames) → Here o (go o m)) → Here o (put_back v t o m go)
 unfolding put_back
 back_grows (Of p) t o m go h = h o m
@@ -164,13 +181,13 @@ row_grows code l o m a below line (i.TextK z) = index_grows z o _ (λ n. grows_h
 row_grows code l o m a below line i.None = push_grows o m a below _
 row_grows code l o m a below line i.NoText = push_grows o m a below _
 row_grows code l o m a below line (i.Link z) = level_grows m a z o _ (λ j. push_grows o m a below _)
-row_grows code l o m a below line (i.This z) = none o
-row_grows code l o m a below line (i.Addr z c class) = grows_having Machine (Unit {0}) (no_class class) o _ (λ _ _. cell_grows m a z c o _ (λ j c. push_grows o m a below _))
-row_grows code l o m a below line (i.AddrR c class) = none o
+row_grows code l o m a below line (i.This z) = level_grows m a z o _ (λ j. push_grows o m a below _)
+row_grows code l o m a below line (i.Addr z c class) = qualified_grows code class o _ (λ q. cell_grows m a z c o _ (λ j c. push_grows o m a below _))
+row_grows code l o m a below line (i.AddrR c class) = qualified_grows code class o _ (λ q. grows_object Machine Value plain line a.stack o _ (λ j stack. index_grows c o _ (λ c. going o _)))
 row_grows code l o m a below line (i.AddrImg z) = index_grows z o _ (λ n. grows_having Machine TextVal (image_at o.store n) o _ (λ _ _. push_grows o m a below _))
-row_grows code l o m a below line (i.Elem n class) = grows_having Machine (Unit {0}) (no_class class) o _ (λ _ _. index_grows n o _ (λ n. grows_finding Machine Value plain array_in n line a.stack o _ (λ array k stack. going o _)))
+row_grows code l o m a below line (i.Elem n class) = qualified_grows code class o _ (λ q. index_grows n o _ (λ n. grows_finding Machine Value plain array_in n line a.stack o _ (λ array k stack. going o _)))
 row_grows code l o m a below line i.Fetch = grows_popping Machine Value plain a.stack o _ (λ v stack. grows_having Machine (Place ℕ ℕ) (place_in v) o _ (λ p _. grows_having Machine Value (value_at o m p) o _ (λ v _. going o _)))
-row_grows code l o m a below line i.Put = grows_popping Machine Value plain a.stack o _ (λ v stack. grows_popping Machine Value plain stack o _ (λ p stack. grows_having Machine (Place ℕ ℕ) (place_in p) o _ (λ p _. putting_grows p v o m _ (λ o m. going o _))))
+row_grows code l o m a below line i.Put = grows_popping Machine Value plain a.stack o _ (λ v stack. grows_popping Machine Value plain stack o _ (λ p stack. grows_having Machine (Place ℕ ℕ) (place_in p) o _ (λ p _. storing_grows code line p v o m _ (λ o m. going o _))))
 row_grows code l o m a below line (i.Load z c) = cell_grows m a z c o _ (λ j c. grows_having Machine Value (cell m j c) o _ (λ v _. push_grows o m a below v))
 row_grows code l o m a below line (i.Store z c) = grows_popping Machine Value plain a.stack o _ (λ v stack. cell_grows m a z c o _ (λ j c. grows_having Machine Frames (cell_set m j c v) o _ (λ m _. going o _)))
 row_grows code l o m a below line i.Dup = grows_popping Machine Value plain a.stack o _ (λ v stack. push_grows o m a below v)
@@ -191,9 +208,9 @@ row_grows code l o m a below line i.And = two_grows o m a below line _
 row_grows code l o m a below line i.Or = two_grows o m a below line _
 row_grows code l o m a below line i.Imp = two_grows o m a below line _
 row_grows code l o m a below line i.Eqv = two_grows o m a below line _
-row_grows code l o m a below line (i.Is z) = none o
-row_grows code l o m a below line (i.In z) = none o
-row_grows code l o m a below line (i.Qua z) = none o
+row_grows code l o m a below line (i.Is z) = grows_having Machine ℕ (class_named code z) o _ (λ c _. grows_plain Machine Value plain a.stack o _ (λ v stack. grows_having Machine Bool (is_of code m c v) o _ (λ b _. going o _)))
+row_grows code l o m a below line (i.In z) = grows_having Machine ℕ (class_named code z) o _ (λ c _. grows_plain Machine Value plain a.stack o _ (λ v stack. grows_having Machine Bool (is_in code m c v) o _ (λ b _. going o _)))
+row_grows code l o m a below line (i.Qua z) = grows_having Machine ℕ (class_named code z) o _ (λ c _. grows_object Machine Value plain line a.stack o _ (λ j stack. qualifying_grows line (in_class code m c j) o _ (going o _)))
 row_grows code l o m a below line (i.Jump q) = jump_grows code a.pc q o _ (λ q. going o _)
 row_grows code l o m a below line (i.JumpF q) = grows_truth Machine Value plain a.stack o _ (λ b stack. grows_choosing Machine b o _ _ (going o _) (jump_grows code a.pc q o _ (λ q. going o _)))
 row_grows code l o m a below line i.Tick = grows_ticking Machine l o _ (λ p. going p _)
@@ -227,7 +244,7 @@ row_grows code l o m a below line (i.Act z) = none o
 row_grows code l o m a below line i.Detach = none o
 row_grows code l o m a below line i.Attach = none o
 row_grows code l o m a below line i.Resume = none o
-row_grows code l o m a below line i.NotNone = none o
+row_grows code l o m a below line i.NotNone = grows_object Machine Value plain line a.stack o _ (λ j stack. going o _)
 
 -- ---- runs
 

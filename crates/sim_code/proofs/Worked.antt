@@ -9,6 +9,9 @@ use Rattle.sim_code.specs.Rows.{put_back, putting}
 use Rattle.sim_values.specs.Operators.{calculate, compare, compare_as_texts, connect, same_objects, same_texts, two_of, one_of, step_test}
 use Rattle.sim_values.specs.Standard.{take_integer, take_character, take_text, take_nothing, row_of, standard_effect}
 use Rattle.sim_code.specs.Examples.{Worked}
+use Rattle.sim_code.specs.Classes.{levels}
+use Rattle.sim_code.specs.Events.{pop_object, referring}
+use Rattle.sim_code.specs.ClassExamples.{Worked as WorkedClasses}
 
 pub worked : Worked
 unfolding digits element_place making_array copying_array keeping_array finding_element giving_back handed_over stopping no_rule ticking taking entering having when computing choosing popping pop_many pop_plain pop_truth pop_integers pop_operands pop_text answering applying_one applying_two testing_step performing putting_back assigning making_text joining at_level kept_on pushing index level_of_machine cell_at jumping block_at own_block leaving with_result putting put_back calculate compare compare_as_texts connect same_objects same_texts two_of one_of step_test take_integer take_character take_text take_nothing row_of standard_effect
@@ -30,4 +33,30 @@ worked = record {
   without_room = refl;
   without_tick = refl;
   past_the_end = refl;
+}
+
+pub worked_classes : WorkedClasses
+unfolding digits element_place making_array copying_array keeping_array finding_element giving_back handed_over stopping no_rule ticking taking entering having when computing choosing popping pop_many pop_plain pop_truth pop_integers pop_operands pop_text answering applying_one applying_two testing_step performing putting_back assigning making_text joining at_level kept_on pushing index level_of_machine cell_at jumping block_at own_block leaving with_result putting put_back calculate compare compare_as_texts connect same_objects same_texts two_of one_of step_test take_integer take_character take_text take_nothing row_of standard_effect levels pop_object referring
+worked_classes = record {
+  outermost_first = refl;
+  without_prefix = refl;
+  in_front_of_itself = refl;
+  prefix_not_there = refl;
+  not_there = refl;
+  exact = refl;
+  not_exact = refl;
+  inside = refl;
+  outside = refl;
+  beside = refl;
+  broken = refl;
+  no_class_of_a_block = refl;
+  none_is_in_none = refl;
+  none_may_stand = refl;
+  no_reference = refl;
+  through_reference = refl;
+  through_none = refl;
+  is_none = refl;
+  no_such_class = refl;
+  no_class_tested = refl;
+  of_no_class = refl;
 }

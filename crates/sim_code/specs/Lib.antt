@@ -4,8 +4,10 @@ pub mod Events
 pub mod Arrays
 pub mod Instances
 pub mod Machine
+pub mod Classes
 pub mod Names
 pub mod Rows
 pub mod Running
 pub mod Growing
 pub mod Examples
+pub mod ClassExamples

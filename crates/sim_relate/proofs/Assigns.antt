@@ -116,7 +116,7 @@ module _ (s : Source) (code : CodeOf) (l : Limits) (o : World) (m : Instances) (
       (λ z z' ez ez' there. puts v x vals2 stack2 h h2 a.0.is.on z z' there))))
     where
       puts : (v : Val) (x : Value) (vals2 : List Val) (stack2 : List Value) → ValAt v x → StackAt (HandAt s m) ks' vals2 stack2 → q ≡ suc pc → (z : Place Key (Option ℕ)) (z' : Place ℕ ℕ) → PlaceAt z z'
-          → Alike R (putting z v o m (λ o m. go o m inst w vals2 rest)) (rows.putting z' x o fs (λ o m. machine.on o m a_top stack2 below))
+          → Alike R (putting z v o m (λ o m. go o m inst w vals2 rest)) (rows.storing code a.0.line z' x o fs (λ o m. machine.on o m a_top stack2 below))
       puts v x vals2 stack2 h h2 place _ _ (element_place {a} {n}) = put_element v x vals2 stack2 h h2 place a n
       puts v x vals2 stack2 h h2 place _ _ (image_place {n}) = put_image v x vals2 stack2 h h2 place n
 

@@ -74,15 +74,21 @@ fn place_of(
 
 impl Arrays {
     /// The address of an element, from the array and as many subscripts on a stack, in their place; E5 for a wrong number of
-    /// subscripts, E4 for a subscript out of its bounds.
-    pub fn find_element(&self, stack: &mut [Slot], depth: usize, count: usize) -> Applied
+    /// subscripts, E4 for a subscript out of its bounds. `class` is the class of a reference there, or 0.
+    pub fn find_element(
+        &self,
+        stack: &mut [Slot],
+        depth: usize,
+        count: usize,
+        class: u32,
+    ) -> Applied
         requires fits { depth ≤ length stack.old }
         ensures within { IfDepth result (λ n. n ≤ length stack.new) }
         ensures long { length stack.new ≡ length stack.old }
         ensures leads { (frames : List Frame) (m : Frames) → AllLead frames m stack.old → AllLead frames m stack.new }
         ensures leads_arrays { (arrays : List ArrayOf) → AllLeadArrays self.now.regions arrays stack.old → AllLeadArrays self.now.regions arrays stack.new }
         ensures row { (line : ℕ) (o : World) (go : List Value → Run Machine) → HoldsArrays self.now o.arrays → AllLeadArrays self.now.regions o.arrays stack.old →
-            finding_element plain array_in count line (values_of depth stack.old) o (λ array k rest. go (Address (ElementPlace array k 0) ∷ rest)) ≡ with_applied result line stack.new o go }
+            finding_element plain array_in count line (values_of depth stack.old) o (λ array k rest. go (Address (ElementPlace array k class) ∷ rest)) ≡ with_applied result line stack.new o go }
     {
         let Some(first) = pop_integers(stack, depth, count) else {
             return Applied::NoRule;
@@ -102,7 +108,7 @@ impl Arrays {
         }
         match place_of(region.bounds(), stack, first, region.elements().len()) {
             Ok(index) => {
-                stack[first - 1] = Slot::element(array, index.min(u32::MAX as usize) as u32, 0);
+                stack[first - 1] = Slot::element(array, index.min(u32::MAX as usize) as u32, class);
                 Applied::Depth(first)
             }
             Err(error) => Applied::Fault(error),

@@ -125,18 +125,19 @@ returns-in-StepTest-clause-row c code line below now e =
     for_instr _ code c.args.limits.now line _ _ _ _ _ _ below now c.args.instr _ (c.in-StepTest.is) (c.step_test.ensures.row c.args.limits.now line c.args.storage.now below now)
 
 pub returns-in-Elem-clause-row : goal.returns-in-Elem-clause-row
-returns-in-Elem-clause-row c code line below now e =
+returns-in-Elem-clause-row c =
     let esubscripts : to_z w64 (of_z w64 c.in-Elem.subscripts) ≡ c.in-Elem.subscripts = search rules in
     let eclass : to_z w64 (of_z w64 c.in-Elem.class) ≡ c.in-Elem.class = search rules in
-    for_instr _ code c.args.limits.now line _ _ _ _ _ _ below now c.args.instr _ (c.in-Elem.is ∙ ap (λ z. i.Elem z c.in-Elem.class) (sym esubscripts) ∙ ap (λ z. i.Elem (to_z w64 (of_z w64 c.in-Elem.subscripts)) z) (sym eclass)) (c.elem.ensures.row c.args.limits.now line c.args.storage.now below now refl)
+    IfSome_then c.elem.result c.elem.ensures.row
+    (λ f did code line below now e. for_instr f code c.args.limits.now line _ _ _ _ _ _ below now c.args.instr _ (c.in-Elem.is ∙ ap (λ z. i.Elem z c.in-Elem.class) (sym esubscripts) ∙ ap (λ z. i.Elem (to_z w64 (of_z w64 c.in-Elem.subscripts)) z) (sym eclass)) (did code c.args.limits.now line c.args.storage.now below now refl))
 
 pub returns-in-Fetch-clause-row : goal.returns-in-Fetch-clause-row
 returns-in-Fetch-clause-row c code line below now e =
     for_instr _ code c.args.limits.now line _ _ _ _ _ _ below now c.args.instr _ (c.in-Fetch.is) (c.fetch.ensures.row c.args.limits.now line c.args.storage.now below now (sym c.deref-in-Fetch.ensures.value) (sym c.deref-in-Fetch-2.ensures.value) refl refl)
 
 pub returns-in-Put-clause-row : goal.returns-in-Put-clause-row
-returns-in-Put-clause-row c code line below now e =
-    for_instr _ code c.args.limits.now line _ _ _ _ _ _ below now c.args.instr _ (c.in-Put.is) (c.put.ensures.row c.args.limits.now line below now)
+returns-in-Put-clause-row c =
+    IfSome_then c.put.result c.put.ensures.row (λ f did code line below now e. for_instr f code c.args.limits.now line _ _ _ _ _ _ below now c.args.instr _ (c.in-Put.is) (did code c.args.limits.now line below now))
 
 pub returns-in-Link-clause-row : goal.returns-in-Link-clause-row
 returns-in-Link-clause-row c code line below now e =
@@ -144,13 +145,14 @@ returns-in-Link-clause-row c code line below now e =
     for_instr _ code c.args.limits.now line _ _ _ _ _ _ below now c.args.instr _ (c.in-Link.is ∙ ap i.Link (sym elevel)) (c.link.ensures.row c.args.limits.now line c.args.storage.now below now (sym c.deref-in-Link.ensures.value))
 
 pub returns-in-Addr-clause-row : goal.returns-in-Addr-clause-row
-returns-in-Addr-clause-row c code line below now e =
+returns-in-Addr-clause-row c =
     let elevel : to_z w64 (of_z w64 c.in-Addr.level) ≡ c.in-Addr.level = search rules in
     let ecell : to_z w64 (of_z w64 c.in-Addr.cell) ≡ c.in-Addr.cell = search rules in
     let eclass : to_z w64 (of_z w64 c.in-Addr.class) ≡ c.in-Addr.class = search rules in
-    for_instr _ code c.args.limits.now line _ _ _ _ _ _ below now c.args.instr _
+    IfSome_then c.address.result c.address.ensures.row
+    (λ f did code line below now e. for_instr f code c.args.limits.now line _ _ _ _ _ _ below now c.args.instr _
     (c.in-Addr.is ∙ ap (λ z. i.Addr z c.in-Addr.cell c.in-Addr.class) (sym elevel) ∙ ap (λ z. i.Addr (to_z w64 (of_z w64 c.in-Addr.level)) z c.in-Addr.class) (sym ecell) ∙ ap (λ z. i.Addr (to_z w64 (of_z w64 c.in-Addr.level)) (to_z w64 (of_z w64 c.in-Addr.cell)) z) (sym eclass))
-    (c.address.ensures.row c.args.limits.now line c.args.storage.now below now (sym c.deref-in-Addr.ensures.value))
+    (did code c.args.limits.now line c.args.storage.now below now (sym c.deref-in-Addr.ensures.value)))
 
 pub returns-in-Std-clause-row : goal.returns-in-Std-clause-row
 returns-in-Std-clause-row c =

@@ -16,7 +16,7 @@ returns-in-Std-clause-row g c s e =
       w.1,
       (
         w.2.0,
-        λ code line e1 e2 e3.
+        λ code line e1 e2 e3 e4.
             for_instr_in c.standard.result code l line _ _ _ _ _ _ _ _ _ _ c.args.instr (i.Std (to_z w64 (of_z w64 c.in-Std.name))) (c.in-Std.is ∙ ap i.Std (sym ename))
             (obeys_stacks c.standard.result l line _ _ _ _ _ _ c.args.top.now.stack.items _ _ _ _ _ _ c.deref_mut.ensures.value (with_items_is c.args.top.now.stack c.standard.new.stack (search (rules, places)))
             (w.2.1 line c.args.below.now.items)),
@@ -44,7 +44,7 @@ returns-in-AssignT-clause-row g c s e = (
   e,
   (
     still_same c.without_ports.result (g.O.Sink.written c.args.out.now),
-    λ code line e1 e2 e3.
+    λ code line e1 e2 e3 e4.
         let l = c.args.limits.now in
         c.without_ports.ensures.row _ _ _ _ _ _ _ _ _ _ _ _ _
         (for_instr_in _ code l line _ _ _ _ _ _ _ _ _ _ c.args.instr i.AssignT c.in-AssignT.is
@@ -65,7 +65,7 @@ returns-in-TextK-clause-row g c s e = (
   e,
   (
     still_same c.without_ports-in-TextK.result (g.O.Sink.written c.args.out.now),
-    λ code line e1 e2 e3.
+    λ code line e1 e2 e3 e4.
         let l = c.args.limits.now in
         let enumber : to_z w64 (of_z w64 c.in-TextK.number) ≡ c.in-TextK.number = search rules in
         c.without_ports-in-TextK.ensures.row _ _ _ _ _ _ _ _ _ _ _ _ _
@@ -87,7 +87,7 @@ returns-in-Leave-clause-row g c s e = (
   e,
   (
     still_same c.without_ports-in-Leave.result (g.O.Sink.written c.args.out.now),
-    λ code line e1 e2 e3.
+    λ code line e1 e2 e3 e4.
         c.without_ports-in-Leave.ensures.row _ _ _ _ _ _ _ _ _ _ _ _ _
         (for_instr_in _ code c.args.limits.now line _ _ _ _ _ _ _ _ _ _ c.args.instr i.Leave c.in-Leave.is (c.leave-flow.ensures.row code c.args.limits.now line (outside (g.O.Sink.written c.args.out.now) s) e1)),
   ),
@@ -105,7 +105,7 @@ returns-in-Return-clause-row g c s e = (
   e,
   (
     still_same c.without_ports-in-Return.result (g.O.Sink.written c.args.out.now),
-    λ code line e1 e2 e3.
+    λ code line e1 e2 e3 e4.
         c.without_ports-in-Return.ensures.row _ _ _ _ _ _ _ _ _ _ _ _ _
         (for_instr_in _ code c.args.limits.now line _ _ _ _ _ _ _ _ _ _ c.args.instr i.Return c.in-Return.is (c.give_result-flow.ensures.row code c.args.limits.now line (outside (g.O.Sink.written c.args.out.now) s) e1)),
   ),
@@ -127,10 +127,10 @@ returns-in_default g c =
         e,
         (
           still_same c.without_ports-in_default.result (g.O.Sink.written c.args.out.now),
-          λ code line e1 e2 e3.
+          λ code line e1 e2 e3 e4.
               c.without_ports-in_default.ensures.row _ _ _ _ _ _ _ _ _ _ _ _ _
               (obeys_stacks c.obey_other-flow.result l line _ _ _ _ _ _ c.args.top.now.stack.items _ _ _ _ _ _ c.deref_mut-in_default.ensures.value is
-              (c.obey_other-flow.ensures.row code line c.args.below.now.items (outside (g.O.Sink.written c.args.out.now) s))),
+              (c.obey_other-flow.ensures.row code line c.args.below.now.items (outside (g.O.Sink.written c.args.out.now) s) e1 e4)),
         ),
       );
     }
@@ -147,7 +147,7 @@ returns-in-Enter-clause-row g c s e = (
   e,
   (
     still_same c.without_ports-in-Enter.result (g.O.Sink.written c.args.out.now),
-    λ code line e1 e2 e3.
+    λ code line e1 e2 e3 e4.
         let eblock : to_z w64 (of_z w64 c.in-Enter.block) ≡ c.in-Enter.block = search rules in
         c.without_ports-in-Enter.ensures.row _ _ _ _ _ _ _ _ _ _ _ _ _
         (for_instr_in _ code c.args.limits.now line _ _ _ _ _ _ _ _ _ _ c.args.instr (i.Enter (to_z w64 (of_z w64 c.in-Enter.block))) (c.in-Enter.is ∙ ap i.Enter (sym eblock)) (c.enter-flow.ensures.row code line (outside (g.O.Sink.written c.args.out.now) s) e1 e2)),
@@ -166,7 +166,7 @@ returns-in-Call-clause-row g c s e = (
   e,
   (
     still_same c.without_ports-in-Call.result (g.O.Sink.written c.args.out.now),
-    λ code line e1 e2 e3.
+    λ code line e1 e2 e3 e4.
         let eblock : to_z w64 (of_z w64 c.in-Call.block) ≡ c.in-Call.block = search rules in
         let evalues : to_z w64 (of_z w64 c.in-Call.values) ≡ c.in-Call.values = search rules in
         c.without_ports-in-Call.ensures.row _ _ _ _ _ _ _ _ _ _ _ _ _

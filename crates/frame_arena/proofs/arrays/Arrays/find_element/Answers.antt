@@ -15,7 +15,7 @@ use Rattle.frame_arena.proofs.Tops.{top_of, written}
 use Rattle.frame_arena.proofs.arrays.Arrays.find_element.Goals as goal
 
 pub returns-in_default-clause-row : goal.returns-in_default-clause-row
-returns-in_default-clause-row c line o go h all = finding line o go c.args.count (values_of c.args.depth c.args.stack.now) ∙ c.in_default.ensures.row o (taking_array line o go)
+returns-in_default-clause-row c line o go h all = finding line c.args.class o go c.args.count (values_of c.args.depth c.args.stack.now) ∙ c.in_default.ensures.row o (taking_array line c.args.class o go)
 
 pub returns-then-first-lt1-clause-row : goal.returns-then-first-lt1-clause-row
 returns-then-first-lt1-clause-row c line o go h all =
@@ -25,8 +25,8 @@ returns-then-first-lt1-clause-row c line o go h all =
     let ints = integers_from stack first c.args.count in
     let v = value_of (slot_at stack (first - 1)) in
     let rest = values_of (first - 1) stack in
-    let begun = finding line o go c.args.count (values_of c.args.depth stack) ∙ c.in-Some.ensures.row o (taking_array line o go) in
-    begun ∙ taking_none line o go ints first stack c.if-first-lt1.true
+    let begun = finding line c.args.class o go c.args.count (values_of c.args.depth stack) ∙ c.in-Some.ensures.row o (taking_array line c.args.class o go) in
+    begun ∙ taking_none line c.args.class o go ints first stack c.if-first-lt1.true
 
 pub returns-in_default-as_array-clause-row : goal.returns-in_default-as_array-clause-row
 returns-in_default-as_array-clause-row c line o go h all =
@@ -36,10 +36,10 @@ returns-in_default-as_array-clause-row c line o go h all =
     let ints = integers_from stack first c.args.count in
     let v = value_of (slot_at stack (first - 1)) in
     let rest = values_of (first - 1) stack in
-    let begun = finding line o go c.args.count (values_of c.args.depth stack) ∙ c.in-Some.ensures.row o (taking_array line o go) in
+    let begun = finding line c.args.class o go c.args.count (values_of c.args.depth stack) ∙ c.in-Some.ensures.row o (taking_array line c.args.class o go) in
     let top : values_of first stack ≡ v ∷ rest = top_of first stack (omega (arith, c.if-first-lt1.false)) (omega (arith, places, c.requires.fits)) in
-    let on = begun ∙ ap (taking_array line o go ints) top in
-    on ∙ taking_other line o go ints v rest c.in_default-as_array.ensures.number
+    let on = begun ∙ ap (taking_array line c.args.class o go ints) top in
+    on ∙ taking_other line c.args.class o go ints v rest c.in_default-as_array.ensures.number
 
 pub returns-in_default-find-clause-row : goal.returns-in_default-find-clause-row
 returns-in_default-find-clause-row c line o go h all =
@@ -49,11 +49,11 @@ returns-in_default-find-clause-row c line o go h all =
     let ints = integers_from stack first c.args.count in
     let v = value_of (slot_at stack (first - 1)) in
     let rest = values_of (first - 1) stack in
-    let begun = finding line o go c.args.count (values_of c.args.depth stack) ∙ c.in-Some.ensures.row o (taking_array line o go) in
+    let begun = finding line c.args.class o go c.args.count (values_of c.args.depth stack) ∙ c.in-Some.ensures.row o (taking_array line c.args.class o go) in
     let top : values_of first stack ≡ v ∷ rest = top_of first stack (omega (arith, c.if-first-lt1.false)) (omega (arith, places, c.requires.fits)) in
-    let on = begun ∙ ap (taking_array line o go ints) top in
+    let on = begun ∙ ap (taking_array line c.args.class o go ints) top in
     let array = c.in-Some-as_array.array in
-    on ∙ taking_gone line o go ints v rest array.stamp c.in-Some-as_array.ensures.number
+    on ∙ taking_gone line c.args.class o go ints v rest array.stamp c.in-Some-as_array.ensures.number
     (c.in_default-find.ensures.gone o.arrays (c.in-Some-as_array.ensures.leads c.args.self.now.regions o.arrays (all (first - 1))) refl)
 
 pub returns-then-bounds-count-clause-row : goal.returns-then-bounds-count-clause-row
@@ -64,9 +64,9 @@ returns-then-bounds-count-clause-row c line o go h all =
     let ints = integers_from stack first c.args.count in
     let v = value_of (slot_at stack (first - 1)) in
     let rest = values_of (first - 1) stack in
-    let begun = finding line o go c.args.count (values_of c.args.depth stack) ∙ c.in-Some.ensures.row o (taking_array line o go) in
+    let begun = finding line c.args.class o go c.args.count (values_of c.args.depth stack) ∙ c.in-Some.ensures.row o (taking_array line c.args.class o go) in
     let top : values_of first stack ≡ v ∷ rest = top_of first stack (omega (arith, c.if-first-lt1.false)) (omega (arith, places, c.requires.fits)) in
-    let on = begun ∙ ap (taking_array line o go ints) top in
+    let on = begun ∙ ap (taking_array line c.args.class o go ints) top in
     let place = c.in-Some-find.place in
     let array = c.in-Some-as_array.array in
     let lies = c.in-Some-find.ensures.there in
@@ -76,8 +76,8 @@ returns-then-bounds-count-clause-row c line o go h all =
     let same : items ≡ now.regions = ap (λ a. a.regions) c.self.view_is in
     let er : c.index-region.result.now ≡ region = c.index-region.ensures ∙ get_or_default items place _ no_region (subst (λ l. place < length l) (sym same) lies.0) ∙ ap (λ l. region_at l place) same in
     let eb : c.bounds.result.now ≡ region.bounds = c.bounds.ensures ∙ ap {A = RegionOf} (λ r. r.bounds) er in
-    let there = on ∙ taking_found line o go ints v rest array.stamp (array_of region) c.in-Some-as_array.ensures.number (array_found now o.arrays place array.stamp h lies) in
-    there ∙ placing_error line o go array.stamp ints rest (array_of region) _ (wrong_number region.bounds ints (λ e. c.if-bounds-count.true (ap length eb ∙ sym e ∙ many_left stack first c.args.count)))
+    let there = on ∙ taking_found line c.args.class o go ints v rest array.stamp (array_of region) c.in-Some-as_array.ensures.number (array_found now o.arrays place array.stamp h lies) in
+    there ∙ placing_error line c.args.class o go array.stamp ints rest (array_of region) _ (wrong_number region.bounds ints (λ e. c.if-bounds-count.true (ap length eb ∙ sym e ∙ many_left stack first c.args.count)))
 
 pub returns-in-Err-clause-row : goal.returns-in-Err-clause-row
 returns-in-Err-clause-row c line o go h all =
@@ -87,9 +87,9 @@ returns-in-Err-clause-row c line o go h all =
     let ints = integers_from stack first c.args.count in
     let v = value_of (slot_at stack (first - 1)) in
     let rest = values_of (first - 1) stack in
-    let begun = finding line o go c.args.count (values_of c.args.depth stack) ∙ c.in-Some.ensures.row o (taking_array line o go) in
+    let begun = finding line c.args.class o go c.args.count (values_of c.args.depth stack) ∙ c.in-Some.ensures.row o (taking_array line c.args.class o go) in
     let top : values_of first stack ≡ v ∷ rest = top_of first stack (omega (arith, c.if-first-lt1.false)) (omega (arith, places, c.requires.fits)) in
-    let on = begun ∙ ap (taking_array line o go ints) top in
+    let on = begun ∙ ap (taking_array line c.args.class o go ints) top in
     let place = c.in-Some-find.place in
     let array = c.in-Some-as_array.array in
     let lies = c.in-Some-find.ensures.there in
@@ -99,7 +99,7 @@ returns-in-Err-clause-row c line o go h all =
     let same : items ≡ now.regions = ap (λ a. a.regions) c.self.view_is in
     let er : c.index-region.result.now ≡ region = c.index-region.ensures ∙ get_or_default items place _ no_region (subst (λ l. place < length l) (sym same) lies.0) ∙ ap (λ l. region_at l place) same in
     let eb : c.bounds.result.now ≡ region.bounds = c.bounds.ensures ∙ ap {A = RegionOf} (λ r. r.bounds) er in
-    let there = on ∙ taking_found line o go ints v rest array.stamp (array_of region) c.in-Some-as_array.ensures.number (array_found now o.arrays place array.stamp h lies) in
+    let there = on ∙ taking_found line c.args.class o go ints v rest array.stamp (array_of region) c.in-Some-as_array.ensures.number (array_found now o.arrays place array.stamp h lies) in
     let eb2 : c.bounds-2.result.now ≡ region.bounds = c.bounds-2.ensures ∙ ap {A = RegionOf} (λ r. r.bounds) er in
     let ee : c.elements.result.now ≡ region.elements = c.elements.ensures ∙ ap {A = RegionOf} (λ r. r.elements) er in
     let s = h.sound place array.stamp lies in
@@ -107,7 +107,7 @@ returns-in-Err-clause-row c line o go h all =
     let short : length c.elements.result.now ≤ 2 ^ 31 = subst (λ l. length l ≤ 2 ^ 31) (sym ee) s.short in
     let en : length region.bounds ≡ c.args.count = sym (ap length eb) ∙ c.if-bounds-count.false in
     let whole = ap (λ b. element_place b (integers_from stack first (length b))) eb2 ∙ ap (λ n. element_place region.bounds (integers_from stack first n)) en in
-    there ∙ placing_error line o go array.stamp ints rest (array_of region) c.in-Err.error (sym (c.in-Err.ensures.place sized short ∙ whole))
+    there ∙ placing_error line c.args.class o go array.stamp ints rest (array_of region) c.in-Err.error (sym (c.in-Err.ensures.place sized short ∙ whole))
 
 pub returns-in-Ok-clause-row : goal.returns-in-Ok-clause-row
 returns-in-Ok-clause-row c line o go h all =
@@ -117,9 +117,9 @@ returns-in-Ok-clause-row c line o go h all =
     let ints = integers_from stack first c.args.count in
     let v = value_of (slot_at stack (first - 1)) in
     let rest = values_of (first - 1) stack in
-    let begun = finding line o go c.args.count (values_of c.args.depth stack) ∙ c.in-Some.ensures.row o (taking_array line o go) in
+    let begun = finding line c.args.class o go c.args.count (values_of c.args.depth stack) ∙ c.in-Some.ensures.row o (taking_array line c.args.class o go) in
     let top : values_of first stack ≡ v ∷ rest = top_of first stack (omega (arith, c.if-first-lt1.false)) (omega (arith, places, c.requires.fits)) in
-    let on = begun ∙ ap (taking_array line o go ints) top in
+    let on = begun ∙ ap (taking_array line c.args.class o go ints) top in
     let place = c.in-Some-find.place in
     let array = c.in-Some-as_array.array in
     let lies = c.in-Some-find.ensures.there in
@@ -129,7 +129,7 @@ returns-in-Ok-clause-row c line o go h all =
     let same : items ≡ now.regions = ap (λ a. a.regions) c.self.view_is in
     let er : c.index-region.result.now ≡ region = c.index-region.ensures ∙ get_or_default items place _ no_region (subst (λ l. place < length l) (sym same) lies.0) ∙ ap (λ l. region_at l place) same in
     let eb : c.bounds.result.now ≡ region.bounds = c.bounds.ensures ∙ ap {A = RegionOf} (λ r. r.bounds) er in
-    let there = on ∙ taking_found line o go ints v rest array.stamp (array_of region) c.in-Some-as_array.ensures.number (array_found now o.arrays place array.stamp h lies) in
+    let there = on ∙ taking_found line c.args.class o go ints v rest array.stamp (array_of region) c.in-Some-as_array.ensures.number (array_found now o.arrays place array.stamp h lies) in
     let eb2 : c.bounds-2.result.now ≡ region.bounds = c.bounds-2.ensures ∙ ap {A = RegionOf} (λ r. r.bounds) er in
     let ee : c.elements.result.now ≡ region.elements = c.elements.ensures ∙ ap {A = RegionOf} (λ r. r.elements) er in
     let s = h.sound place array.stamp lies in
@@ -141,10 +141,10 @@ returns-in-Ok-clause-row c line o go h all =
     let within = c.in-Ok.ensures.within sized short in
     let m : c.min.result ≡ k = let e = c.min.ensures in omega (arith, e, within, short) in
     let slot = c.element.result in
-    let value : value_of slot ≡ Address (ElementPlace array.stamp k 0) = c.element.ensures.value ∙ ap (λ n. Address (ElementPlace array.stamp n 0)) m in
+    let value : value_of slot ≡ Address (ElementPlace array.stamp k c.args.class) = c.element.ensures.value ∙ ap (λ n. Address (ElementPlace array.stamp n c.args.class)) m in
     let d : first - 1 + 1 ≡ first = omega (arith, c.if-first-lt1.false) in
     there
-    ∙ placing_ok line o go array.stamp ints rest (array_of region) k (sym (c.in-Ok.ensures.place sized short ∙ whole))
+    ∙ placing_ok line c.args.class o go array.stamp ints rest (array_of region) k (sym (c.in-Ok.ensures.place sized short ∙ whole))
     ∙ ap (λ w. go (w ∷ rest)) (sym value)
     ∙ ap go (sym (written (first - 1) stack slot (omega (arith, c.if-first-lt1.false, places, c.requires.fits))))
     ∙ ap (λ n. go (values_of n (set stack (first - 1) slot))) d

@@ -1,0 +1,93 @@
+-- Small codes with classes. The line of an instruction is its place, counted from 1.
+use Rattle.std.specs.Prelude.{◌≡◌, ℕ, true, false, pos, List, [], ◌∷◌, Some, None, codes}
+use Rattle.sim_base.specs.declared.run_error.RunError.TheVariants.{AccessThroughNone}
+use Rattle.sim_values.specs.Plain.{Nothing, Object, Integer}
+use Rattle.sim_code.specs.declared.code.BlockKind.TheVariants as kind
+use Rattle.sim_code.specs.declared.code.CodeType.TheVariants as type
+use Rattle.sim_code.specs.declared.instr.Instr.TheVariants as i
+use Rattle.sim_code.specs.declared.instr.Lined.{Lined}
+use Rattle.sim_code.specs.Code.{BlockOf, ClassOf, CodeOf}
+use Rattle.sim_code.specs.Outcome.{RunFault}
+use Rattle.sim_code.specs.Instances.{Instance}
+use Rattle.sim_code.specs.Machine.{Cells, Frames}
+use Rattle.sim_code.specs.Classes.{is_in, is_of, levels, may_stand}
+use Rattle.sim_code.specs.Examples.{at, block, limits, main, seen, shows, stops_at}
+
+abbrev pub class : (prefix block declarations statements after_inner : ℕ) → ClassOf
+class prefix block declarations statements after_inner = record {
+  prefix = prefix;
+  block = block;
+  declarations = declarations;
+  statements = statements;
+  after_inner = after_inner;
+  process = false;
+  matches = [];
+}
+
+abbrev pub code : List BlockOf → List ClassOf → List Lined → CodeOf
+code blocks classes instrs = record { texts = []; blocks = blocks; classes = classes; thunks = []; actual_lists = []; instrs = instrs }
+
+-- ---- tables of classes
+
+-- the block of objects of a class, without cells
+abbrev pub objects : (class : ℕ) → BlockOf
+objects c = record (block kind.Object 2 0 type.Nothing [] 1 0) { class = c; class_free = false }
+
+-- Class 1; class 2 with it in front, and class 3 with that; class 4 beside them; class 5 in front of itself, class 6 behind one that is
+-- not there.
+abbrev pub family : CodeOf
+family = code (main 0 [] 1 0 ∷ objects 1 ∷ objects 2 ∷ objects 3 ∷ objects 4 ∷ objects 5 ∷ []) (class 0 1 0 0 0 ∷ class 1 2 0 0 0 ∷ class 2 3 0 0 0 ∷ class 0 4 0 0 0 ∷ class 5 5 0 0 0 ∷ class 9 0 0 0 0 ∷ []) []
+
+abbrev pub instance : (text : ℕ) → Instance Cells
+instance text = record { text = text; level = 2; encloser = Some 0; cells = []; passing = false; kept = false; given_back = false }
+
+-- the program's block, and an object of each of the classes 1 to 5
+abbrev pub family_memory : Frames
+family_memory = record { instances = instance 0 ∷ instance 1 ∷ instance 2 ∷ instance 3 ∷ instance 4 ∷ instance 5 ∷ []; standings = [] }
+
+-- ---- codes
+
+-- through a reference to the program's frame: its cell is set, and read again
+abbrev pub remote_code : CodeOf
+remote_code = code (main 1 (type.Integer ∷ []) 2 0 ∷ []) [] (at 1 (i.This (pos 1)) ∷ at 2 i.NotNone ∷ at 3 (i.AddrR (pos 0) (pos 0)) ∷ at 4 (i.Int (pos 5)) ∷ at 5 i.Put ∷ at 6 (i.This (pos 1)) ∷ at 7 (i.AddrR (pos 0) (pos 0)) ∷ at 8 i.Fetch ∷ at 9 (i.Int (pos 2)) ∷ at 10 (i.Std (pos 40)) ∷ at 11 i.None ∷ at 12 (i.AddrR (pos 0) (pos 0)) ∷ [])
+
+-- `none` is in no class, and may stand in a cell with a class; it is nothing that `qua` finds a class of
+abbrev pub none_code : CodeOf
+none_code = code (main 1 (type.Reference ∷ []) 2 0 ∷ objects 1 ∷ []) (class 0 1 0 0 0 ∷ []) (at 1 i.None ∷ at 2 (i.Is (pos 1)) ∷ at 3 i.None ∷ at 4 (i.In (pos 1)) ∷ at 5 i.Or ∷ at 6 (i.JumpF (pos 7)) ∷ at 7 i.Halt ∷ at 8 (i.Addr (pos 1) (pos 0) (pos 1)) ∷ at 9 i.None ∷ at 10 i.Put ∷ at 11 (i.Load (pos 1) (pos 0)) ∷ at 12 (i.Qua (pos 1)) ∷ [])
+
+abbrev pub not_none_code : CodeOf
+not_none_code = code (main 0 [] 1 0 ∷ []) [] (at 1 i.None ∷ at 2 i.NotNone ∷ [])
+
+-- a class that is not there, of an address and of a test
+abbrev pub foreign_class : CodeOf
+foreign_class = code (main 1 (type.Reference ∷ []) 1 0 ∷ objects 1 ∷ []) (class 0 1 0 0 0 ∷ []) (at 1 (i.Addr (pos 1) (pos 0) (pos 2)) ∷ [])
+
+abbrev pub class_zero : CodeOf
+class_zero = code (main 0 [] 1 0 ∷ objects 1 ∷ []) (class 0 1 0 0 0 ∷ []) (at 1 i.None ∷ at 2 (i.Is (pos 0)) ∷ [])
+
+-- the frame of the program is no object, and so is in no class and outside none
+abbrev pub no_object : CodeOf
+no_object = code (main 0 [] 1 0 ∷ objects 1 ∷ []) (class 0 1 0 0 0 ∷ []) (at 1 (i.This (pos 1)) ∷ at 2 (i.In (pos 1)) ∷ [])
+
+pub record Worked : Type 0 where
+  pub outermost_first : levels family 3 ≡ Some (1 ∷ 2 ∷ 3 ∷ [])
+  pub without_prefix : levels family 4 ≡ Some (4 ∷ [])
+  pub in_front_of_itself : levels family 5 ≡ None
+  pub prefix_not_there : levels family 6 ≡ None
+  pub not_there : levels family 7 ≡ None
+  pub exact : is_of family family_memory 2 (Object 2) ≡ Some true
+  pub not_exact : is_of family family_memory 1 (Object 2) ≡ Some false
+  pub inside : is_in family family_memory 1 (Object 3) ≡ Some true
+  pub outside : is_in family family_memory 3 (Object 2) ≡ Some false
+  pub beside : is_in family family_memory 4 (Object 3) ≡ Some false
+  pub broken : is_in family family_memory 5 (Object 5) ≡ None
+  pub no_class_of_a_block : is_in family family_memory 1 (Object 0) ≡ None
+  pub none_is_in_none : is_in family family_memory 1 Nothing ≡ Some false
+  pub none_may_stand : may_stand family family_memory 1 (Some Nothing) ≡ Some true
+  pub no_reference : may_stand family family_memory 1 (Some (Integer (pos 1))) ≡ None
+  pub through_reference : seen remote_code (limits 1000 100) 100 ≡ shows (codes " 5\n") 1 5 (RunFault AccessThroughNone 12)
+  pub through_none : seen none_code (limits 1000 100) 100 ≡ shows (codes "") 1 5 (RunFault AccessThroughNone 12)
+  pub is_none : seen not_none_code (limits 1000 100) 100 ≡ shows (codes "") 1 4 (RunFault AccessThroughNone 2)
+  pub no_such_class : stops_at foreign_class 1 ≡ Some 0
+  pub no_class_tested : stops_at class_zero 2 ≡ Some 1
+  pub of_no_class : stops_at no_object 2 ≡ Some 1
