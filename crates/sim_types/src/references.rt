@@ -237,7 +237,6 @@ fn qualified_value(
 }
 
 /// `is` or `in`, with what stands before it.
-#[tactic(auto, using(crate::proofs::Steps::member_in_steps))]
 pub(crate) fn member(
     scopes: &Scopes,
     found: &mut Found,
@@ -253,7 +252,6 @@ pub(crate) fn member(
 }
 
 /// `qua`, with what stands before it.
-#[tactic(auto, using(crate::proofs::Steps::qualified_in_steps))]
 pub(crate) fn qualified(
     scopes: &Scopes,
     found: &mut Found,
