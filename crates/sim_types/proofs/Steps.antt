@@ -180,5 +180,3 @@ remote_there s m x o block f g h p b y there classes one two =
     judges_as
     (judges_next (bars (has_classes s block) x.token.0 r.ClassWithClasses) (remote_at s m x block) (judges_as one (ap (λ z. bars z x.token.0 r.ClassWithClasses) classes)) two)
     (ap (remote_in s m x) (sym there))
-
-pub ruleset remotes = (remote_nothing, remote_there)

@@ -264,7 +264,6 @@ fn remote_at(
 }
 
 /// An attribute of an object, whose class has no classes (`S17`).
-#[tactic(auto, using(crate::proofs::Steps::remotes))]
 fn remote_in(
     scopes: &Scopes,
     extent: Extent,

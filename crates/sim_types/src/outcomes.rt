@@ -1,12 +1,13 @@
 //! What an expression is where a value is needed, and what operators make of operands.
-ghost use Rattle.std.specs.Prelude.{◌≡◌, ◌||◌};
-ghost use Rattle.sim_scope.specs.Judged.{Judges, bars};
+ghost use Rattle.std.specs.Prelude.{◌≡◌, ◌||◌, length};
+ghost use Rattle.sim_scope.specs.Judged.{Judges, bars, next};
+ghost use Rattle.sim_scope.specs.Scopes.{entry_of, formals_of};
 ghost use Rattle.sim_scope.specs.Standard.{is_standard_class};
-ghost use Rattle.sim_scope.specs.Outcomes.{barred_called, breaks, call_of, called, has, in_parentheses, is_stream, one, parenthesized, procedure_called, side, side_of, signature_called, standard_called, three, two, type_in, value_of, valued, varies};
+ghost use Rattle.sim_scope.specs.Outcomes.{barred_called, breaks, call_of, called, has, in_parentheses, is_stream, one, parenthesized, procedure_called, side, side_of, signature_called, standard_called, three, two, type_in, value_of, valued, varies, without_type};
 
 use crate::fit::{common_type, is_same, operands_fit};
 use crate::headings::formals_of;
-use sim_base::{Rule, TokenNo};
+use sim_base::{DeclNo, Rule, TokenNo};
 use sim_scope::{
     Barred, Entry, Fit, Found, Outcome, Scopes, Side, Signature, SimType, StandardName, entry_of,
 };
@@ -145,22 +146,46 @@ fn standard_called(found: &mut Found, token: TokenNo, name: StandardName) -> Out
     }
 }
 
-/// The call of an identifier that may not stand there: it has no type.
-#[tactic(auto, unfolding(sim_scope::specs::Judged::gives, sim_scope::specs::Runs::run), using(crate::proofs::Steps::without_type_in_steps))]
+/// The call of a procedure without actuals.
+fn procedure_at(scopes: &Scopes, found: &mut Found, declaration: DeclNo, token: TokenNo) -> Outcome
+    ensures { Judges found.old found.new result (procedure_called token.0 (length (formals_of scopes.now declaration)) (entry_of scopes.now declaration)) }
+{
+    let formals = formals_of(scopes, declaration).len();
+    procedure_called(found, token, formals, entry_of(scopes, declaration))
+}
+
+/// The call of a procedure that may not stand there: it has no type.
+fn barred_procedure(
+    scopes: &Scopes,
+    found: &mut Found,
+    declaration: DeclNo,
+    token: TokenNo,
+) -> Outcome
+    ensures { Judges found.old found.new result (next (procedure_called token.0 (length (formals_of scopes.now declaration)) (entry_of scopes.now declaration)) without_type) }
+{
+    procedure_at(scopes, found, declaration, token);
+    Outcome::Refused
+}
+
+fn barred_standard(found: &mut Found, name: StandardName, token: TokenNo) -> Outcome
+    ensures { Judges found.old found.new result (next (standard_called token.0 name) without_type) }
+{
+    standard_called(found, token, name);
+    Outcome::Refused
+}
+
+/// The call of an identifier that may not stand there.
+#[tactic(auto, unfolding(sim_scope::specs::Judged::gives, sim_scope::specs::Runs::run))]
 fn barred_called(scopes: &Scopes, found: &mut Found, barred: Barred) -> Outcome
     ensures { Judges found.old found.new result (barred_called scopes.now barred) }
 {
     match barred {
         Barred::Procedure { declaration, token } => {
-            let formals = formals_of(scopes, declaration).len();
-            procedure_called(found, token, formals, entry_of(scopes, declaration));
-            Outcome::Refused
+            barred_procedure(scopes, found, declaration, token)
         }
-        Barred::Standard { name, token } => {
-            standard_called(found, token, name);
-            Outcome::Refused
-        }
-        _ => Outcome::Barred(barred),
+        Barred::Standard { name, token } => barred_standard(found, name, token),
+        Barred::Array(_) => Outcome::Barred(barred),
+        Barred::Class => Outcome::Barred(barred),
     }
 }
 
@@ -174,10 +199,7 @@ pub fn called(scopes: &Scopes, found: &mut Found, outcome: Outcome) -> Outcome
             declaration,
             token,
             ..
-        } => {
-            let formals = formals_of(scopes, declaration).len();
-            procedure_called(found, token, formals, entry_of(scopes, declaration))
-        }
+        } => { procedure_at(scopes, found, declaration, token) }
         Outcome::Standard { name, token } => standard_called(found, token, name),
         Outcome::Barred(barred) => barred_called(scopes, found, barred),
         _ => outcome,
