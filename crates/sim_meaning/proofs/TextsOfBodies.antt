@@ -5,8 +5,9 @@ use Rattle.sim_tree.specs.Syntax.{Expressions, Statement, Statements, Empty, Com
 use Rattle.sim_scope.specs.declared.types.BlockKind.{BlockKind}
 use Rattle.sim_scope.specs.declared.types.BlockKind.TheVariants as kind
 use Rattle.sim_scope.specs.declared.types.StandardClass.{StandardClass}
-use Rattle.sim_scope.specs.Bodies.{Around, Bodies, OfConnection, OfClass, Part, arms_bodies, block_bodies, bodies_of, both, classes_declared, declaration_bodies, declarations_bodies, level_inside, one, prefix_bodies, prefixed_bodies, program_bodies, standard_bodies, standard_body, statement_bodies, statements_bodies, OfBlock, OfPrefixed, OfProcedure, program_around}
+use Rattle.sim_scope.specs.Bodies.{Around, Bodies, OfConnection, OfClass, Part, arms_bodies, block_bodies, bodies_of, both, classes_declared, declaration_bodies, declarations_bodies, one, prefix_bodies, prefixed_bodies, program_bodies, standard_bodies, standard_body, statement_bodies, statements_bodies, OfBlock, OfPrefixed, OfProcedure, program_around}
 use Rattle.sim_scope.specs.Standard.{standard_prefix}
+use Rattle.sim_scope.specs.Tables.{deeper}
 use Rattle.sim_meaning.specs.Texts.{BlockText, ConnectionText, PrefixedText, StandardText, Text, arms_texts, block_texts, declaration_texts, declarations_texts, prefix_texts, prefixed_texts, program_texts, standard_texts, statement_texts, statements_texts, text_of, text_of_part}
 
 map-append : {A B : Type 0} (f : A → B) (xs ys : List A) → map f (xs ++ ys) ≡ map f xs ++ map f ys
@@ -25,7 +26,7 @@ texts_both f g xs ys p q next =
 texts_one : (k : BlockKind) (o : Around) (first end : ℕ) (prefix : Option Identifier) (part : Part) (inside : Around → Bodies) (x : Text) (xs : List Text)
     → text_of_part k first prefix part ≡ Some x → ((i : Around) → Texts (inside i) xs) → Texts (one k o first end prefix part inside) (x ∷ xs)
 texts_one k o first end prefix part inside x xs e h next =
-    ap (λ z. z ∷ map text_of (inside (record { number = next; level = level_inside k o.level }) (next + 1))) e ∙ ap (λ z. Some x ∷ z) (h (record { number = next; level = level_inside k o.level }) (next + 1))
+    ap (λ z. z ∷ map text_of (inside (record { number = next; level = deeper k o.level }) (next + 1))) e ∙ ap (λ z. Some x ∷ z) (h (record { number = next; level = deeper k o.level }) (next + 1))
 
 texts_standard : (o : Around) (name : List ℕ) → Texts (standard_bodies o name) (standard_texts name)
 unfolding standard_bodies standard_texts
