@@ -131,6 +131,7 @@ module _ (s : Source) (code : CodeOf) (l : Limits) (o : World) (m : Instances) (
   store ToAddress a = to_address a
   store (ToText line) a = to_text line a.0 a.1
   store (ToTextOf j key line) a = to_text line a.0 a.1
+  store _ a = absurd a
 
   -- ---- several left sides
 

@@ -19,6 +19,7 @@ end_later s code Below Below' f t b EndBlock p ks a = (a.0, let x = a.1 in recor
 end_later s code Below Below' f t b (EndProcedure v) p ks a =
     record { result = a.result; heading = a.heading; body = a.body; is = a.is; same = a.same; ends = let x = a.ends in record { last = x.last; at = x.at; heads = x.heads; none = x.none; below = f v x.below } }
 end_later s code Below Below' f t b EndProgram p ks a = (a.0, let x = a.1 in record { last = x.last; at = x.at; heads = x.heads; none = x.none; below = f false x.below })
+end_later s code Below Below' f t b _ p ks a = absurd a
 
 module _ (s : Source) (code : CodeOf) (m m' : Instances) (e : Later s m m') where
   reaches_later : (from t u j : ℕ) → Stands s m from t → Reaches s m from u j → Reaches s m' from u j
@@ -71,7 +72,7 @@ module _ (s : Source) (code : CodeOf) (m m' : Instances) (e : Later s m m') wher
       term_later site n (PlaceOf j key) p q a = record { text = a.text; address = a.address; reaches = reaches_later inst t a.text j st a.reaches; has = a.has }
       term_later site n (ImageOf image) p q a = a
       term_later site n (Joined line x y) p q a = (a.0, a.1, (term_later site n x p a.0 (a.2).0, (a.2).1), (term_later site (suc n) y a.0 a.1 (a.3).0, (a.3).1), a.4)
-      term_later site n Unbuilt p q a = a
+      term_later site n _ p q a = absurd a
 
       pub terms_later : (site : Site) (n : ℕ) (xs : Terms) (p q : ℕ) → TermsAt s code m inst site n xs p q → TermsAt s code m' inst site n xs p q
       terms_later site n NoTerm p q a = a
@@ -89,6 +90,7 @@ module _ (s : Source) (code : CodeOf) (m m' : Instances) (e : Later s m m') wher
     target_later ToAddress p q ks ks' a = a
     target_later (ToText line) p q ks ks' a = a
     target_later (ToTextOf j key line) p q ks ks' a = a
+    target_later _ p q ks ks' a = absurd a
 
     gives_later : (site : Site) (temp : ℕ) (ts : List Target) (p q : ℕ) (ks ks' : List Kind) → GivesIs s code m inst site temp ts p q ks ks' → GivesIs s code m' inst site temp ts p q ks ks'
     gives_later site temp [] p q ks ks' a = a
@@ -165,6 +167,7 @@ module _ (s : Source) (code : CodeOf) (m m' : Instances) (e : Later s m m') wher
       work_later Below Below' f b used keeps (EndBlock ∷ w) p ks a = (a.0, comes_later b used keeps (length ks) a.0 p a.1, end_later s code Below Below' f t b EndBlock a.0 ks a.2)
       work_later Below Below' f b used keeps (EndProcedure v ∷ w) p ks a = (a.0, comes_later b used keeps (length ks) a.0 p a.1, end_later s code Below Below' f t b (EndProcedure v) a.0 ks a.2)
       work_later Below Below' f b used keeps (EndProgram ∷ w) p ks a = (a.0, comes_later b used keeps (length ks) a.0 p a.1, end_later s code Below Below' f t b EndProgram a.0 ks a.2)
+      work_later Below Below' f b used keeps (_ ∷ w) p ks a = absurd a
 
 module _ (s : Source) (code : CodeOf) (m m' : Instances) (fs fs' : Frames) (e : Later s m m') (Of : ℕ → Type 0) (k : Keeps s m fs fs' Of) where
   chain_on_later : (Ground Ground' : Bool → List machine.Activation → Type 0) → ((v : Bool) (below : List machine.Activation) → Ground v below → Ground' v below) → (chain : List Activation) → AllOf Of chain → (v : Bool) (below : List machine.Activation) → ChainOn s code Ground m fs chain v below → ChainOn s code Ground' m' fs' chain v below

@@ -1,6 +1,6 @@
 -- The code of an expression evaluates its closed tree.
 use Rattle.std.proofs.Common.{◌≡◌, ℕ, suc, Bool, true, false, List, [], ◌∷◌, length, Option, Some, None, refl, sym, ap, ◌∙◌, subst}
-use Rattle.std.specs.Prelude.{pos, ◌&&◌}
+use Rattle.std.specs.Prelude.{pos, ◌&&◌, ◌||◌}
 use Rattle.sim_base.specs.declared.numbering.DeclNo.{DeclNo}
 use Rattle.sim_scope.specs.declared.scopes.Denotation.{Denotation}
 use Rattle.sim_scope.specs.declared.scopes.Denotation.TheVariants as denotation
@@ -23,7 +23,8 @@ use Rattle.sim_values.specs.declared.standard.Standard.{Standard}
 use Rattle.sim_values.specs.Plain.{Plain, Character, Integer, Nothing, Object, Text, Truth}
 use Rattle.sim_code.specs.declared.instr.Instr.TheVariants as i
 use Rattle.sim_code.specs.Code.{CodeOf}
-use Rattle.sim_meaning.specs.Closing.{Joining, Lazily, Negated, Plainly, Sort, actual_term, array_term, close, close_actuals, close_all, constant_term, declared_term, formal_term, formals_at, home_of, in_instance, is_text, is_text_type, literal_term, named_term, signed_term, sort_of, standard_term, two_term, variable_term, array_place, attribute_term, behind_dot, close_place, declared_place, dot_term, formal_place, given_term, image_place, is_variable, name_term, named_place, object_term, stream_denoted, stream_of, sysout, variable_place}
+use Rattle.sim_meaning.specs.Closing.{Joining, Lazily, Negated, Plainly, Sort, actual_term, array_term, close, close_actuals, close_all, constant_term, declared_term, formal_term, formals_at, home_of, in_instance, is_text, is_text_type, literal_term, named_term, signed_term, sort_of, standard_term, two_term, variable_term, array_place, attribute_term, behind_dot, close_place, declared_place, dot_term, formal_place, given_term, image_place, is_attribute, is_attribute_denoted, is_variable, name_term, named_place, object_term, stream_denoted, stream_of, sysout, variable_place}
+use Rattle.sim_meaning.specs.Attributes.{connection_at, declared_attribute, fitting, if_any, parameter_qualification}
 use Rattle.sim_meaning.specs.Names.{procedure_named, stream_named}
 use Rattle.sim_meaning.specs.Pending.{CallOf, Cell, Declared, ElementOf, Instances, Term, Terms, ValueAt, Further, NoTerm, PlaceOf}
 use Rattle.sim_meaning.specs.Statements.{standard_leaves, has_value}
@@ -32,7 +33,7 @@ use Rattle.sim_meaning.specs.Texts.{constant_of}
 use Rattle.codegen_expr.specs.Sites.{At, Inside, Site}
 use Rattle.codegen_expr.specs.CodeExpr.{ActualAt, ActualsAt, ArrayAt, CallAt, CellAt, ConstantAt, DeclaredAt, ElementAt, ExprAt, ExprsAt, FormalAt, LiteralAt, NamedAt, PlainAt, SignedAt, StandardAt, StandardIs, TwoAt, VariableAt, block_number, gives_entry, operands, ArrayPlaceAt, AttributeAt, BehindDotAt, DeclaredPlaceAt, DotAt, FormalPlaceAt, GivenAt, ImagePlaceAt, NameAt, NamedPlaceAt, ObjectAt, PlaceAt, VariablePlaceAt}
 use Rattle.codegen_expr.specs.CodeExpr as code_gives
-use Rattle.codegen.specs.Agrees.{Agrees}
+use Rattle.sim_relate.proofs.Plainly.{Agrees}
 use Rattle.sim_relate.proofs.Formals.{actuals_counted, formals_same}
 use Rattle.sim_relate.proofs.Relation.{Finds, OperandAt, TermAt, TermsAt, gives, text_gives, GivenIs, IsImage, ReadsAt, empty, listed, of_input, of_output, reads}
 use Rattle.sim_scope.specs.declared.standard.StandardName.{StandardName}
@@ -277,9 +278,9 @@ module _ (s : Source) (code : CodeOf) (m : Instances) (inst : ℕ) (site : Site)
   stream_is (syntax.Named name es) = stream_denoted_is (denoted s name.token.0)
   stream_is _ = tt
 
-  image_place_at : (o : Option ℕ) (n p q : ℕ) → OnlyImages o → ImagePlaceAt code site n o p q → ReadAt n (image_place o) p q
-  image_place_at None n p q known a = absurd a
-  image_place_at (Some image) n p q known a = ((known, a), refl)
+  image_place_at : (o : Option ℕ) (other : Term) (n p q : ℕ) → OnlyImages o → ImagePlaceAt code site n o p q → ReadAt n (image_place o other) p q
+  image_place_at None other n p q known a = absurd a
+  image_place_at (Some image) other n p q known a = ((known, a), refl)
 
   object_at : (place : Bool) (n : ℕ) (Place Value : ℕ → ℕ → Type 0) (x y : Term) → ((p q : ℕ) → Place p q → ReadAt n x p q) → ((p q : ℕ) → Value p q → OperandAt s code m inst site n y p q) → (p q : ℕ) → ObjectAt place Place Value p q → ReadAt n (object_term place x y) p q
   object_at true n Place Value x y f g p q a = f p q a
@@ -302,7 +303,63 @@ module _ (s : Source) (code : CodeOf) (m : Instances) (inst : ℕ) (site : Site)
   dot_at (Some (denotation.Declared d)) stream is line n es Place Value Operands Inner x y terms known f g h0 h counts p q a = absurd a
   dot_at None stream is line n es Place Value Operands Inner x y terms known f g h0 h counts p q a = absurd a
 
+  -- An attribute of an object has no code. So an operand with code is none.
+  dotted_declared : (u : Option Denotation) (stream : Option ℕ) (is : Bool) (line n : ℕ) (es : Expressions) (Place Value Operands Inner : ℕ → ℕ → Type 0) (p q : ℕ) → DotAt code site n line u stream is es Place Value Operands Inner p q → is_attribute_denoted s u es ≡ false
+  dotted_declared None stream is line n es Place Value Operands Inner p q a = absurd a
+  dotted_declared (Some (denotation.Declared d)) stream is line n es Place Value Operands Inner p q a = absurd a
+  dotted_declared (Some (denotation.Standard name)) stream is line n es Place Value Operands Inner p q a = refl
+
+  no_attribute : (e : Expression) (n p q : ℕ) → ExprAt s code site n e p q → is_attribute s e ≡ false
+  unfolding is_attribute
+  no_attribute (syntax.Dot token x name es) n p q a =
+      dotted_declared (denoted s name.token.0) (stream_of s x) (is_variable s x) (line_at s name.token.0) n es (PlaceAt s code site n x) (ExprAt s code site n x) (ExprsAt s code site n es) (ExprsAt s code site (suc n) es) p q a.1
+  no_attribute _ n p q a = refl
+
+  -- a variable in front of the dot, or none
+  object_more : (moves is more : Bool) (Place Value : ℕ → ℕ → Type 0) → ((p q : ℕ) → Value p q → more ≡ false) → (p q : ℕ) → ObjectAt (moves && is) Place Value p q → ObjectAt (moves && (is || more)) Place Value p q
+  object_more false is more Place Value f p q a = a
+  object_more true true more Place Value f p q a = a
+  object_more true false more Place Value f p q a = subst (λ z. ObjectAt z Place Value p q) (sym (f p q a)) a
+
+  attribute_more : (name : Option Standard) (is more : Bool) (line n : ℕ) (es : Expressions) (Place Value Inner : ℕ → ℕ → Type 0) → ((p q : ℕ) → Value p q → more ≡ false) → (p q : ℕ) → AttributeAt code site n line name is es Place Value Inner p q → AttributeAt code site n line name (is || more) es Place Value Inner p q
+  attribute_more None is more line n es Place Value Inner f p q a = a
+  attribute_more (Some name) is more line n es Place Value Inner f p q a = (a.0, a.1, object_more (moves_position name) is more Place Value f p a.0 a.2, a.3, a.4)
+
+  behind_more : (stream : Option ℕ) (name : Option Standard) (is more : Bool) (line n : ℕ) (es : Expressions) (Place Value Operands Inner : ℕ → ℕ → Type 0) → ((p q : ℕ) → Value p q → more ≡ false) → (p q : ℕ) → BehindDotAt code site n line stream name is es Place Value Operands Inner p q → BehindDotAt code site n line stream name (is || more) es Place Value Operands Inner p q
+  behind_more (Some image) name is more line n es Place Value Operands Inner f p q a = a
+  behind_more None name is more line n es Place Value Operands Inner f p q a = attribute_more name is more line n es Place Value Inner f p q a
+
+  dot_more : (u : Option Denotation) (stream : Option ℕ) (is more : Bool) (line n : ℕ) (es : Expressions) (Place Value Operands Inner : ℕ → ℕ → Type 0) → ((p q : ℕ) → Value p q → more ≡ false) → (p q : ℕ) → DotAt code site n line u stream is es Place Value Operands Inner p q → DotAt code site n line u stream (is || more) es Place Value Operands Inner p q
+  dot_more None stream is more line n es Place Value Operands Inner f p q a = absurd a
+  dot_more (Some (denotation.Declared d)) stream is more line n es Place Value Operands Inner f p q a = absurd a
+  dot_more (Some (denotation.Standard name)) stream is more line n es Place Value Operands Inner f p q a = behind_more stream (procedure_named name) is more line n es Place Value Operands Inner f p q a
+
+  -- behind a dot stands no attribute of an object
+  dotted : (u : Option Denotation) (f : DeclNo → Term) (other : Term) (n : ℕ) (g : Bool) (p q : ℕ) → (declared_attribute u ≡ None) → NamedIs n g other p q → NamedIs n g (if_any (declared_attribute u) f other) p q
+  dotted u f other n g p q e a = subst (λ z. NamedIs n g (if_any z f other) p q) (sym e) a
+
+  undeclared : (u : Option Denotation) (stream : Option ℕ) (is : Bool) (line n : ℕ) (es : Expressions) (Place Value Operands Inner : ℕ → ℕ → Type 0) (p q : ℕ) → DotAt code site n line u stream is es Place Value Operands Inner p q → declared_attribute u ≡ None
+  undeclared None stream is line n es Place Value Operands Inner p q a = absurd a
+  undeclared (Some (denotation.Declared d)) stream is line n es Place Value Operands Inner p q a = absurd a
+  undeclared (Some (denotation.Standard name)) stream is line n es Place Value Operands Inner p q a = refl
+
+  -- nor is anything seen in a connection
+  alone_is : (token : ℕ) (f : ℕ → Term) (other : Term) (n : ℕ) (g : Bool) (p q : ℕ) → NamedIs n g other p q → NamedIs n g (if_any (connection_at s token) f other) p q
+  alone_is token f other n g p q a = subst (λ z. NamedIs n g (if_any z f other) p q) (sym (agrees.unconnected token)) a
+
+  alone_read : (token : ℕ) (f : ℕ → Term) (other : Term) (n p q : ℕ) → ReadAt n other p q → ReadAt n (if_any (connection_at s token) f other) p q
+  alone_read token f other n p q a = subst (λ z. ReadAt n (if_any z f other) p q) (sym (agrees.unconnected token)) a
+
   -- ---- actual parameters
+
+  -- no parameter is a reference
+  qualification_none : (kind : FormalKind) (type : Option SimType) → parameter_qualification s kind type ≡ None
+  qualification_none shape.Simple type = agrees.unqualified type
+  qualification_none shape.Array type = refl
+  qualification_none shape.Procedure type = refl
+
+  fits : (kind : FormalKind) (type : Option SimType) (line n : ℕ) (x : Term) (p q : ℕ) → OperandAt s code m inst site n x p q → OperandAt s code m inst site n (fitting (parameter_qualification s kind type) line x) p q
+  fits kind type line n x p q a = subst (λ z. OperandAt s code m inst site n (fitting z line x) p q) (sym (qualification_none kind type)) a
 
   actual_at : (by : Mode) (kind : FormalKind) (text : Bool) (line n : ℕ) (A : ℕ → ℕ → Type 0) (x : Term) (p q : ℕ) → ((p q : ℕ) → A p q → OperandAt s code m inst site n x p q) → ActualAt code site n line by kind text A p q → OperandAt s code m inst site n (actual_term line by kind text x) p q
   unfolding row_of
@@ -337,23 +394,26 @@ module _ (s : Source) (code : CodeOf) (m : Instances) (inst : ℕ) (site : Site)
     close_at (syntax.Signed k token x) n p q a = signed_at k (line_at s token) n (ExprAt s code site n x) (close s m inst x) p q (λ p q. close_at x n p q) a
     close_at (syntax.Member member token x class) n p q a = absurd a
     close_at (syntax.Dot token x name es) n p q a =
-        let y = dot_at (denoted s name.token.0) (stream_of s x) (is_variable s x) (line_at s name.token.0) n es (PlaceAt s code site n x) (ExprAt s code site n x) (ExprsAt s code site n es) (ExprsAt s code site (suc n) es) (close_place s m inst x) (close s m inst x) (close_all s m inst es)
-        (stream_is x) (λ p q. place_at x n p q) (λ p q. close_at x n p q) (λ p q. close_all_at es n p q) (λ p q. close_all_at es (suc n) p q) (count_close es) p q a.1 in
-        (y.0, y.1 ∙ a.0)
+        let d = dot_more (denoted s name.token.0) (stream_of s x) (is_variable s x) (is_attribute s x) (line_at s name.token.0) n es (PlaceAt s code site n x) (ExprAt s code site n x) (ExprsAt s code site n es) (ExprsAt s code site (suc n) es) (λ p q. no_attribute x n p q) p q a.1 in
+        let none = undeclared (denoted s name.token.0) (stream_of s x) (is_variable s x) (line_at s name.token.0) n es (PlaceAt s code site n x) (ExprAt s code site n x) (ExprsAt s code site n es) (ExprsAt s code site (suc n) es) p q a.1 in
+        let y = dot_at (denoted s name.token.0) (stream_of s x) (is_variable s x || is_attribute s x) (line_at s name.token.0) n es (PlaceAt s code site n x) (ExprAt s code site n x) (ExprsAt s code site n es) (ExprsAt s code site (suc n) es) (close_place s m inst x) (close s m inst x) (close_all s m inst es)
+        (stream_is x) (λ p q. place_at x n p q) (λ p q. close_at x n p q) (λ p q. close_all_at es n p q) (λ p q. close_all_at es (suc n) p q) (count_close es) p q d in
+        dotted (denoted s name.token.0) _ _ n true p q none (y.0, y.1 ∙ a.0)
     close_at (syntax.Qua token x class) n p q a = absurd a
     close_at (syntax.Constant x token) n p q a = literal_at token x n p q a
     close_at (syntax.Named name es) n p q a =
         let x = named_at (denoted s name.token.0) (line_at s name.token.0) n es (ExprsAt s code site n es) (ExprsAt s code site (suc n) es) (λ fs. ActualsAt s code site (suc n) (line_at s name.token.0) es fs)
         (close_all s m inst es) (λ fs. close_actuals s m inst (line_at s name.token.0) es fs) (λ p q. close_all_at es n p q) (λ p q. close_all_at es (suc n) p q) (count_close es)
         (λ fs p q b. (close_actuals_at (line_at s name.token.0) es fs (suc n) p q b, count_actuals (line_at s name.token.0) (suc n) es fs p q b, actuals_counted s code site (line_at s name.token.0) (suc n) es fs p q b)) p q a.1 in
-        (x.0, x.1 ∙ a.0)
+        alone_is name.token.0 _ _ n true p q (x.0, x.1 ∙ a.0)
     close_at (syntax.This token class) n p q a = absurd a
     close_at (syntax.New token class es) n p q a = absurd a
     close_at (syntax.Parentheses token x) n p q a = close_at x n p q a
 
     pub place_at : (e : Expression) (n p q : ℕ) → PlaceAt s code site n e p q → ReadAt n (close_place s m inst e) p q
-    place_at (syntax.Named name es) n p q a = named_place_at (denoted s name.token.0) (line_at s name.token.0) n es (ExprsAt s code site (suc n) es) (close_all s m inst es) (λ p q. close_all_at es (suc n) p q) (count_close es) p q a
-    place_at (syntax.Dot token x name es) n p q a = image_place_at (stream_of s x) n p q (stream_is x) a
+    place_at (syntax.Named name es) n p q a =
+        alone_read name.token.0 _ _ n p q (named_place_at (denoted s name.token.0) (line_at s name.token.0) n es (ExprsAt s code site (suc n) es) (close_all s m inst es) (λ p q. close_all_at es (suc n) p q) (count_close es) p q a)
+    place_at (syntax.Dot token x name es) n p q a = image_place_at (stream_of s x) _ n p q (stream_is x) a
     place_at (syntax.If token c x y) n p q a = absurd a
     place_at (syntax.Binary op token x y) n p q a = absurd a
     place_at (syntax.Not token x) n p q a = absurd a
@@ -374,18 +434,21 @@ module _ (s : Source) (code : CodeOf) (m : Instances) (inst : ℕ) (site : Site)
     close_actuals_at line NoMore (f ∷ fs) n p q a = absurd a
     close_actuals_at line (Then e es) [] n p q a = absurd a
     close_actuals_at line (Then e es) (f ∷ fs) n p q a =
-        (a.0, actual_at f.mode f.kind (is_text_type f.ty) line n (ExprAt s code site n e) (close s m inst e) p a.0 (λ p q. close_at e n p q) a.1, close_actuals_at line es fs (suc n) a.0 q a.2)
+        (a.0, fits f.kind f.ty line n _ p a.0 (actual_at f.mode f.kind (is_text_type f.ty) line n (ExprAt s code site n e) (close s m inst e) p a.0 (λ p q. close_at e n p q) a.1), close_actuals_at line es fs (suc n) a.0 q a.2)
 
   -- a call that stands as a statement
   pub call_named_at : (name : Identifier) (es : Expressions) (n p q : ℕ) → NamedAt s code site n (line_at s name.token.0) (denoted s name.token.0) es (ExprsAt s code site n es) (ExprsAt s code site (suc n) es) (λ fs. ActualsAt s code site (suc n) (line_at s name.token.0) es fs) p q
       → NamedIs n (code_gives.gives s (denoted s name.token.0)) (close s m inst (syntax.Named name es)) p q
   call_named_at name es n p q a =
-      named_at (denoted s name.token.0) (line_at s name.token.0) n es (ExprsAt s code site n es) (ExprsAt s code site (suc n) es) (λ fs. ActualsAt s code site (suc n) (line_at s name.token.0) es fs)
+      alone_is name.token.0 _ _ n (code_gives.gives s (denoted s name.token.0)) p q (named_at (denoted s name.token.0) (line_at s name.token.0) n es (ExprsAt s code site n es) (ExprsAt s code site (suc n) es) (λ fs. ActualsAt s code site (suc n) (line_at s name.token.0) es fs)
       (close_all s m inst es) (λ fs. close_actuals s m inst (line_at s name.token.0) es fs) (λ p q. close_all_at es n p q) (λ p q. close_all_at es (suc n) p q) (count_close es)
-      (λ fs p q b. (close_actuals_at (line_at s name.token.0) es fs (suc n) p q b, count_actuals (line_at s name.token.0) (suc n) es fs p q b, actuals_counted s code site (line_at s name.token.0) (suc n) es fs p q b)) p q a
+      (λ fs p q b. (close_actuals_at (line_at s name.token.0) es fs (suc n) p q b, count_actuals (line_at s name.token.0) (suc n) es fs p q b, actuals_counted s code site (line_at s name.token.0) (suc n) es fs p q b)) p q a)
 
   pub call_dot_at : (token : ℕ) (x : Expression) (name : Identifier) (es : Expressions) (n p q : ℕ) → DotAt code site n (line_at s name.token.0) (denoted s name.token.0) (stream_of s x) (is_variable s x) es (PlaceAt s code site n x) (ExprAt s code site n x) (ExprsAt s code site n es) (ExprsAt s code site (suc n) es) p q
       → NamedIs n (code_gives.gives s (denoted s name.token.0)) (close s m inst (syntax.Dot token x name es)) p q
   call_dot_at token x name es n p q a =
-      dot_at (denoted s name.token.0) (stream_of s x) (is_variable s x) (line_at s name.token.0) n es (PlaceAt s code site n x) (ExprAt s code site n x) (ExprsAt s code site n es) (ExprsAt s code site (suc n) es) (close_place s m inst x) (close s m inst x) (close_all s m inst es)
-      (stream_is x) (λ p q. place_at x n p q) (λ p q. close_at x n p q) (λ p q. close_all_at es n p q) (λ p q. close_all_at es (suc n) p q) (count_close es) p q a
+      let d = dot_more (denoted s name.token.0) (stream_of s x) (is_variable s x) (is_attribute s x) (line_at s name.token.0) n es (PlaceAt s code site n x) (ExprAt s code site n x) (ExprsAt s code site n es) (ExprsAt s code site (suc n) es) (λ p q. no_attribute x n p q) p q a in
+      let none = undeclared (denoted s name.token.0) (stream_of s x) (is_variable s x) (line_at s name.token.0) n es (PlaceAt s code site n x) (ExprAt s code site n x) (ExprsAt s code site n es) (ExprsAt s code site (suc n) es) p q a in
+      dotted (denoted s name.token.0) _ _ n (code_gives.gives s (denoted s name.token.0)) p q none
+      (dot_at (denoted s name.token.0) (stream_of s x) (is_variable s x || is_attribute s x) (line_at s name.token.0) n es (PlaceAt s code site n x) (ExprAt s code site n x) (ExprsAt s code site n es) (ExprsAt s code site (suc n) es) (close_place s m inst x) (close s m inst x) (close_all s m inst es)
+      (stream_is x) (λ p q. place_at x n p q) (λ p q. close_at x n p q) (λ p q. close_all_at es n p q) (λ p q. close_all_at es (suc n) p q) (count_close es) p q d)

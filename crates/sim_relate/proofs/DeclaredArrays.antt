@@ -14,7 +14,7 @@ use Rattle.sim_meaning.specs.Pending.{ArrayOp, Cell, CopyOp, Declared, Do, Eval,
 use Rattle.sim_meaning.specs.Texts.{declared_at, kind_named, text}
 use Rattle.sim_meaning.specs.Sane.{Lives}
 use Rattle.codegen_expr.specs.Sites.{At, cells_in}
-use Rattle.codegen.specs.Agrees.{Agrees}
+use Rattle.sim_relate.proofs.Plainly.{Agrees}
 use Rattle.codegen.specs.CodeArrays.{ArraysAt, BoundsAt, FurtherAt, KeepsArray, LoadsArray, MakesAt, SegmentsAt}
 use Rattle.sim_relate.proofs.Closing.{close_at}
 use Rattle.sim_relate.proofs.Living.{reach_found}

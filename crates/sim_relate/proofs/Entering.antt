@@ -24,7 +24,7 @@ use Rattle.sim_meaning.specs.Pending.{Activation, Configuration, Do, EndBlock, E
 use Rattle.sim_meaning.specs.Texts.{BlockText, ConnectionText, PrefixedText, Text, program_texts, text}
 use Rattle.codegen_expr.specs.CodeExpr.{block_number}
 use Rattle.codegen_expr.specs.Sites.{cells_in}
-use Rattle.codegen.specs.Agrees.{Agrees}
+use Rattle.sim_relate.proofs.Plainly.{Agrees}
 use Rattle.codegen.specs.Compiled.{CodeHas, Compiled, RecordOf, TextCode, type_of_cell}
 use Rattle.sim_relate.proofs.Carried.{all_every, both_later, chain_later, kept_every}
 use Rattle.sim_relate.proofs.Ends.{chosen, left_out}
@@ -80,6 +80,7 @@ module _ (s : Source) (code : CodeOf) where
   work_below m fs Below inst t b used (EndBlock ∷ w) p ks a = (false, ((a.2).1).below)
   work_below m fs Below inst t b used (EndProcedure leaves ∷ w) p ks a = (leaves, ((a.2).ends).below)
   work_below m fs Below inst t b used (EndProgram ∷ w) p ks a = (false, ((a.2).1).below)
+  work_below m fs Below inst t b used (_ ∷ w) p ks a = absurd a
 
   pub chain_owners : (m : Instances) (fs : Frames) (chain : List Activation) (v : Bool) (below : List machine.Activation) → ChainAt s code m fs chain v below → SameOwners s code chain below
   chain_owners m fs [] v [] c = tt

@@ -37,6 +37,7 @@ use Rattle.codegen_expr.specs.Sites.{At, cells_in, lined}
 use Rattle.codegen.specs.CodeArrays.{ArraysAt, element_number}
 use Rattle.codegen.specs.CodeStm.{StmsAt}
 use Rattle.codegen.specs.Compiled.{Compiled, ProcedureTextOf, ProgramOf, TextCode, type_of_name}
+use Rattle.sim_relate.proofs.Plainly.{agreed}
 use Rattle.sim_relate.proofs.Actuals.{arrays_same, behind_result, both_kept, counted_many, each_length}
 use Rattle.sim_relate.proofs.Carried.{all_every, chain_changed, kept_every, parked_changed}
 use Rattle.sim_relate.proofs.DeclaredArrays.{arrays_at}
@@ -71,7 +72,7 @@ module _ (s : Source) (code : CodeOf) (compiled : Compiled s code) (m : Instance
   pub block_pends : (ds : Declarations) (ss : Statements) (end : Item) (p y q : ℕ) → b.cells ≡ length (cells_in s k (text s k)) → ArraysAt s code (site_at k b b.cells) ds p y → StmsAt s code (site_at k b b.cells) 0 ss y q → WorkAt s code m fs Below j k b b.cells (end ∷ []) q []
       → WorkAt s code m fs Below j k b b.cells (block_work s m j ds ss end) p []
   block_pends ds ss end p y q e arrays stms ends =
-      arrays_at s code compiled.agrees m fs Below j k b b.cells (fits e) stands lives (Do (Execs ss) ∷ end ∷ []) ds p y arrays (pends s code m fs Below j k b b.cells (fits e) (end ∷ []) (Execs ss) y q [] [] (stms, refl) ends)
+      arrays_at s code (agreed s code compiled) m fs Below j k b b.cells (fits e) stands lives (Do (Execs ss) ∷ end ∷ []) ds p y arrays (pends s code m fs Below j k b b.cells (fits e) (end ∷ []) (Execs ss) y q [] [] (stms, refl) ends)
 
 module _ (s : Source) (code : CodeOf) (compiled : Compiled s code) (l : Limits) (o : World) where
   abbrev R : Configuration → Machine → Type 0
@@ -92,7 +93,7 @@ module _ (s : Source) (code : CodeOf) (compiled : Compiled s code) (l : Limits) 
       let frame = new_frame s code 0 b None (machine.first_cells b) in
       let m' = later_m s code m fs a new frame (NoObject None) (NoObject None) in
       let fs' = later_fs s code m fs a new frame (NoObject None) (NoObject None) in
-      let stands : Stands s m' (length m.instances) 0 = new_outermost s m 0 new (NoObject None) refl refl refl compiled.agrees.outermost in
+      let stands : Stands s m' (length m.instances) 0 = new_outermost s m 0 new (NoObject None) refl refl refl (agreed s code compiled).outermost in
       let lives : Lives m' (length m.instances) = lives_alone (new_lives m new (NoObject None) refl) refl in
       let Below : Bool → Type 0 = λ v. ChainAt s code m' fs' [] v [] in
       let low : length (cells_in s 0 (text s 0)) ≤ b.cells = omega (arith, heads.cells) in
@@ -190,7 +191,7 @@ module _ (s : Source) (code : CodeOf) (compiled : Compiled s code) (l : Limits) 
       (ends_at s code m' fs' Below (length m.instances) (suc k) new_block new_block.cells EndBlock [] body.stop [] (record { begin = begin; declarations = ds; statements = ss; is = is }, record { last = body.last; at = body.ends; heads = heads; none = refl; below = waiting_chain })))))))
 
   enter_some : (k line : ℕ) (x : Text) → text s k ≡ Some x → At code (i.Enter (pos (block_number s k))) line pc q → encloser s.tables k ≡ Some t → ks' ≡ ks → Alike Related (sub_block_entered s l o m inst w vals rest k line (Some x)) (on_top code l o fs top below)
-  enter_some zero line x is at around e = absurd (no_around (encloser s.tables 0) t compiled.agrees.outermost around)
+  enter_some zero line x is at around e = absurd (no_around (encloser s.tables 0) t (agreed s code compiled).outermost around)
   enter_some (suc k) line (BlockText begin ds ss) is at around e = enter_block k line begin ds ss is at around e
   enter_some (suc k) line (ProcedureText result h body) is at around e =
       let c = code_there s code compiled (suc k) (ProcedureText result h body) is in
@@ -204,7 +205,7 @@ module _ (s : Source) (code : CodeOf) (compiled : Compiled s code) (l : Limits) 
 
   pub enter : (k line : ℕ) → Follows (EnterOp k line)
   enter k line a =
-      let x = text_there s k t compiled.agrees a.1 in
+      let x = text_there s k t (agreed s code compiled) a.1 in
       subst (λ z. Alike Related (sub_block_entered s l o m inst w vals rest k line z) (on_top code l o fs top below)) (sym x.1) (enter_some k line x.0 x.1 a.0 a.1 a.2)
 
   -- ---- procedures

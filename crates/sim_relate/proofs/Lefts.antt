@@ -22,14 +22,15 @@ use Rattle.sim_code.specs.declared.instr.Instr.TheVariants as i
 use Rattle.sim_code.specs.Code.{BlockOf, CodeOf}
 use Rattle.sim_code.specs.Machine.{Frames}
 use Rattle.sim_code.proofs.Lifts.{EachAt}
-use Rattle.sim_meaning.specs.Closing.{Left, LeftAddress, LeftCell, array_left, close, close_all, close_left, close_left_of, declared_left, formal_left, home_of, is_text, left_in, named_left, result_left, variable_left, LeftText, in_instance, left_variable, own_result, result_or}
+use Rattle.sim_meaning.specs.Attributes.{connection_at}
+use Rattle.sim_meaning.specs.Closing.{Left, LeftAddress, LeftCell, array_left, close, close_all, close_left, close_left_of, declared_left, formal_left, home_of, close_place, is_text, left_found, left_in, named_left, result_left, variable_left, LeftText, in_instance, left_variable, own_result, result_or}
 use Rattle.sim_meaning.specs.Pending.{Cell, Declared, Do, ElementOf, Eval, Instances, Item, Result, ShareOp, StoreOp, Target, Term, ToAddress, ToCell}
 use Rattle.sim_meaning.specs.Pending as meaning
 use Rattle.sim_meaning.specs.Statements.{Lefts, assigning, before, lefts}
 use Rattle.sim_meaning.specs.Texts.{text}
 use Rattle.codegen_expr.specs.Sites.{At, HasCell, Inside, Site, cells_in}
 use Rattle.codegen_expr.specs.CodeExpr.{ElementAt, ExprsAt, ExprAt}
-use Rattle.codegen.specs.Agrees.{Agrees}
+use Rattle.sim_relate.proofs.Plainly.{Agrees}
 use Rattle.codegen.specs.CodeLeft.{AtAddress, GivesAt, GoesAt, InCell, LeftsAt, NotBuilt, SharesAt, StoreAt, Stored, addresses, each_stored, stored, stored_declared, stored_element, stored_formal, stored_named, stored_of, stored_result, stored_variable, ResultAt, ToResult, ToText, stored_left, stored_text}
 use Rattle.sim_relate.proofs.Relation.{Any, Finds, GivesIs, Kind, OperandAt, Reaches, TargetAt, WorkAt, anys, site_at}
 use Rattle.sim_relate.proofs.Closing.{close_all_at, close_at, count_close}
@@ -141,7 +142,9 @@ module _ (s : Source) (code : CodeOf) (m : Instances) (inst t : ℕ) (b : BlockO
   left_named None es line = tt
 
   pub left_at : (e : Expression) → LeftFits (stored_left s e) (left_variable s m inst e)
-  left_at (syntax.Named name es) = left_named (denoted s name.token.0) es (line_at s name.token.0)
+  left_at (syntax.Named name es) =
+      subst (λ z. LeftFits (stored_left s (syntax.Named name es)) (left_found z (close_place s m inst (syntax.Named name es)) (named_left s m inst (line_at s name.token.0) (denoted s name.token.0) es))) (sym (agrees.unconnected name.token.0))
+      (left_named (denoted s name.token.0) es (line_at s name.token.0))
   left_at (syntax.If token c x y) = tt
   left_at (syntax.Binary op token x y) = tt
   left_at (syntax.Not token x) = tt

@@ -5,6 +5,7 @@ pub mod Carried
 pub mod Lists
 pub mod Slots
 pub mod Standards
+pub mod Plainly
 pub mod Reach
 pub mod Formals
 pub mod Closing

@@ -24,12 +24,12 @@ use Rattle.sim_meaning.specs.Closing.{Left, close, is_text, left_variable}
 use Rattle.sim_meaning.specs.Meaning.{do_op}
 use Rattle.sim_meaning.specs.Pending.{Activation, AgainOp, BackOp, BranchOp, Cell, Configuration, Do, ElementsOp, Eval, Exec, Instances, Item, Op, RaiseOp, StepOp, StepTestOp, StoreOp, Target, ToCell, TwoOp, Val, WhileElementOp, plain, Key, ToTextOf}
 use Rattle.sim_meaning.specs.Pending as meaning
-use Rattle.sim_meaning.specs.Statements.{controlled, looping, reading, finding}
+use Rattle.sim_meaning.specs.Statements.{controlled, controlled_left, finding, looping, reading}
 use Rattle.sim_meaning.specs.Steps.{go}
 use Rattle.sim_meaning.specs.Texts.{text}
 use Rattle.codegen_expr.specs.Sites.{Is, Site, cells_in, HasCell, Pushes, slot_of}
 use Rattle.codegen_expr.specs.CodeExpr.{ExprAt}
-use Rattle.codegen.specs.Agrees.{Agrees}
+use Rattle.sim_relate.proofs.Plainly.{Agrees}
 use Rattle.codegen.specs.CodeFor.{ElementsAt, ForAt, ListAt, LoadsVariable, OneElementAt, SharedAt, StoresVariable, Variable, is_empty, GivesBy, GivesVariable, assigned_by}
 use Rattle.codegen.specs.CodeLeft.{InCell, Stored, stored_left}
 use Rattle.codegen.specs.CodeStm.{StmAt}
@@ -318,7 +318,15 @@ module _ (s : Source) (code : CodeOf) (l : Limits) (agrees : Agrees s) (o : Worl
   looped p true assignment.Reference line _ v es a y fit h e = absurd h
   looped p false assignment.Value line _ v es a y fit h e = absurd h
 
+  -- a controlled variable that has code is no reference
+  looped_left : (p : World) (g : Bool) (sign : Assignment) (line : ℕ) (v : Expression) (es : List Element) (a : Statement) (y : ℕ) → ForAt s code (site_at t b u) (length ks) (assigned_by g sign line) (stored_left s v) (is_empty a) es (λ site. StmAt s code site (length ks) a) y q → ks' ≡ ks
+      → Alike R (looping p m inst w vals rest (controlled g sign line (controlled_left g sign s m inst v)) es a) (Going p (record { chain = act inst y stack b.room ∷ below; memory = fs }))
+  looped_left p true assignment.Value line v es a y h e = looped p true assignment.Value line (stored_left s v) (left_variable s m inst v) es a y (left_at s code m inst t b u agrees (λ z ins. reach_found s m inst t z agrees here.stands here.lives ins) v) h e
+  looped_left p true assignment.Reference line v es a y h e = looped p true assignment.Reference line (stored_left s v) (left_variable s m inst v) es a y (left_at s code m inst t b u agrees (λ z ins. reach_found s m inst t z agrees here.stands here.lives ins) v) h e
+  looped_left p false assignment.Value line v es a y h e = looped p false assignment.Value line (stored_left s v) (left_variable s m inst v) es a y (left_at s code m inst t b u agrees (λ z ins. reach_found s m inst t z agrees here.stands here.lives ins) v) h e
+  looped_left p false assignment.Reference line v es a y h e = absurd h
+
   pub for_statement : (token : ℕ) (x : Identifier) (sign : Assignment) (assign : ℕ) (es : List Element) (a : Statement) → BeginsAt s code m fs inst (site_at t b u) (Exec (syntax.For token x sign assign es a)) pc q ks ks' → Alike R (do_op s l o m inst w vals rest (Exec (syntax.For token x sign assign es a))) (on_top code l o fs a_top below)
   for_statement token x sign assign es a h =
       let y = h.0 in
-      a_tick _ y.0 y.1 (λ p. looped p (is_text s (syntax.Named x NoMore)) sign (line_at s assign) (stored_left s (syntax.Named x NoMore)) (left_variable s m inst (syntax.Named x NoMore)) es a y.0 (left_at s code m inst t b u agrees (λ z ins. reach_found s m inst t z agrees here.stands here.lives ins) (syntax.Named x NoMore)) y.2 h.1)
+      a_tick _ y.0 y.1 (λ p. looped_left p (is_text s (syntax.Named x NoMore)) sign (line_at s assign) (syntax.Named x NoMore) es a y.0 y.2 h.1)

@@ -19,6 +19,7 @@ use Rattle.sim_meaning.specs.Texts.{text}
 use Rattle.sim_meaning.specs.Sane.{Sane, SaneOn}
 use Rattle.codegen_expr.specs.Sites.{cells_in}
 use Rattle.codegen.specs.Compiled.{Compiled}
+use Rattle.sim_relate.proofs.Plainly.{agreed}
 use Rattle.sim_relate.proofs.Assigns as assigns
 use Rattle.sim_relate.proofs.Calls as calls
 use Rattle.sim_relate.proofs.Ends as ends
@@ -87,16 +88,16 @@ module _ (s : Source) (code : CodeOf) (compiled : Compiled s code) (l : Limits) 
   eval_moves (PlaceOf j key) a = both (operators.place s code l o m inst w vals rest fs t b pc stack below ks here u q ks' low k j key a)
   eval_moves (ImageOf n) a = both (operators.image s code l o m inst w vals rest fs t b pc stack below ks here u q ks' low k n a)
   eval_moves (Joined line x y) a = quiet _ refl (stands_so _ (quiet_steps.joined_opened s code m fs Below inst t b u low w pc q ks ks' k line x y a)) (omega arith)
-  eval_moves Unbuilt a = absurd (a.0)
+  eval_moves _ a = absurd (a.0)
 
   statement_moves : (x : Statement) → Follows (Exec x)
   statement_moves (syntax.Empty token) a = quiet _ refl (stands_so w (quiet_steps.empty_begun s code m fs Below inst t b u low w pc q ks ks' k token a)) (omega arith)
-  statement_moves (syntax.Compound x) a = both (statements.compound_statement s code l compiled.agrees o m inst w vals rest fs t b pc stack below ks here u q ks' low k x a)
-  statement_moves (syntax.Call e) a = both (statements.call_statement s code l compiled.agrees o m inst w vals rest fs t b pc stack below ks here u q ks' low k e a)
-  statement_moves (syntax.Assign left rs) a = both (statements.assign_statement s code l compiled.agrees o m inst w vals rest fs t b pc stack below ks here u q ks' low k left rs a)
-  statement_moves (syntax.Choose token c x y) a = both (statements.choose_statement s code l compiled.agrees o m inst w vals rest fs t b pc stack below ks here u q ks' low k token c x y a)
-  statement_moves (syntax.Repeat token c x) a = both (statements.repeat_statement s code l compiled.agrees o m inst w vals rest fs t b pc stack below ks here u q ks' low k token c x a)
-  statement_moves (syntax.For token x sign assign es y) a = both (loops.for_statement s code l compiled.agrees o m inst w vals rest fs t b pc stack below ks here u q ks' low k token x sign assign es y a)
+  statement_moves (syntax.Compound x) a = both (statements.compound_statement s code l (agreed s code compiled) o m inst w vals rest fs t b pc stack below ks here u q ks' low k x a)
+  statement_moves (syntax.Call e) a = both (statements.call_statement s code l (agreed s code compiled) o m inst w vals rest fs t b pc stack below ks here u q ks' low k e a)
+  statement_moves (syntax.Assign left rs) a = both (statements.assign_statement s code l (agreed s code compiled) o m inst w vals rest fs t b pc stack below ks here u q ks' low k left rs a)
+  statement_moves (syntax.Choose token c x y) a = both (statements.choose_statement s code l (agreed s code compiled) o m inst w vals rest fs t b pc stack below ks here u q ks' low k token c x y a)
+  statement_moves (syntax.Repeat token c x) a = both (statements.repeat_statement s code l (agreed s code compiled) o m inst w vals rest fs t b pc stack below ks here u q ks' low k token c x a)
+  statement_moves (syntax.For token x sign assign es y) a = both (loops.for_statement s code l (agreed s code compiled) o m inst w vals rest fs t b pc stack below ks here u q ks' low k token x sign assign es y a)
   statement_moves (syntax.Prefixed class arguments x) a = absurd (a.0)
   statement_moves (syntax.Inner token) a = absurd (a.0)
   statement_moves (syntax.Inspect token e opening x end other) a = absurd (a.0)
@@ -104,10 +105,10 @@ module _ (s : Source) (code : CodeOf) (compiled : Compiled s code) (l : Limits) 
   statement_moves (syntax.Activate token word e schedule) a = absurd (a.0)
 
   elements_move : (x : Target) (es : List Element) (y : Statement) → Follows (ElementsOp x es y)
-  elements_move x [] y a = quiet _ refl (stands_so w (loops.none_rests s code l compiled.agrees o m inst w vals rest fs t b pc stack below ks here u q ks' low k x y a)) (omega arith)
-  elements_move x (syntax.Once e ∷ es) y a = both (loops.once s code l compiled.agrees o m inst w vals rest fs t b pc stack below ks here u q ks' low k x e es y a)
-  elements_move x (syntax.While e token c ∷ es) y a = quiet _ refl (stands_so _ (loops.while_rests s code l compiled.agrees o m inst w vals rest fs t b pc stack below ks here u q ks' low k x e token c es y a)) (omega arith)
-  elements_move x (syntax.Step first token by limit ∷ es) y a = quiet _ refl (stands_so _ (loops.step_rests s code l compiled.agrees o m inst w vals rest fs t b pc stack below ks here u q ks' low k x first token by limit es y a)) (omega arith)
+  elements_move x [] y a = quiet _ refl (stands_so w (loops.none_rests s code l (agreed s code compiled) o m inst w vals rest fs t b pc stack below ks here u q ks' low k x y a)) (omega arith)
+  elements_move x (syntax.Once e ∷ es) y a = both (loops.once s code l (agreed s code compiled) o m inst w vals rest fs t b pc stack below ks here u q ks' low k x e es y a)
+  elements_move x (syntax.While e token c ∷ es) y a = quiet _ refl (stands_so _ (loops.while_rests s code l (agreed s code compiled) o m inst w vals rest fs t b pc stack below ks here u q ks' low k x e token c es y a)) (omega arith)
+  elements_move x (syntax.Step first token by limit ∷ es) y a = quiet _ refl (stands_so _ (loops.step_rests s code l (agreed s code compiled) o m inst w vals rest fs t b pc stack below ks here u q ks' low k x first token by limit es y a)) (omega arith)
 
   -- one line for each operator
   op_moves : (op : Op) → Follows op
@@ -132,16 +133,17 @@ module _ (s : Source) (code : CodeOf) (compiled : Compiled s code) (l : Limits) 
   op_moves (Execs NoStatement) a = quiet _ refl (stands_so w (quiet_steps.none_begun s code m fs Below inst t b u low w pc q ks ks' k a)) (omega arith)
   op_moves (Execs (Also x more)) a = quiet _ refl (stands_so _ (quiet_steps.also_begun s code m fs Below inst t b u low w pc q ks ks' k x more a)) (omega arith)
   op_moves (EnterOp c line) a = both (entries.enter s code compiled l o m inst w vals rest fs t b pc stack below ks here u q ks' low k c line a)
-  op_moves (ChooseOp x y) a = both (statements.chosen_statement s code l compiled.agrees o m inst w vals rest fs t b pc stack below ks here u q ks' low k x y a)
-  op_moves (TestOp c x) a = both (statements.test s code l compiled.agrees o m inst w vals rest fs t b pc stack below ks here u q ks' low k c x a)
-  op_moves (BranchOp x next) a = both (statements.branch s code l compiled.agrees o m inst w vals rest fs t b pc stack below ks here u q ks' low k x next a)
-  op_moves (BackOp op) a = both (statements.back s code l compiled.agrees o m inst w vals rest fs t b pc stack below ks here u q ks' low k op a)
+  op_moves (ChooseOp x y) a = both (statements.chosen_statement s code l (agreed s code compiled) o m inst w vals rest fs t b pc stack below ks here u q ks' low k x y a)
+  op_moves (TestOp c x) a = both (statements.test s code l (agreed s code compiled) o m inst w vals rest fs t b pc stack below ks here u q ks' low k c x a)
+  op_moves (BranchOp x next) a = both (statements.branch s code l (agreed s code compiled) o m inst w vals rest fs t b pc stack below ks here u q ks' low k x next a)
+  op_moves (BackOp op) a = both (statements.back s code l (agreed s code compiled) o m inst w vals rest fs t b pc stack below ks here u q ks' low k op a)
   op_moves PastOp a = both (operators.past s code l o m inst w vals rest fs t b pc stack below ks here u q ks' low k a)
   op_moves (ElementsOp x es y) a = elements_move x es y a
-  op_moves (WhileElementOp x e c y) a = both (loops.while_element s code l compiled.agrees o m inst w vals rest fs t b pc stack below ks here u q ks' low k x e c y a)
-  op_moves (StepTestOp x line by limit y) a = both (loops.step_tested s code l compiled.agrees o m inst w vals rest fs t b pc stack below ks here u q ks' low k x line by limit y a)
-  op_moves (StepOp line) a = both (loops.step_test_op s code l compiled.agrees o m inst w vals rest fs t b pc stack below ks here u q ks' low k line a)
-  op_moves (RaiseOp x line by limit y) a = quiet _ refl (stands_so _ (loops.raise_rests s code l compiled.agrees o m inst w vals rest fs t b pc stack below ks here u q ks' low k x line by limit y a)) (omega arith)
+  op_moves (WhileElementOp x e c y) a = both (loops.while_element s code l (agreed s code compiled) o m inst w vals rest fs t b pc stack below ks here u q ks' low k x e c y a)
+  op_moves (StepTestOp x line by limit y) a = both (loops.step_tested s code l (agreed s code compiled) o m inst w vals rest fs t b pc stack below ks here u q ks' low k x line by limit y a)
+  op_moves (StepOp line) a = both (loops.step_test_op s code l (agreed s code compiled) o m inst w vals rest fs t b pc stack below ks here u q ks' low k line a)
+  op_moves (RaiseOp x line by limit y) a = quiet _ refl (stands_so _ (loops.raise_rests s code l (agreed s code compiled) o m inst w vals rest fs t b pc stack below ks here u q ks' low k x line by limit y a)) (omega arith)
+  op_moves _ a = absurd a
 
 module _ (s : Source) (code : CodeOf) (compiled : Compiled s code) (l : Limits) (o : World) where
   abbrev Moves : Configuration → Machine → Type 0
@@ -154,6 +156,7 @@ module _ (s : Source) (code : CodeOf) (compiled : Compiled s code) (l : Limits) 
   work_moves m inst (EndBlock ∷ w) vals rest fs t b pc stack below ks used here a = both (ends.end_block s code l o m inst w vals rest fs t b pc stack below ks here used a)
   work_moves m inst (EndProcedure leaves ∷ w) vals rest fs t b pc stack below ks used here a = both (ends.end_procedure s code l o m inst w vals rest fs t b pc stack below ks here used leaves a)
   work_moves m inst (EndProgram ∷ w) vals rest fs t b pc stack below ks used here a = both (ends.end_program s code l o m inst w vals rest fs t b pc stack below ks here used a)
+  work_moves m inst (_ ∷ w) vals rest fs t b pc stack below ks used here a = absurd a
 
   -- an activation is that of its instance
   act_is : (y : machine.Activation) (j room : ℕ) → y.thunk ≡ false → y.home ≡ j → y.room ≡ room → y ≡ act j y.pc y.stack room

@@ -27,6 +27,7 @@ module _ (s : Source) (code : CodeOf) where
   work_more m fs Below inst t b u u' le (EndBlock ∷ w) p ks a = (a.0, comes_more fs inst t b u u' (length ks) a.0 p le a.1, a.2)
   work_more m fs Below inst t b u u' le (EndProcedure v ∷ w) p ks a = (a.0, comes_more fs inst t b u u' (length ks) a.0 p le a.1, a.2)
   work_more m fs Below inst t b u u' le (EndProgram ∷ w) p ks a = (a.0, comes_more fs inst t b u u' (length ks) a.0 p le a.1, a.2)
+  work_more m fs Below inst t b u u' le (_ ∷ w) p ks a = absurd a
 
   module _ {Of : ℕ → Type 0} {m m' : Instances} {fs fs' : Frames} (x : Changed s code Of m fs m' fs') where
     -- where both sides stand then

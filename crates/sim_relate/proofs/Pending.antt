@@ -56,3 +56,4 @@ ends_at s code m fs Below inst t b u (Do op) w p ks a = absurd a
 ends_at s code m fs Below inst t b u EndBlock w p ks a = (p, there refl, a)
 ends_at s code m fs Below inst t b u (EndProcedure v) w p ks a = (p, there refl, a)
 ends_at s code m fs Below inst t b u EndProgram w p ks a = (p, there refl, a)
+ends_at s code m fs Below inst t b u _ w p ks a = absurd a

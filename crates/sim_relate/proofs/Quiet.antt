@@ -34,7 +34,7 @@ abbrev mutual
   opened (PlaceOf j key) = 0
   opened (ImageOf image) = 0
   opened (Joined line a b) = suc (opened a)
-  opened Unbuilt = 0
+  opened _ = 0
 
   pub opened_first : Terms → ℕ
   opened_first NoTerm = 0

@@ -6,7 +6,7 @@ use Rattle.sim_scope.specs.Source.{Source, level_of}
 use Rattle.sim_code.specs.Instances.{Instance, found_at, outward}
 use Rattle.sim_meaning.specs.Pending.{Held, Instances}
 use Rattle.codegen_expr.specs.Sites.{Inside, further, itself}
-use Rattle.codegen.specs.Agrees.{Agrees}
+use Rattle.sim_relate.proofs.Plainly.{Agrees}
 use Rattle.sim_relate.proofs.Relation.{Reaches, Stands, inside, outermost, seen_at, seen_within}
 
 pub equal_numbers : (a b : ℕ) → a ≡ b → (a == b) ≡ true

@@ -266,7 +266,7 @@ module _ (s : Source) (code : CodeOf) where
     TermAt m inst site n (ImageOf image) p q = IsImage image × Pushes code site n (i.AddrImg (pos image)) p q
     TermAt m inst site n (Joined line a b) p q =
         (x : ℕ) × (y : ℕ) × (TermAt m inst site n a p x × (gives s a ≡ true)) × (TermAt m inst site (suc n) b x y × (gives s b ≡ true)) × JoinsIs site n line y q
-    TermAt m inst site n Unbuilt p q = ⊥
+    TermAt m inst site n _ p q = ⊥
 
     -- one value after the other
     pub TermsAt : Instances → (inst : ℕ) → Site → (n : ℕ) → Terms → ℕ → ℕ → Type 0
@@ -361,6 +361,7 @@ module _ (s : Source) (code : CodeOf) where
   TargetAt m inst ToAddress p q before behind = Is code i.Put p q × (before ≡ anys 2 behind)
   TargetAt m inst (ToText line) p q before behind = At code i.AssignT line p q × (before ≡ anys 2 behind)
   TargetAt m inst (ToTextOf j key line) p q before behind = At code i.AssignT line p q × (before ≡ anys 2 behind)
+  TargetAt m inst _ p q before behind = ⊥
 
   -- a temp of the frame: it stands behind the cells of the text
   pub record TempIs (site : Site) (temp : ℕ) : Type 0 where
@@ -527,6 +528,7 @@ module _ (s : Source) (code : CodeOf) where
   OpAt m fs inst site (StepTestOp t line step limit a) p q before behind = (x : StepIs m inst site t line step limit a q behind) × (x.element.t ≡ p) × (before ≡ anys 1 behind)
   OpAt m fs inst site (StepOp line) p q before behind = WorksAnyLine i.StepTest 3 true p q before behind
   OpAt m fs inst site (RaiseOp t line step limit a) p q before behind = (x : StepIs m inst site t line step limit a q behind) × (x.element.h ≡ p) × (before ≡ behind)
+  OpAt m fs inst site _ p q before behind = ⊥
 
   -- ---- pending work
 
@@ -558,6 +560,7 @@ module _ (s : Source) (code : CodeOf) where
   EndAt Below t b EndBlock p before = BlockEnds t × EndIs i.Leave block_kind.SubBlock type.Nothing t b p before (Below false)
   EndAt Below t b (EndProcedure leaves) p before = ProcedureEnds t leaves (λ result. EndIs i.Return block_kind.Procedure (type_of_name result) t b p before (Below leaves))
   EndAt Below t b EndProgram p before = (t ≡ 0) × EndIs (i.EndLevel (pos 0)) block_kind.SubBlock type.Nothing t b p before (Below false)
+  EndAt Below t b _ p before = ⊥
 
   -- an operator in its own place
   abbrev pub BeginsAt : Instances → Frames → (inst : ℕ) → Site → Op → (p q : ℕ) → (before behind : List Kind) → Type 0
@@ -574,6 +577,7 @@ module _ (s : Source) (code : CodeOf) where
   WorkAt m fs Below inst t b used (EndBlock ∷ w) p before = (at : ℕ) × ComesTo fs inst t b used (length before) at p × EndAt Below t b EndBlock at before
   WorkAt m fs Below inst t b used (EndProcedure leaves ∷ w) p before = (at : ℕ) × ComesTo fs inst t b used (length before) at p × EndAt Below t b (EndProcedure leaves) at before
   WorkAt m fs Below inst t b used (EndProgram ∷ w) p before = (at : ℕ) × ComesTo fs inst t b used (length before) at p × EndAt Below t b EndProgram at before
+  WorkAt m fs Below inst t b used (_ ∷ w) p before = ⊥
 
   -- The same where control has come to the first part, which a statement begins in its own place.
   abbrev pub NowAt : Instances → Frames → (Below : Bool → Type 0) → (inst t : ℕ) → BlockOf → (used : ℕ) → List Item → (p : ℕ) → (before : List Kind) → Type 0
@@ -583,6 +587,7 @@ module _ (s : Source) (code : CodeOf) where
   NowAt m fs Below inst t b used (EndBlock ∷ w) p before = EndAt Below t b EndBlock p before
   NowAt m fs Below inst t b used (EndProcedure leaves ∷ w) p before = EndAt Below t b (EndProcedure leaves) p before
   NowAt m fs Below inst t b used (EndProgram ∷ w) p before = EndAt Below t b EndProgram p before
+  NowAt m fs Below inst t b used (_ ∷ w) p before = ⊥
 
   -- ---- chains
 

@@ -201,6 +201,7 @@ comes_back s code m fs Below inst t b used (Do op ∷ w) p p' ks r a = (a.0, a.1
 comes_back s code m fs Below inst t b used (EndBlock ∷ w) p p' ks r a = (a.0, returning r a.1, a.2)
 comes_back s code m fs Below inst t b used (EndProcedure v ∷ w) p p' ks r a = (a.0, returning r a.1, a.2)
 comes_back s code m fs Below inst t b used (EndProgram ∷ w) p p' ks r a = (a.0, returning r a.1, a.2)
+comes_back s code m fs Below inst t b used (_ ∷ w) p p' ks r a = absurd a
 
 module _ (s : Source) (code : CodeOf) (l : Limits) where
   -- the state that the machine comes to
@@ -292,6 +293,7 @@ module _ (s : Source) (code : CodeOf) (l : Limits) where
     top_settles used (EndBlock ∷ w) p a = first_come _ _ _ (come used a.0 p a.1) (_, (0, no_step), now_at fs (there_of s code here) used (EndBlock ∷ w) a.0 a.2)
     top_settles used (EndProcedure v ∷ w) p a = first_come _ _ _ (come used a.0 p a.1) (_, (0, no_step), now_at fs (there_of s code here) used (EndProcedure v ∷ w) a.0 a.2)
     top_settles used (EndProgram ∷ w) p a = first_come _ _ _ (come used a.0 p a.1) (_, (0, no_step), now_at fs (there_of s code here) used (EndProgram ∷ w) a.0 a.2)
+    top_settles used (_ ∷ w) p a = absurd a
 
   -- an activation that is as the relation says
   as_act : (y : machine.Activation) (inst room : ℕ) → y.thunk ≡ false → y.home ≡ inst → y.room ≡ room → y ≡ act inst y.pc y.stack room

@@ -18,7 +18,9 @@ use Rattle.sim_tree.specs.Syntax as syntax
 use Rattle.sim_values.specs.declared.standard.Standard.{Standard}
 use Rattle.sim_values.specs.Plain.{Plain}
 use Rattle.sim_values.specs.Standard.{is_image, on_image}
-use Rattle.sim_meaning.specs.Closing.{array_term, behind_dot, close, close_actuals, close_all, close_place, constant_term, declared_term, dot_term, formal_term, home_of, in_instance, is_variable, name_term, named_term, standard_term, stream_of, sysout, variable_term}
+use Rattle.std.specs.Prelude.{◌||◌}
+use Rattle.sim_meaning.specs.Attributes.{array_attribute, attribute, attribute_place, connected_object, connection_at, declared_attribute, entry_attribute, if_any, parameter_attribute, variable_attribute}
+use Rattle.sim_meaning.specs.Closing.{formals_at, is_attribute, array_term, behind_dot, close, close_actuals, close_all, close_place, constant_term, declared_term, dot_term, formal_term, home_of, in_instance, is_variable, name_term, named_term, standard_term, stream_of, sysout, variable_term}
 use Rattle.sim_meaning.specs.Names.{procedure_named}
 use Rattle.sim_meaning.specs.Pending.{Instances, Term, Terms}
 use Rattle.sim_meaning.specs.Texts.{constant_of}
@@ -90,9 +92,49 @@ module _ (s : Source) (m : Instances) (i : ℕ) where
   dot_leaves (Some (denotation.Declared d)) stream is line x y terms = λ ks. refl
   dot_leaves None stream is line x y terms = λ ks. refl
 
+  -- attributes of objects
+  any_leaves : {A : Type 0} (x : Option A) (f : A → Term) (other : Term) → ((a : A) → Leaves (f a)) → Leaves other → Leaves (if_any x f other)
+  any_leaves None f other g h = h
+  any_leaves (Some a) f other g h = g a
+
+  variable_attribute_leaves : (place : Term) (es : Expressions) → Leaves (variable_attribute place es)
+  variable_attribute_leaves place NoMore = λ ks. refl
+  variable_attribute_leaves place (Then e es) = λ ks. refl
+
+  array_attribute_leaves : (line : ℕ) (place : Term) (es : Expressions) (terms : Terms) → Leaves (array_attribute line place es terms)
+  array_attribute_leaves line place NoMore terms = λ ks. refl
+  array_attribute_leaves line place (Then e es) terms = λ ks. refl
+
+  parameter_attribute_leaves : (line : ℕ) (kind : FormalKind) (place : Term) (es : Expressions) (terms : Terms) → Leaves (parameter_attribute line kind place es terms)
+  parameter_attribute_leaves line shape.Simple place es terms = variable_attribute_leaves place es
+  parameter_attribute_leaves line shape.Array place es terms = array_attribute_leaves line place es terms
+  parameter_attribute_leaves line shape.Procedure place es terms = λ ks. refl
+
+  entry_attribute_leaves : (line : ℕ) (d : DeclNo) (o : Option Entry) (object : Term) (es : Expressions) (terms actuals : Terms) → Leaves (entry_attribute s line d o object es terms actuals)
+  entry_attribute_leaves line d (Some (entry.Variable type)) object es terms actuals = variable_attribute_leaves (attribute_place s line d object) es
+  entry_attribute_leaves line d (Some (entry.Constant type)) object es terms actuals = variable_attribute_leaves (attribute_place s line d object) es
+  entry_attribute_leaves line d (Some (entry.Array element dimensions)) object es terms actuals = array_attribute_leaves line (attribute_place s line d object) es terms
+  entry_attribute_leaves line d (Some (entry.Formal f)) object es terms actuals = parameter_attribute_leaves line f.kind (attribute_place s line d object) es terms
+  entry_attribute_leaves line d (Some (entry.Procedure result block)) object es terms actuals = λ ks. refl
+  entry_attribute_leaves line d (Some (entry.Class block)) object es terms actuals = λ ks. refl
+  entry_attribute_leaves line d (Some (entry.Virtual result own)) object es terms actuals = λ ks. refl
+  entry_attribute_leaves line d (Some (entry.Unspecified written)) object es terms actuals = λ ks. refl
+  entry_attribute_leaves line d (Some (entry.Attribute name parameter result)) object es terms actuals = λ ks. refl
+  entry_attribute_leaves line d None object es terms actuals = λ ks. refl
+
+  attribute_leaves : (line : ℕ) (object : Term) (es : Expressions) (terms : Terms) (actuals : DeclNo → Terms) (d : DeclNo) → Leaves (attribute s line object es terms actuals d)
+  attribute_leaves line object es terms actuals d = entry_attribute_leaves line d (entry_of s.tables d) object es terms (actuals d)
+
   -- calls
   pub named_call_leaves : (name : Identifier) (es : Expressions) → Leaves (close s m i (syntax.Named name es))
-  named_call_leaves name es = named_leaves (line_at s name.token.0) (denoted s name.token.0) es (close_all s m i es) (λ fs. close_actuals s m i (line_at s name.token.0) es fs)
+  named_call_leaves name es =
+      let line = line_at s name.token.0 in
+      any_leaves (connection_at s name.token.0) _ _
+      (λ k. any_leaves (declared_attribute (denoted s name.token.0)) _ _ (attribute_leaves line (connected_object s m i k) es (close_all s m i es) (λ d. close_actuals s m i line es (formals_at s d))) (λ ks. refl))
+      (named_leaves line (denoted s name.token.0) es (close_all s m i es) (λ fs. close_actuals s m i line es fs))
 
   pub dot_call_leaves : (token : ℕ) (e : Expression) (name : Identifier) (es : Expressions) → Leaves (close s m i (syntax.Dot token e name es))
-  dot_call_leaves token e name es = dot_leaves (denoted s name.token.0) (stream_of s e) (is_variable s e) (line_at s name.token.0) (close_place s m i e) (close s m i e) (close_all s m i es)
+  dot_call_leaves token e name es =
+      let line = line_at s name.token.0 in
+      any_leaves (declared_attribute (denoted s name.token.0)) _ _ (attribute_leaves line (close s m i e) es (close_all s m i es) (λ d. close_actuals s m i line es (formals_at s d)))
+      (dot_leaves (denoted s name.token.0) (stream_of s e) (is_variable s e || is_attribute s e) line (close_place s m i e) (close s m i e) (close_all s m i es))

@@ -22,7 +22,7 @@ use Rattle.sim_meaning.specs.Steps.{go}
 use Rattle.sim_meaning.specs.Texts.{text}
 use Rattle.codegen_expr.specs.Sites.{Ahead, Inside, Is, cells_in}
 use Rattle.codegen_expr.specs.CodeExpr.{ExprAt}
-use Rattle.codegen.specs.Agrees.{Agrees}
+use Rattle.sim_relate.proofs.Plainly.{Agrees}
 use Rattle.codegen.specs.CodeLeft.{AssignAt, GoesAt, each_stored}
 use Rattle.codegen.specs.CodeStm.{BlockAt, CalledAt, DropsAt, EnterAt, StmAt, StmsAt}
 use Rattle.sim_relate.proofs.Relation.{Any, BeginsAt, ChainAt, Finds, HandAt, Kind, OpAt, StateAt, WorkAt, anys, given, site_at, straight, TermAt, gives}
