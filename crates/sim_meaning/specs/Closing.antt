@@ -450,13 +450,23 @@ unfoldable pub own_result : Source → Expression → Option ℕ
 own_result s (syntax.Named name NoMore) = own_block_denoted s name.token.0 (denoted s name.token.0)
 own_result s _ = None
 
+-- What is seen in a connection is an attribute of the object there, also where it is the procedure in whose text it stands.
+abbrev pub unless_connected : (connection : Option ℕ) → Option ℕ → Option ℕ
+unless_connected None own = own
+unless_connected (Some k) own = None
+
+-- the procedure whose own result a left side is
+unfoldable pub result_meant : Source → Expression → Option ℕ
+result_meant s (syntax.Named name es) = unless_connected (connection_at s name.token.0) (own_result s (syntax.Named name es))
+result_meant s _ = None
+
 -- the text that is assigned to: the result of a procedure, or the value of any other expression
 abbrev pub result_or : Source → Instances → ℕ → Option ℕ → Term → Term
 result_or s m i None text = text
 result_or s m i (Some block) text = in_instance (at_level m (level_of s block) i) (λ j. Cell j Result)
 
 abbrev pub left_text : Source → Instances → ℕ → Expression → Term
-left_text s m i e = result_or s m i (own_result s e) (close s m i e)
+left_text s m i e = result_or s m i (result_meant s e) (close s m i e)
 
 -- A reference is assigned to a variable, an element of an array, an attribute, or the result of a procedure. The value is held against the
 -- qualification of the left side.
@@ -465,7 +475,7 @@ result_place s m i None place = place
 result_place s m i (Some block) place = in_instance (at_level m (level_of s block) i) (λ j. PlaceOf j Result)
 
 abbrev pub reference_place : Source → Instances → ℕ → Expression → Term
-reference_place s m i e = qualified_place (qualification s (type_at s (typed_token e))) (result_place s m i (own_result s e) (close_place s m i e))
+reference_place s m i e = qualified_place (qualification s (type_at s (typed_token e))) (result_place s m i (result_meant s e) (close_place s m i e))
 
 -- `:=` assigns a text to a text, and any other value to a variable; `:-` assigns a text to a variable, and a reference
 abbrev pub close_left_of : (text : Bool) → Assignment → Source → Instances → ℕ → (line : ℕ) → Expression → Left

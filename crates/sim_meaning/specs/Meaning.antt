@@ -149,7 +149,8 @@ abbrev pub do_work : Source → Limits → World → Instances → ℕ → List 
 do_work s l o m i vals rest [] = no_rule o
 do_work s l o m i vals rest (x ∷ w) = do_item s l o m i w vals rest x
 
--- The first step enters the program's block. Behind it stands that control goes on, so that the code has an instruction there.
+-- The first step enters the program's block. Behind it stands that control goes on, so that the code has an instruction there. A prefix of the
+-- program's block can only be `simset` or `simulation`, whose levels are not built yet.
 abbrev pub program_entered : Source → Limits → World → Instances → Option Text → Run Configuration
 program_entered s l o m (Some (BlockText begin ds ss)) =
     let cells = first_cells s 0 (BlockText begin ds ss) in

@@ -45,7 +45,7 @@ mutual
     -- where a reference lies, with its qualification
     QualifiedPlaceOf : (instance : ℕ) → Key → (class : ℕ) → Term
     QualifiedElementOf : (line class : ℕ) → (array : Term) → (subscripts : Terms) → Term
-    -- `is` and `in`, `qua`, and a reference that is passed to a parameter of a class
+    -- `is` and `in`, `qua`, and a reference that is passed to a formal parameter, which has a class
     MemberOf : Membership → (class : ℕ) → (object : Term) → Term
     QuaOf : (class line : ℕ) → (object : Term) → Term
     FitsOf : (class line : ℕ) → (actual : Term) → Term
@@ -143,7 +143,8 @@ pub data Op : Type 0 where
   Execs : Statements → Op
   EnterOp : (text line : ℕ) → Op
   ChooseOp : Statement → Statements → Op
-  -- a prefixed block is entered; the declarations of a level; these are made; the statements of the levels that are left, if any is
+  -- A prefixed block is entered; the declarations of a level; these are made, which does nothing and is an event of its own since the code has
+  -- an instruction there; the statements of the levels that are left, if any is.
   PrefixedOp : (text actuals line : ℕ) → Op
   DeclareOp : Declarations → Op
   LevelOp : (text : ℕ) → Op

@@ -85,7 +85,7 @@ copied l o m i w vals rest line = popping vals o (λ v vals. having (array_in v)
 
 -- ---- assignments
 
--- a value is put where an address leads; where references lie, it is held against their qualification first
+-- A value is put where an address leads. An address that has a class has no rule here: references go by `putting_reference`.
 unfoldable pub putting : Place Key (Option ℕ) → Val → World → Instances → (World → Instances → Run Configuration) → Run Configuration
 putting (CellPlace j key None) v o m go = having (cell_set m j key v) o (λ m. go o m)
 putting (ElementPlace a n None) v o m go = having (plain v) o (λ p. having (element_set o a n p) o (λ o. go o m))

@@ -23,7 +23,7 @@ use Rattle.sim_code.specs.Code.{BlockOf, CodeOf}
 use Rattle.sim_code.specs.Machine.{Frames}
 use Rattle.sim_code.proofs.Lifts.{EachAt}
 use Rattle.sim_meaning.specs.Attributes.{connection_at}
-use Rattle.sim_meaning.specs.Closing.{Left, LeftAddress, LeftCell, array_left, close, close_all, close_left, close_left_of, declared_left, formal_left, home_of, close_place, is_text, left_found, left_in, named_left, result_left, variable_left, LeftText, in_instance, left_variable, own_result, result_or}
+use Rattle.sim_meaning.specs.Closing.{Left, LeftAddress, LeftCell, array_left, close, close_all, close_left, close_left_of, declared_left, formal_left, home_of, close_place, is_text, left_found, left_in, named_left, result_left, variable_left, LeftText, in_instance, left_variable, own_result, result_meant, result_or, unless_connected}
 use Rattle.sim_meaning.specs.Pending.{Cell, Declared, Do, ElementOf, Eval, Instances, Item, Result, ShareOp, StoreOp, Target, Term, ToAddress, ToCell}
 use Rattle.sim_meaning.specs.Pending as meaning
 use Rattle.sim_meaning.specs.Statements.{Lefts, assigning, before, lefts}
@@ -167,8 +167,27 @@ module _ (s : Source) (code : CodeOf) (m : Instances) (inst t : ℕ) (b : BlockO
         (record { text = k; load = a.load; reaches = r.1; has = a.within }, refl),
       )
 
+  -- no identifier is seen in a connection, so the procedure that is meant is the one in whose text it stands
+  meant_at : (e : Expression) (line : ℕ) → LeftFits (stored_text (own_result s e) e line) (LeftText line (result_or s m inst (result_meant s e) (close s m inst e)))
+  unfolding own_result result_meant
+  meant_at (syntax.Named name es) line =
+      let own = own_result s (syntax.Named name es) in
+      subst (λ z. LeftFits (stored_text own (syntax.Named name es) line) (LeftText line (result_or s m inst (unless_connected z own) (close s m inst (syntax.Named name es))))) (sym (agrees.unconnected name.token.0))
+      (left_text_at own (syntax.Named name es) line)
+  meant_at (syntax.If token c x y) line = left_text_at None (syntax.If token c x y) line
+  meant_at (syntax.Binary op token x y) line = left_text_at None (syntax.Binary op token x y) line
+  meant_at (syntax.Not token x) line = left_text_at None (syntax.Not token x) line
+  meant_at (syntax.Signed k token x) line = left_text_at None (syntax.Signed k token x) line
+  meant_at (syntax.Member member token x class) line = left_text_at None (syntax.Member member token x class) line
+  meant_at (syntax.Dot token x name es) line = left_text_at None (syntax.Dot token x name es) line
+  meant_at (syntax.Qua token x class) line = left_text_at None (syntax.Qua token x class) line
+  meant_at (syntax.Constant x token) line = left_text_at None (syntax.Constant x token) line
+  meant_at (syntax.This token class) line = left_text_at None (syntax.This token class) line
+  meant_at (syntax.New token class es) line = left_text_at None (syntax.New token class es) line
+  meant_at (syntax.Parentheses token x) line = left_text_at None (syntax.Parentheses token x) line
+
   left_of : (g : Bool) (sign : Assignment) (line : ℕ) (e : Expression) → LeftFits (stored_of g sign s line e) (close_left_of g sign s m inst line e)
-  left_of true assignment.Value line e = left_text_at (own_result s e) e line
+  left_of true assignment.Value line e = meant_at e line
   left_of true assignment.Reference line e = left_at e
   left_of false assignment.Value line e = left_at e
   left_of false assignment.Reference line e = tt
