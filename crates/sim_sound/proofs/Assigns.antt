@@ -23,6 +23,7 @@ module _ (s : Source) (ok : Typed s) (o : AllArrays) (m : Instances) (i t : ℕ)
   address ToAddress ks = AddressOf (Simply k) ∷ ks
   address (ToText line) ks = Value (Simply kind.Text) ∷ ks
   address (ToTextOf j key line) ks = Value (Simply kind.Text) ∷ ks
+  address _ ks = ks
 
   abbrev pub addresses : List Target → List Kinds → List Kinds
   addresses [] ks = ks
@@ -69,7 +70,7 @@ module _ (s : Source) (ok : Typed s) (o : AllArrays) (m : Instances) (i t : ℕ)
     each = (λ ks. (ap Simply a.0, refl), f.each);
     works = λ w ks h. ([], Value (Simply kind.Text) ∷ ks, (simple kind.Text, a.1, refl, refl), f.works w (Value (Simply kind.Text) ∷ ks) h);
   }
-  before_is LeftUnbuilt es e is a f = absurd a
+  before_is _ es e is a f = absurd a
 
   pub lefts_found : (es : List LeftSide) → LeftsAre s t es k → Found es
   lefts_found [] a = record { is = record { work = []; targets = [] }; found = refl; each = tt; works = λ w ks h. h }

@@ -12,6 +12,7 @@ below s o m Below Outermost Is f g j t (Do op ∷ w) todo before a = below s o m
 below s o m Below Outermost Is f g j t (EndBlock ∷ w) todo before a = f None a
 below s o m Below Outermost Is f g j t (EndProcedure leaves ∷ w) todo before a = f _ a.5
 below s o m Below Outermost Is f g j t (EndProgram ∷ w) todo before a = g a
+below s o m Below Outermost Is f g j t (_ ∷ w) todo before a = absurd a
 
 pub chain_less : (s : Source) (o : AllArrays) (m : Instances) (bound : ℕ) (chain : List Activation) (v : Option Kinds) → ChainFine s o m bound chain v → (j : ℕ) → OnChain j chain → j < bound
 chain_less s o m bound [] v c j on = absurd c

@@ -1,6 +1,6 @@
 -- A typed expression that is closed is a fine tree.
 use Rattle.std.proofs.Common.{◌≡◌, ℕ, Bool, true, false, List, [], ◌∷◌, Option, Some, None, refl, sym, ap, ◌∙◌, subst}
-use Rattle.std.specs.Prelude.{slice_get, take, ◌&&◌}
+use Rattle.std.specs.Prelude.{slice_get, take, ◌&&◌, ◌||◌}
 use Rattle.sim_base.specs.declared.numbering.DeclNo.{DeclNo}
 use Rattle.sim_scope.specs.declared.scopes.Denotation.{Denotation}
 use Rattle.sim_scope.specs.declared.scopes.Denotation.TheVariants as denotation
@@ -30,7 +30,8 @@ use Rattle.sim_scope.specs.declared.standard.StandardName.{StandardName}
 use Rattle.sim_scope.specs.declared.standard.StandardName.TheVariants as found
 use Rattle.sim_scope.specs.declared.types.SimType.TheVariants as type
 use Rattle.sim_values.specs.declared.standard.Standard.TheVariants as name_of
-use Rattle.sim_meaning.specs.Closing.{Joining, Lazily, Negated, Plainly, Sort, actual_term, array_place, array_term, behind_dot, close, close_actuals, close_all, close_place, constant_term, declared_place, declared_term, dot_term, formal_place, formal_term, home_of, image_place, in_instance, is_image_behind, is_text, is_text_type, is_variable, is_variable_denoted, is_variable_entry, literal_term, name_term, named_place, named_term, object_term, signed_term, sort_of, standard_term, stream_denoted, stream_of, sysout, two_term, variable_place, variable_term}
+use Rattle.sim_meaning.specs.Attributes.{connection_at, declared_attribute, fitting, if_any, parameter_qualification}
+use Rattle.sim_meaning.specs.Closing.{is_attribute, is_attribute_denoted, Joining, Lazily, Negated, Plainly, Sort, actual_term, array_place, array_term, behind_dot, close, close_actuals, close_all, close_place, constant_term, declared_place, declared_term, dot_term, formal_place, formal_term, home_of, image_place, in_instance, is_image_behind, is_text, is_text_type, is_variable, is_variable_denoted, is_variable_entry, literal_term, name_term, named_place, named_term, object_term, signed_term, sort_of, standard_term, stream_denoted, stream_of, sysout, two_term, variable_place, variable_term}
 use Rattle.sim_meaning.specs.Closing as closing
 use Rattle.sim_meaning.specs.Entries.{formal_before, formals_from, formals_of, is_array_by_value}
 use Rattle.sim_meaning.specs.Names.{procedure_named, stream_named}
@@ -38,6 +39,7 @@ use Rattle.sim_meaning.specs.Pending.{Cell, CallOf, CopyOf, Declared, ElementOf,
 use Rattle.sim_meaning.specs.Texts.{ProcedureText, Text, constant_of, kind_of_type, text}
 use Rattle.sim_sound.specs.Typed.{ActualFits, ActualsFit, AreIntegers, AreOf, ArrayNames, ArrayOf, BehindGives, CallGives, ConstantNames, DeclaredGives, DotGives, ExprIs, HeldNames, Holds, LiteralIs, NameGives, NamedGives, OfText, Sees, Simply, SortKinds, StandardGives, Typed, VariableNames, entry_holds, formal_holds, named_kind, result_holds, result_kind, some_holds}
 use Rattle.sim_sound.proofs.Sound.{AddressOf, Copied, ImageAddress, IntegersFine, IsImage, Kinds, OperandIs, OperandsAre, OperandsFine, TermFine, TermsFine, Value, formal_kinds, held_kinds, in_hand, in_whole, simple}
+use Rattle.sim_sound.proofs.Unclassed.{unconnected, unqualified}
 use Rattle.sim_sound.proofs.Reach.{Reaches, among_block, key_there}
 
 -- ---- both words for the formal parameters
@@ -96,6 +98,10 @@ same_simple j k e = cc
 and_second : (p q : Bool) → (p && q) ≡ true → q ≡ true
 and_second true q e = e
 and_second false q e = absurd (cc)
+
+or_first : (p q : Bool) → q ≡ false → (p || q) ≡ true → p ≡ true
+or_first true q f e = refl
+or_first false q f e = absurd (cc)
 
 -- sysin and sysout have an image
 abbrev StreamIs : Option ℕ → Type 0
@@ -285,26 +291,51 @@ module _ (s : Source) (ok : Typed s) (m : Instances) (i t : ℕ) (todo : List De
   signed_fine sign.Plus line a h e f = subst (λ z. Fine a (Some (Value z))) e f
   signed_fine sign.Minus line a h e f = (kind.Integer, refl, ap (λ z. Some (Value z)) e, f)
 
-  behind_fine : (line : ℕ) (a : Expression) (es : Expressions) (h : Option Holds) (Object : Type 0) (Operands : List Kind → Type 0) → (Object → Fine (close s m i a) (simple kind.Text)) → (is_variable s a ≡ true → Object → (y : Kinds) × Fine (close_place s m i a) (Some y) × OperandIs kind.Text y) → ((ks : List Kind) → Operands ks → OperandsFine s m i t todo (close_all s m i es) (value_kinds ks))
-      → (stream : Option ℕ) (n : Option Standard) → StreamIs stream → BehindGives stream n Object Operands h → Fine (behind_dot stream n (is_variable s a) line (close_place s m i a) (close s m i a) (close_all s m i es)) (held_kinds h)
-  behind_fine line a es h Object Operands value place ops (Some image) None is x = absurd x
-  behind_fine line a es h Object Operands value place ops (Some image) (Some n) is x = name_fine line (close_all s m i es) Operands ops (is_image n) (on_image n) n image h is x
-  behind_fine line a es h Object Operands value place ops None None is x = absurd x
-  behind_fine line a es h Object Operands value place ops None (Some n) is x = by_place (moves_position n && is_variable s a) (λ e. and_second (moves_position n) (is_variable s a) e)
+  -- an attribute of an object is typed by no rule, and nothing is seen in a connection
+  dotted_none : (u : Option Denotation) (es : Expressions) (stream : Option ℕ) (Object : Type 0) (Operands : List Kind → Type 0) (h : Option Holds) → DotGives u stream Object Operands h → is_attribute_denoted s u es ≡ false
+  dotted_none (Some (denotation.Standard n)) es stream Object Operands h x = refl
+  dotted_none (Some (denotation.Declared d)) es stream Object Operands h x = absurd x
+  dotted_none None es stream Object Operands h x = absurd x
+
+  no_attribute : (e : Expression) (h : Holds) → ExprIs s from e h → is_attribute s e ≡ false
+  unfolding is_attribute
+  no_attribute (syntax.Dot token a name es) h x = dotted_none (denoted s name.token.0) es (stream_of s a) (ExprIs s from a (Simply kind.Text)) (λ ks. AreOf s from es ks) (Some h) x
+  no_attribute _ h x = refl
+
+  undeclared : (u : Option Denotation) (stream : Option ℕ) (Object : Type 0) (Operands : List Kind → Type 0) (h : Option Holds) → DotGives u stream Object Operands h → declared_attribute u ≡ None
+  undeclared (Some (denotation.Standard n)) stream Object Operands h x = refl
+  undeclared (Some (denotation.Declared d)) stream Object Operands h x = absurd x
+  undeclared None stream Object Operands h x = absurd x
+
+  other_fine : {A : Type 0} (x : Option A) (f : A → Term) (other : Term) (g : Option Kinds) → x ≡ None → Fine other g → Fine (if_any x f other) g
+  other_fine x f other g e a = subst (λ z. Fine (if_any z f other) g) (sym e) a
+
+  -- no parameter is qualified
+  qualification_none : (kind : FormalKind) (ty : Option SimType) → parameter_qualification s kind ty ≡ None
+  qualification_none shape.Simple ty = unqualified s ok ty
+  qualification_none shape.Array ty = refl
+  qualification_none shape.Procedure ty = refl
+
+  behind_fine : (line : ℕ) (a : Expression) (es : Expressions) (h : Option Holds) (Object : Type 0) (Operands : List Kind → Type 0) → (Object → is_attribute s a ≡ false) → (Object → Fine (close s m i a) (simple kind.Text)) → (is_variable s a ≡ true → Object → (y : Kinds) × Fine (close_place s m i a) (Some y) × OperandIs kind.Text y) → ((ks : List Kind) → Operands ks → OperandsFine s m i t todo (close_all s m i es) (value_kinds ks))
+      → (stream : Option ℕ) (n : Option Standard) → StreamIs stream → BehindGives stream n Object Operands h → Fine (behind_dot stream n (is_variable s a || is_attribute s a) line (close_place s m i a) (close s m i a) (close_all s m i es)) (held_kinds h)
+  behind_fine line a es h Object Operands other value place ops (Some image) None is x = absurd x
+  behind_fine line a es h Object Operands other value place ops (Some image) (Some n) is x = name_fine line (close_all s m i es) Operands ops (is_image n) (on_image n) n image h is x
+  behind_fine line a es h Object Operands other value place ops None None is x = absurd x
+  behind_fine line a es h Object Operands other value place ops None (Some n) is x = by_place (moves_position n && (is_variable s a || is_attribute s a)) (λ e. or_first (is_variable s a) (is_attribute s a) (other x.0) (and_second (moves_position n) (is_variable s a || is_attribute s a) e))
     where
       by_place : (b : Bool) → (b ≡ true → is_variable s a ≡ true) → Fine (StandardOf n (Further (object_term b (close_place s m i a) (close s m i a)) (close_all s m i es)) line) (held_kinds h)
       by_place true v = let y = place (v refl) x.0 in of_text_fine line (close_all s m i es) Operands ops n (close_place s m i a) y.0 h y.1 y.2 x.1
       by_place false v = of_text_fine line (close_all s m i es) Operands ops n (close s m i a) (Value (Simply kind.Text)) h (value x.0) refl x.1
 
   dot_denoted : (line : ℕ) (a : Expression) (es : Expressions) (h : Option Holds) → (ExprIs s from a (Simply kind.Text) → Fine (close s m i a) (simple kind.Text)) → (is_variable s a ≡ true → ExprIs s from a (Simply kind.Text) → (y : Kinds) × Fine (close_place s m i a) (Some y) × OperandIs kind.Text y) → ((ks : List Kind) → AreOf s from es ks → OperandsFine s m i t todo (close_all s m i es) (value_kinds ks))
-      → (d : Option Denotation) → DotGives d (stream_of s a) (ExprIs s from a (Simply kind.Text)) (λ ks. AreOf s from es ks) h → Fine (dot_term d (stream_of s a) (is_variable s a) line (close_place s m i a) (close s m i a) (close_all s m i es)) (held_kinds h)
+      → (d : Option Denotation) → DotGives d (stream_of s a) (ExprIs s from a (Simply kind.Text)) (λ ks. AreOf s from es ks) h → Fine (dot_term d (stream_of s a) (is_variable s a || is_attribute s a) line (close_place s m i a) (close s m i a) (close_all s m i es)) (held_kinds h)
   dot_denoted line a es h value place ops None x = absurd x
   dot_denoted line a es h value place ops (Some (denotation.Declared d)) x = absurd x
-  dot_denoted line a es h value place ops (Some (denotation.Standard n)) x = behind_fine line a es h (ExprIs s from a (Simply kind.Text)) (λ ks. AreOf s from es ks) value place ops (stream_of s a) (procedure_named n) (stream_is a) x
+  dot_denoted line a es h value place ops (Some (denotation.Standard n)) x = behind_fine line a es h (ExprIs s from a (Simply kind.Text)) (λ ks. AreOf s from es ks) (λ y. no_attribute a (Simply kind.Text) y) value place ops (stream_of s a) (procedure_named n) (stream_is a) x
 
-  image_place_fine : (stream : Option ℕ) (d : Option Denotation) → StreamIs stream → is_image_behind stream d ≡ true → (y : Kinds) × Fine (image_place stream) (Some y) × OperandIs kind.Text y
-  image_place_fine None d is v = absurd (cc)
-  image_place_fine (Some image) d is v = (ImageAddress, (refl, is), refl)
+  image_place_fine : (stream : Option ℕ) (other : Term) (d : Option Denotation) → StreamIs stream → is_image_behind stream d ≡ true → (y : Kinds) × Fine (image_place stream other) (Some y) × OperandIs kind.Text y
+  image_place_fine None other d is v = absurd (cc)
+  image_place_fine (Some image) other d is v = (ImageAddress, (refl, is), refl)
 
   variable_named : (name : Identifier) (es : Expressions) → is_variable s (syntax.Named name es) ≡ true → is_variable_denoted s (denoted s name.token.0) es ≡ true
   unfolding is_variable
@@ -334,9 +365,11 @@ module _ (s : Source) (ok : Typed s) (m : Instances) (i t : ℕ) (todo : List De
     expr_fine (syntax.Signed sign token a) h x = signed_fine sign (line_at s token) (close s m i a) h x.0 (expr_fine a (Simply kind.Integer) x.1)
     expr_fine (syntax.Constant literal token) h x = literal_fine token literal h x
     expr_fine (syntax.Dot token a name es) h x =
-        dot_denoted (line_at s name.token.0) a es (Some h) (λ y. expr_fine a (Simply kind.Text) y) (λ v y. place_fine a v y) (λ ks y. of_fine es ks y) (denoted s name.token.0) x
+        other_fine (declared_attribute (denoted s name.token.0)) _ _ (Some (Value h)) (undeclared (denoted s name.token.0) (stream_of s a) (ExprIs s from a (Simply kind.Text)) (λ ks. AreOf s from es ks) (Some h) x)
+        (dot_denoted (line_at s name.token.0) a es (Some h) (λ y. expr_fine a (Simply kind.Text) y) (λ v y. place_fine a v y) (λ ks y. of_fine es ks y) (denoted s name.token.0) x)
     expr_fine (syntax.Named name es) h x =
-        named_fine (line_at s name.token.0) es (close_all s m i es) (λ fs. close_actuals s m i (line_at s name.token.0) es fs) (AreIntegers s from es) (λ ks. AreOf s from es ks) (λ fs. ActualsFit s from es fs) (λ a. integers_fine es a) (λ ks a. of_fine es ks a) (λ fs a. actuals_fine (line_at s name.token.0) es fs a) (denoted s name.token.0) (Some h) x
+        other_fine (connection_at s name.token.0) _ _ (Some (Value h)) (unconnected s ok name.token.0)
+        (named_fine (line_at s name.token.0) es (close_all s m i es) (λ fs. close_actuals s m i (line_at s name.token.0) es fs) (AreIntegers s from es) (λ ks. AreOf s from es ks) (λ fs. ActualsFit s from es fs) (λ a. integers_fine es a) (λ ks a. of_fine es ks a) (λ fs a. actuals_fine (line_at s name.token.0) es fs a) (denoted s name.token.0) (Some h) x)
     expr_fine (syntax.Parentheses token a) h x = expr_fine a h x
     expr_fine _ h x = absurd x
 
@@ -347,8 +380,9 @@ module _ (s : Source) (ok : Typed s) (m : Instances) (i t : ℕ) (todo : List De
     -- where a text variable before a dot lies
     place_fine : (e : Expression) → is_variable s e ≡ true → ExprIs s from e (Simply kind.Text) → (y : Kinds) × Fine (close_place s m i e) (Some y) × OperandIs kind.Text y
     place_fine (syntax.Named name es) v x =
-        named_place_fine (line_at s name.token.0) es (close_all s m i es) (AreIntegers s from es) (λ ks. AreOf s from es ks) (λ fs. ActualsFit s from es fs) (λ y. integers_fine es y) (denoted s name.token.0) (variable_named name es v) x
-    place_fine (syntax.Dot token a name es) v x = image_place_fine (stream_of s a) (denoted s name.token.0) (stream_is a) (variable_dot token a name es v)
+        let y = named_place_fine (line_at s name.token.0) es (close_all s m i es) (AreIntegers s from es) (λ ks. AreOf s from es ks) (λ fs. ActualsFit s from es fs) (λ y. integers_fine es y) (denoted s name.token.0) (variable_named name es v) x in
+        (y.0, other_fine (connection_at s name.token.0) _ _ (Some y.0) (unconnected s ok name.token.0) y.1, y.2)
+    place_fine (syntax.Dot token a name es) v x = image_place_fine (stream_of s a) _ (denoted s name.token.0) (stream_is a) (variable_dot token a name es v)
     place_fine (syntax.If token c a b) v x = absurd (not_variable (syntax.If token c a b) tt v)
     place_fine (syntax.Binary op token a b) v x = absurd (not_variable (syntax.Binary op token a b) tt v)
     place_fine (syntax.Not token a) v x = absurd (not_variable (syntax.Not token a) tt v)
@@ -369,12 +403,15 @@ module _ (s : Source) (ok : Typed s) (m : Instances) (i t : ℕ) (todo : List De
     actuals_fine line (Then e es) [] x = absurd x
     actuals_fine line (Then e es) (f ∷ fs) x =
         let a = actual_fine (ExprIs s from e) (λ z h. Fine z (Some h)) line f.mode f.kind f.ty (close s m i e) (λ h y. expr_fine e h y) (λ y. copy_fine line (close s m i e) y) (λ k y. (k, refl, y)) x.0 in
-        (a.0, formal_kinds fs, ap (λ z. z ∷ formal_kinds fs) a.1, a.2, actuals_fine line es fs x.1)
+        (a.0, formal_kinds fs, ap (λ z. z ∷ formal_kinds fs) a.1, subst (λ z. Fine (fitting z line (actual_term line f.mode f.kind (is_text_type f.ty) (close s m i e))) (Some a.0)) (sym (qualification_none f.kind f.ty)) a.2, actuals_fine line es fs x.1)
 
   -- a call that stands as a statement
   pub given_fine : (name : Identifier) (es : Expressions) (h : Option Holds) → NamedGives s from (denoted s name.token.0) es (AreIntegers s from es) (λ ks. AreOf s from es ks) (λ fs. ActualsFit s from es fs) h → Fine (close s m i (syntax.Named name es)) (held_kinds h)
   given_fine name es h x =
-      named_fine (line_at s name.token.0) es (close_all s m i es) (λ fs. close_actuals s m i (line_at s name.token.0) es fs) (AreIntegers s from es) (λ ks. AreOf s from es ks) (λ fs. ActualsFit s from es fs) (λ a. integers_fine es a) (λ ks a. of_fine es ks a) (λ fs a. actuals_fine (line_at s name.token.0) es fs a) (denoted s name.token.0) h x
+      other_fine (connection_at s name.token.0) _ _ (held_kinds h) (unconnected s ok name.token.0)
+      (named_fine (line_at s name.token.0) es (close_all s m i es) (λ fs. close_actuals s m i (line_at s name.token.0) es fs) (AreIntegers s from es) (λ ks. AreOf s from es ks) (λ fs. ActualsFit s from es fs) (λ a. integers_fine es a) (λ ks a. of_fine es ks a) (λ fs a. actuals_fine (line_at s name.token.0) es fs a) (denoted s name.token.0) h x)
 
   pub dot_fine : (token : ℕ) (a : Expression) (name : Identifier) (es : Expressions) (h : Option Holds) → DotGives (denoted s name.token.0) (stream_of s a) (ExprIs s from a (Simply kind.Text)) (λ ks. AreOf s from es ks) h → Fine (close s m i (syntax.Dot token a name es)) (held_kinds h)
-  dot_fine token a name es h x = dot_denoted (line_at s name.token.0) a es h (λ y. expr_fine a (Simply kind.Text) y) (λ v y. place_fine a v y) (λ ks y. of_fine es ks y) (denoted s name.token.0) x
+  dot_fine token a name es h x =
+      other_fine (declared_attribute (denoted s name.token.0)) _ _ (held_kinds h) (undeclared (denoted s name.token.0) (stream_of s a) (ExprIs s from a (Simply kind.Text)) (λ ks. AreOf s from es ks) h x)
+      (dot_denoted (line_at s name.token.0) a es h (λ y. expr_fine a (Simply kind.Text) y) (λ v y. place_fine a v y) (λ ks y. of_fine es ks y) (denoted s name.token.0) x)

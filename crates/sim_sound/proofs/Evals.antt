@@ -159,4 +159,4 @@ module _ (s : Source) (o : World) (g : List Sight) (long : length g ≡ length o
       goes_on (each ts (Do (StandardOp name line) ∷ w)) vals todo ks b h
       (each_operand ts a.2 (Do (StandardOp name line) ∷ w) todo ks a.4
       (todo, given r ks, (ks, a.2, a.0, a.3, refl, ap (λ z. given z ks) (sym a.1), refl), work))
-  eval_goes Unbuilt r w vals todo ks b h a work = absurd a
+  eval_goes _ r w vals todo ks b h a work = absurd a

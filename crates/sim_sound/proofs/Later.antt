@@ -139,7 +139,7 @@ module _ (s : Source) (o : AllArrays) (m : Instances) (o' : AllArrays) (m' : Ins
         actuals = terms_later todo ts _ a.actuals;
       }
       term_later todo (StandardOf name ts line) g a = (a.0, a.1, a.2, a.3, operands_later todo ts a.2 a.4)
-      term_later todo Unbuilt g a = a
+      term_later todo _ g a = absurd a
 
       pub integers_later : (todo : List DeclNo) (ts : Terms) → IntegersFine s m j t todo ts → IntegersFine s m' j t todo ts
       integers_later todo NoTerm a = a
@@ -158,6 +158,7 @@ module _ (s : Source) (o : AllArrays) (m : Instances) (o' : AllArrays) (m' : Ins
     target_later ToAddress k before behind a = a
     target_later (ToText line) k before behind a = a
     target_later (ToTextOf n key line) k before behind a = a
+    target_later _ k before behind a = absurd a
 
     targets_later : (ts : List Target) (k : Holds) (before behind : List Kinds) → TargetsFine s m j ts k before behind → TargetsFine s m' j ts k before behind
     targets_later [] k before behind a = a
@@ -168,6 +169,7 @@ module _ (s : Source) (o : AllArrays) (m : Instances) (o' : AllArrays) (m' : Ins
     variable_later ToAddress k a = a
     variable_later (ToText line) k a = a
     variable_later (ToTextOf n key line) k a = (cell_target_later n key (Simply k) a.0, a.1)
+    variable_later _ k a = absurd a
 
     stored_later : (todo todo' : List DeclNo) (x : Target) (before behind : List Kinds) → StoreOpFine s o m j t todo todo' x before behind → StoreOpFine s o' m' j t todo todo' x before behind
     stored_later todo todo' x before behind (value_stored k next is a same) = value_stored k next is (target_later x k next behind a) same
@@ -193,6 +195,7 @@ module _ (s : Source) (o : AllArrays) (m : Instances) (o' : AllArrays) (m' : Ins
     work_later Outermost Below Below' f (EndBlock ∷ w) todo before a = f None a
     work_later Outermost Below Below' f (EndProcedure leaves ∷ w) todo before a = (a.0, a.1, a.2, a.3, a.4, f _ a.5)
     work_later Outermost Below Below' f (EndProgram ∷ w) todo before a = a
+    work_later Outermost Below Below' f (_ ∷ w) todo before a = absurd a
 
 pub later_under : (s : Source) (o : AllArrays) (m : Instances) (o' : AllArrays) (m' : Instances) (bound less : ℕ) → less ≤ bound → Later s o m o' m' bound → Later s o m o' m' less
 later_under s o m o' m' bound less le e = record {

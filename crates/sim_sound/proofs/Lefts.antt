@@ -1,5 +1,6 @@
 -- The left sides of a typed assignment: cells of whole instances, and fine trees of addresses.
 use Rattle.std.proofs.Common.{◌≡◌, ℕ, Bool, true, false, [], Option, Some, None, refl, sym, ap, ◌∙◌, subst}
+use Rattle.sim_sound.proofs.Unclassed.{unconnected}
 use Rattle.sim_base.specs.declared.numbering.DeclNo.{DeclNo}
 use Rattle.sim_scope.specs.declared.scopes.Denotation.{Denotation}
 use Rattle.sim_scope.specs.declared.scopes.Denotation.TheVariants as denotation
@@ -21,7 +22,7 @@ use Rattle.sim_scope.specs.Calls.{is_inside}
 use Rattle.sim_tree.specs.declared.stmt.Assignment.{Assignment}
 use Rattle.sim_tree.specs.declared.stmt.Assignment.TheVariants as assignment
 use Rattle.sim_values.specs.declared.kind.Kind.TheVariants as kind
-use Rattle.sim_meaning.specs.Closing.{Left, LeftAddress, LeftCell, LeftText, LeftUnbuilt, array_left, block_if, close, close_all, close_left_of, declared_left, formal_left, home_of, in_instance, left_in, left_variable, named_left, own_block, own_block_denoted, own_result, result_left, result_or, variable_left}
+use Rattle.sim_meaning.specs.Closing.{Left, LeftAddress, LeftCell, LeftText, LeftUnbuilt, array_left, block_if, close, close_all, close_left_of, declared_left, formal_left, home_of, in_instance, left_in, left_variable, named_left, own_block, own_block_denoted, own_result, result_left, result_or, variable_left, close_place, left_found}
 use Rattle.sim_meaning.specs.Pending.{Cell, Declared, ElementOf, Instances, Result, Term}
 use Rattle.sim_meaning.specs.Texts.{ProcedureText, kind_of_type, text}
 use Rattle.sim_sound.specs.Typed.{AreIntegers, ArrayOf, Around, LeftDeclared, LeftDenoted, LeftHeld, LeftIs, LeftOf, Simply, TextLeft, Typed, entry_holds, formal_holds, named_kind}
@@ -34,7 +35,7 @@ module _ (s : Source) (ok : Typed s) (o : AllArrays) (m : Instances) (i t : ℕ)
   LeftFine (LeftCell j key) k = CellTarget s m i j key (Simply k)
   LeftFine (LeftAddress x) k = TermFine s m i t [] x (Some (AddressOf (Simply k)))
   LeftFine (LeftText line x) k = (k ≡ kind.Text) × TermFine s m i t [] x (simple kind.Text)
-  LeftFine LeftUnbuilt k = ⊥
+  LeftFine _ k = ⊥
 
   reach : Reaches s m i (Some t)
   reach = reaches_whole s ok o m i t whole
@@ -130,7 +131,9 @@ module _ (s : Source) (ok : Typed s) (o : AllArrays) (m : Instances) (i t : ℕ)
   denoted_is line es _ k a = absurd a
 
   pub variable_fine : (e : Expression) (k : Kind) → LeftIs s t e k → LeftFine (left_variable s m i e) k
-  variable_fine (syntax.Named name es) k a = denoted_is (line_at s name.token.0) es (denoted s name.token.0) k a
+  variable_fine (syntax.Named name es) k a =
+      subst (λ z. LeftFine (left_found z (close_place s m i (syntax.Named name es)) (named_left s m i (line_at s name.token.0) (denoted s name.token.0) es)) k) (sym (unconnected s ok name.token.0))
+      (denoted_is (line_at s name.token.0) es (denoted s name.token.0) k a)
   variable_fine _ k a = absurd a
 
   -- the result of a procedure that is assigned to as a text

@@ -6,6 +6,7 @@ pub mod Moves
 pub mod Lifts
 pub mod Names
 pub mod ArrayEvents
+pub mod Unclassed
 pub mod Reach
 pub mod Closing
 pub mod Lefts

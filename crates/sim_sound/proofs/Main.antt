@@ -89,12 +89,14 @@ module _ (s : Source) (ok : Typed s) (l : Limits) (o : World) (sights : List Sig
     op_goes (RaiseOp x line f g c) todo todo' before behind a b h work =
         let y = a.3 in
         ready todo todo' before behind (Stepped (RaiseOp x line f g c)) a.0 a.1 a.2 b h work (λ b h work. raise_goes s ok l o sights long m i t rest top w vals before b h work x line f g c y.0 y.1 y.2 y.3)
+    op_goes _ todo todo' before behind a b h work = absurd a
 
     item_goes : (x : Item) (todo : List DeclNo) (ks : List Kinds) → Bg todo → Hd ks → Wk (x ∷ w) todo ks → Goes (IsFine s) (do_item s l o m i w vals rest x)
     item_goes (Do op) todo ks b h a = op_goes op todo a.0 ks a.1 a.2 b h a.3
     item_goes EndBlock todo ks b h a = leaves s ok l o sights long m i t todo b rest top None None tt a
     item_goes (EndProcedure leaves') todo ks b h a = procedure_ends s ok l o sights long m i t todo b leaves' w vals rest top a.0 a.1 a.2 a.3 a.4 a.5
     item_goes EndProgram todo ks b h a = stops (IsFine s) Normal o (λ e. cc)
+    item_goes _ todo ks b h a = absurd a
 
   work_goes : (m : Instances) (i t : ℕ) (rest : List Activation) (top : Operates m i rest) (vals : List Val) (work : List Item) (todo : List DeclNo) (ks : List Kinds) → Begun s (see sights o) m i t todo → HandsFine s (see sights o) m i ks vals → Work s o sights long m i t rest top work todo ks → Goes (IsFine s) (do_work s l o m i vals rest work)
   work_goes m i t rest top vals [] todo ks b h a = absurd a

@@ -13,7 +13,7 @@ use Rattle.sim_code.specs.Events.{choosing, having, popping}
 use Rattle.sim_code.specs.Instances.{ElementPlace}
 use Rattle.sim_code.specs.Outcome.{ArrayOf as OneArray, World}
 use Rattle.sim_meaning.specs.Meaning.{do_op}
-use Rattle.sim_meaning.specs.Pending.{Activation, Address, AgainOp, ArrayOp, ArrayValue, Configuration, CopyOp, Declared, Do, DropOp, ElementOp, Eval, FetchOp, GiveOp, IfOp, Instances, Item, JoinOp, Of, OneOp, Op, PastOp, ShareOp, StandardOp, StepOp, StoreOp, Target, Term, ToAddress, ToCell, ToText, ToTextOf, TwoOp, Val, array_in, cell_set, place_in}
+use Rattle.sim_meaning.specs.Pending.{Activation, Address, AgainOp, ArrayOp, ArrayValue, Configuration, CopyOp, Declared, Do, DropOp, ElementOp, Eval, FetchOp, GiveOp, IfOp, Instances, Item, JoinOp, Of, OneOp, Op, PastOp, ShareOp, StandardOp, StepOp, StoreOp, Target, Term, ToAddress, ToCell, ToText, ToTextOf, TwoOp, Val, array_in, cell_set, place_in, ToPlace, ToReference, ToReferenceAt, ToTextAt}
 use Rattle.sim_meaning.specs.Steps.{go, putting, text_assigned, value_at, with_value}
 use Rattle.sim_sound.specs.Typed.{ArrayOf, Holds, Simply, Typed, some_holds, standard_kind}
 use Rattle.sim_sound.proofs.ArrayEvents.{NewArray, added_fine, array_is, copied_array, copied_fine, found_element, made_array}
@@ -158,6 +158,14 @@ module _ (s : Source) (ok : Typed s) (l : Limits) (o : World) (g : List Sight) (
   store_op ToAddress (array_stored a) = let e = a.is in absurd (cc)
   store_op (ToText line) (array_stored a) = let e = a.is in absurd (cc)
   store_op (ToTextOf j key line) (array_stored a) = let e = a.is in absurd (cc)
+  store_op (ToReference line) (array_stored a) = let e = a.is in absurd (cc)
+  store_op (ToPlace x) (array_stored a) = let e = a.is in absurd (cc)
+  store_op (ToTextAt x line) (array_stored a) = let e = a.is in absurd (cc)
+  store_op (ToReferenceAt x line) (array_stored a) = let e = a.is in absurd (cc)
+  store_op (ToReference line) (value_stored k next is a same) = absurd a
+  store_op (ToPlace x) (value_stored k next is a same) = absurd a
+  store_op (ToTextAt x line) (value_stored k next is a same) = absurd a
+  store_op (ToReferenceAt x line) (value_stored k next is a same) = absurd a
   store_op (ToText line) (value_stored k next is a same) = text_stored line k next is a same
   store_op (ToTextOf j key line) (value_stored k next is a same) = text_stored line k next is a same
   store_op (ToCell j key) (array_stored a) =

@@ -292,7 +292,7 @@ abbrev mutual
   TermFine s m j t todo (CopyOf line a) g = (k : Kind) × (Some (Copied k) ≡ g) × TermFine s m j t todo a (Some (Value (ArrayOf k)))
   TermFine s m j t todo (CallOf e k ts line) g = CallFine s m j e k g (TermsFine s m j t todo ts)
   TermFine s m j t todo (StandardOf name ts line) g = (name_runs name ≡ true) × (held_kinds (some_holds (standard_kind (row_of name).result)) ≡ g) × (xs : List Kinds) × OperandsAre (operands_of (row_of name).function) xs × OperandsFine s m j t todo ts xs
-  TermFine s m j t todo Unbuilt g = ⊥
+  TermFine s m j t todo _ g = ⊥
 
   pub IntegersFine : Source → Instances → (j t : ℕ) → List DeclNo → Terms → Type 0
   IntegersFine s m j t todo NoTerm = Unit {0}
@@ -328,6 +328,7 @@ TargetFine s m j (ToCell e key) h before behind = CellTarget s m j e key h × (b
 TargetFine s m j ToAddress h before behind = before ≡ AddressOf h ∷ behind
 TargetFine s m j (ToText line) h before behind = (h ≡ Simply kind.Text) × (before ≡ Value (Simply kind.Text) ∷ behind)
 TargetFine s m j (ToTextOf e key line) h before behind = (h ≡ Simply kind.Text) × (before ≡ Value (Simply kind.Text) ∷ behind)
+TargetFine s m j _ h before behind = ⊥
 
 abbrev pub TargetsFine : Source → Instances → ℕ → List Target → Holds → (before behind : List Kinds) → Type 0
 TargetsFine s m j [] h before behind = behind ≡ before
@@ -339,6 +340,7 @@ VariableFine s m j (ToCell e key) k = CellTarget s m j e key (Simply k)
 VariableFine s m j ToAddress k = ⊥
 VariableFine s m j (ToText line) k = ⊥
 VariableFine s m j (ToTextOf e key line) k = CellTarget s m j e key (Simply k) × (k ≡ kind.Text)
+VariableFine s m j _ k = ⊥
 
 pub record CallOpFine (s : Source) (k n : ℕ) (before behind : List Kinds) : Type 0 where
   pub around : ℕ
@@ -411,6 +413,7 @@ OpFine s o m j t (StepTestOp x line step limit a) todo todo' before behind =
 OpFine s o m j t (StepOp line) todo todo' before behind = (left : List Kinds) × (before ≡ integers 3 left) × (behind ≡ Value (Simply kind.Boolean) ∷ left) × (todo' ≡ todo)
 OpFine s o m j t (RaiseOp x line step limit a) todo todo' before behind =
     Ready todo todo' before behind (VariableFine s m j x kind.Integer × ExprIs s (Some t) step (Simply kind.Integer) × ExprIs s (Some t) limit (Simply kind.Integer) × StatementIs s t a)
+OpFine s o m j t _ todo todo' before behind = ⊥
 
 -- The pending work of an instance. `Below` tells what is below on the chain where it waits for such a value, or for none; `Outermost`
 -- that nothing is.
@@ -421,6 +424,7 @@ WorkFine s o m Below Outermost j t (EndBlock ∷ w) todo before = Below None
 WorkFine s o m Below Outermost j t (EndProcedure leaves ∷ w) todo before =
     (result : Option TypeName) × (heading : Heading) × (body : Statement) × (text s t ≡ Some (ProcedureText result heading body)) × (has_result result ≡ leaves) × Below (held_kinds (result_holds (text s t)))
 WorkFine s o m Below Outermost j t (EndProgram ∷ w) todo before = Outermost
+WorkFine s o m Below Outermost j t (_ ∷ w) todo before = ⊥
 
 -- ---- chains
 

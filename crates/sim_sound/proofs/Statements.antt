@@ -1,5 +1,6 @@
 -- Each statement goes on.
 use Rattle.std.proofs.Common.{◌≡◌, ℕ, Bool, true, false, List, [], ◌∷◌, ◌++◌, length, Option, Some, None, refl, sym, ap, ◌∙◌, subst}
+use Rattle.sim_sound.proofs.Unclassed.{unconnected}
 use Rattle.sim_base.specs.declared.limits.Limits.{Limits}
 use Rattle.sim_base.specs.declared.numbering.DeclNo.{DeclNo}
 use Rattle.sim_scope.specs.declared.scopes.Denotation.{Denotation}
@@ -13,6 +14,7 @@ use Rattle.sim_scope.specs.declared.types.Mode.TheVariants as mode
 use Rattle.sim_scope.specs.Assignments.{LeftSide, last_value, left_sides}
 use Rattle.sim_scope.specs.Scopes.{entry_of}
 use Rattle.sim_scope.specs.Source.{Source, denoted, level_of, line_at}
+use Rattle.sim_tree.specs.declared.expr.Identifier.{Identifier}
 use Rattle.sim_tree.specs.declared.stmt.Assignment.{Assignment}
 use Rattle.sim_tree.specs.declared.stmt.Assignment.TheVariants as assignment
 use Rattle.sim_tree.specs.Syntax.{Also, Begin, Block, Declarations, Element, Expression, NoDeclaration, NoMore, NoStatement, Statement, Statements, With}
@@ -24,10 +26,10 @@ use Rattle.sim_values.specs.declared.operators.Dyadic.TheVariants as dyadic
 use Rattle.sim_code.specs.Events.{choosing}
 use Rattle.sim_code.specs.Instances.{at_level}
 use Rattle.sim_code.specs.Outcome.{World}
-use Rattle.sim_meaning.specs.Closing.{Left, LeftAddress, LeftCell, LeftText, LeftUnbuilt, close, declared_left, formal_left, home_of, is_text, left_in, left_variable, named_left}
+use Rattle.sim_meaning.specs.Closing.{Left, LeftAddress, LeftCell, LeftText, LeftUnbuilt, close, declared_left, formal_left, home_of, is_text, left_in, left_variable, named_left, close_place, left_found, LeftReference}
 use Rattle.sim_meaning.specs.Meaning.{do_op}
 use Rattle.sim_meaning.specs.Pending.{Activation, AgainOp, BackOp, BranchOp, ChooseOp, Configuration, Do, ElementsOp, EnterOp, Eval, Exec, Execs, Instances, Item, Key, Op, RaiseOp, StepOp, StepTestOp, StoreOp, Target, TestOp, ToAddress, ToCell, ToText, ToTextOf, TwoOp, Val, WhileElementOp}
-use Rattle.sim_meaning.specs.Statements.{assigned, assigning, compound, controlled, dropping, elements, entered_at, exec, execs, finding, first_branch, leaves, lefts, looping, raised, reading, step_tested, while_element}
+use Rattle.sim_meaning.specs.Statements.{assigned, assigning, compound, controlled, dropping, elements, entered_at, exec, execs, finding, first_branch, leaves, lefts, looping, raised, reading, step_tested, while_element, controlled_left}
 use Rattle.sim_meaning.specs.Steps.{go}
 use Rattle.sim_sound.specs.Typed.{CallIs, CompoundIs, ControlIs, ElementsAre, ExprIs, Holds, Simply, StatementIs, StatementsAre, Typed, is_given}
 use Rattle.sim_sound.proofs.Assigns.{addresses, assigning_fine, lefts_found, Found}
@@ -122,6 +124,20 @@ module _ (s : Source) (ok : Typed s) (l : Limits) (o : World) (sights : List Sig
   loop_goes text sign line (LeftAddress r) k es a v c x y z t' w' = absurd c
   loop_goes text sign line (LeftText n r) k es a v c x y z t' w' = absurd c
   loop_goes text sign line LeftUnbuilt k es a v c x y z t' w' = absurd x
+  loop_goes text sign line (LeftReference n r) k es a v c x y z t' w' = absurd x
+
+  -- a controlled variable is no reference
+  loop_left : (text : Bool) (sign : Assignment) (line : ℕ) (x : Expression) (k : Kind) (es : List Element) (a : Statement) → ControlIs text sign k → IsCell (left_variable s m i x) → LeftFine s ok (see sights o) m i t b (left_variable s m i x) k → ElementsAre s t k es → StatementIs s t a → (t' w' : ℕ)
+      → Goes P (looping (ran o t' w') m i w vals rest (controlled text sign line (controlled_left text sign s m i x)) es a)
+  loop_left true assignment.Value line x k es a v c f y z t' w' = loop_goes true assignment.Value line (left_variable s m i x) k es a v c f y z t' w'
+  loop_left true assignment.Reference line x k es a v c f y z t' w' = loop_goes true assignment.Reference line (left_variable s m i x) k es a v c f y z t' w'
+  loop_left false assignment.Value line x k es a v c f y z t' w' = loop_goes false assignment.Value line (left_variable s m i x) k es a v c f y z t' w'
+  loop_left false assignment.Reference line x k es a v c f y z t' w' = absurd v
+
+  single_cell : (x : Identifier) → IsCell (left_variable s m i (syntax.Named x NoMore))
+  single_cell x =
+      subst (λ z. IsCell (left_found z (close_place s m i (syntax.Named x NoMore)) (named_left s m i (line_at s x.token.0) (denoted s x.token.0) NoMore))) (sym (unconnected s ok x.token.0))
+      (named_cell s m i (line_at s x.token.0) (denoted s x.token.0))
 
   pub exec_goes : (a : Statement) → StatementIs s t a → Goes P (exec s l o m i w vals rest a)
   exec_goes (syntax.Empty token) x = goes w work
@@ -138,8 +154,8 @@ module _ (s : Source) (ok : Typed s) (l : Limits) (o : World) (sights : List Sig
       goes (Do (Eval (close s m i c)) ∷ Do (ChooseOp a other) ∷ w) (evals c (Simply kind.Boolean) (Do (ChooseOp a other) ∷ w) ks x.0 ([], ks, (refl, refl, refl, x.1, x.2), work)))
   exec_goes (syntax.Repeat token c a) x = ticked P l o (λ p. go p m i (Do (TestOp c a) ∷ w) vals rest) (λ t' w'. goes (Do (TestOp c a) ∷ w) ([], ks, (refl, refl, refl, (x.0, x.1)), work))
   exec_goes (syntax.For token x sign assign es a) f =
-      ticked P l o (λ p. looping p m i w vals rest (controlled (is_text s (syntax.Named x NoMore)) sign (line_at s assign) (left_variable s m i (syntax.Named x NoMore))) es a) (λ t' w'.
-      loop_goes (is_text s (syntax.Named x NoMore)) sign (line_at s assign) (left_variable s m i (syntax.Named x NoMore)) f.0 es a f.1 (named_cell s m i (line_at s x.token.0) (denoted s x.token.0)) (variable_fine s ok (see sights o) m i t b (syntax.Named x NoMore) f.0 f.2) f.3 f.4 t' w')
+      ticked P l o (λ p. looping p m i w vals rest (controlled (is_text s (syntax.Named x NoMore)) sign (line_at s assign) (controlled_left (is_text s (syntax.Named x NoMore)) sign s m i (syntax.Named x NoMore))) es a) (λ t' w'.
+      loop_left (is_text s (syntax.Named x NoMore)) sign (line_at s assign) (syntax.Named x NoMore) f.0 es a f.1 (single_cell x) (variable_fine s ok (see sights o) m i t b (syntax.Named x NoMore) f.0 f.2) f.3 f.4 t' w')
   exec_goes _ x = absurd x
 
   pub execs_goes : (ss : Statements) → StatementsAre s t ss → Goes P (execs o m i w vals rest ss)
@@ -162,6 +178,7 @@ module _ (s : Source) (ok : Typed s) (l : Limits) (o : World) (sights : List Sig
   found ToAddress ks = ks
   found (ToText line) ks = ks
   found (ToTextOf j key line) ks = Value (Simply kind.Text) ∷ ks
+  found _ ks = ks
 
   finds : (x : Target) (k : Kind) (w : List Item) (ks : List Kinds) → VariableFine s m i x k → Wk w (found x ks) → Wk (finding x w) ks
   finds (ToCell j key) k w ks c x = x
@@ -170,12 +187,14 @@ module _ (s : Source) (ok : Typed s) (l : Limits) (o : World) (sights : List Sig
   finds (ToTextOf j key line) k w ks c x =
       let y = c.0 in
       ([], Value (Simply kind.Text) ∷ ks, (simple kind.Text, (Simply kind.Text, refl, in_whole y.before y.whole (y.holds ∙ ap (λ z. Some (Simply z)) c.1) y.there), refl, refl), x)
+  finds _ k w ks c x = absurd c
 
   stores : (x : Target) (k : Kind) (w : List Item) (ks : List Kinds) → VariableFine s m i x k → Wk w ks → Wk (Do (StoreOp x) ∷ w) (Value (Simply k) ∷ found x ks)
   stores (ToCell j key) k w ks c x = ([], ks, value_stored (Simply k) ks refl (c, refl) refl, x)
   stores ToAddress k w ks c x = absurd c
   stores (ToText line) k w ks c x = absurd c
   stores (ToTextOf j key line) k w ks c x = ([], ks, value_stored (Simply k) (Value (Simply kind.Text) ∷ ks) refl (ap Simply c.1, refl) refl, x)
+  stores _ k w ks c x = absurd c
 
   -- an integer is no text
   stores_integer : (x : Target) (w : List Item) (ks : List Kinds) → VariableFine s m i x kind.Integer → Wk w ks → Wk (Do (StoreOp x) ∷ w) (Value (Simply kind.Integer) ∷ ks)
@@ -183,12 +202,14 @@ module _ (s : Source) (ok : Typed s) (l : Limits) (o : World) (sights : List Sig
   stores_integer ToAddress w ks c x = absurd c
   stores_integer (ToText line) w ks c x = absurd c
   stores_integer (ToTextOf j key line) w ks c x = let e = c.1 in absurd (cc)
+  stores_integer _ w ks c x = absurd c
 
   reads : (x : Target) (k : Kind) (w : List Item) (ks : List Kinds) → VariableFine s m i x k → Wk w (Value (Simply k) ∷ ks) → Wk (reading x w) ks
   reads (ToCell j key) k w ks c x = ([], Value (Simply k) ∷ ks, (simple k, (Simply k, refl, in_whole c.before c.whole c.holds c.there), refl, refl), x)
   reads ToAddress k w ks c x = absurd c
   reads (ToText line) k w ks c x = absurd c
   reads (ToTextOf j key line) k w ks c x = let y = c.0 in ([], Value (Simply k) ∷ ks, (simple k, (Simply k, refl, in_whole y.before y.whole y.holds y.there), refl, refl), x)
+  reads _ k w ks c x = absurd c
 
   pub elements_goes : (x : Target) (es : List Element) (a : Statement) (k : Kind) → VariableFine s m i x k → ElementsAre s t k es → StatementIs s t a → Goes P (elements s l o m i w vals rest x es a)
   elements_goes x [] a k v e y = goes w work
