@@ -22,7 +22,7 @@ use Rattle.sim_scope.specs.Calls.{is_inside}
 use Rattle.sim_tree.specs.declared.stmt.Assignment.{Assignment}
 use Rattle.sim_tree.specs.declared.stmt.Assignment.TheVariants as assignment
 use Rattle.sim_values.specs.declared.kind.Kind.TheVariants as kind
-use Rattle.sim_meaning.specs.Closing.{Left, LeftAddress, LeftCell, LeftText, LeftUnbuilt, array_left, block_if, close, close_all, close_left_of, declared_left, formal_left, home_of, in_instance, left_in, left_variable, named_left, own_block, own_block_denoted, own_result, result_left, result_or, variable_left, close_place, left_found}
+use Rattle.sim_meaning.specs.Closing.{Left, LeftAddress, LeftCell, LeftText, LeftUnbuilt, array_left, block_if, close, close_all, close_left_of, declared_left, formal_left, home_of, in_instance, left_in, left_variable, named_left, own_block, own_block_denoted, own_result, result_left, result_meant, result_or, unless_connected, variable_left, close_place, left_found}
 use Rattle.sim_meaning.specs.Pending.{Cell, Declared, ElementOf, Instances, Result, Term}
 use Rattle.sim_meaning.specs.Texts.{ProcedureText, kind_of_type, text}
 use Rattle.sim_sound.specs.Typed.{AreIntegers, ArrayOf, Around, LeftDeclared, LeftDenoted, LeftHeld, LeftIs, LeftOf, Simply, TextLeft, Typed, entry_holds, formal_holds, named_kind}
@@ -165,8 +165,15 @@ module _ (s : Source) (ok : Typed s) (o : AllArrays) (m : Instances) (i t : ℕ)
   text_fine e None is a = expr_fine s ok m i t [] (Some t) reach e (Simply kind.Text) a
   text_fine e (Some block) is a = own_fine e block (close s m i e) is a
 
+  -- nothing is seen in a connection, so the procedure that is meant is the one in whose text it stands
+  meant : (e : Expression) → result_meant s e ≡ own_result s e
+  unfolding own_result result_meant
+  meant (syntax.Named name es) = ap (λ z. unless_connected z (own_result s (syntax.Named name es))) (unconnected s ok name.token.0)
+  meant _ = refl
+
   pub left_fine : (text : Bool) (sign : Assignment) (line : ℕ) (e : Expression) (k : Kind) → LeftOf text sign s t e k → LeftFine (close_left_of text sign s m i line e) k
-  left_fine true assignment.Value line e k a = (a.0, text_fine e (own_result s e) refl a.1)
+  left_fine true assignment.Value line e k a =
+      (a.0, subst (λ z. TermFine s m i t [] (result_or s m i z (close s m i e)) (simple kind.Text)) (sym (meant e)) (text_fine e (own_result s e) refl a.1))
   left_fine true assignment.Reference line e k a = variable_fine e k a
   left_fine false assignment.Value line e k a = variable_fine e k a
   left_fine false assignment.Reference line e k a = absurd a
