@@ -34,7 +34,6 @@ fn side_unless(found: &mut Found, first: TokenNo, ty: SimType, barred: bool) -> 
 }
 
 /// A left side of a type: its sign takes that type (`S13`), and it is a variable (`S14`).
-#[tactic(auto, using(crate::proofs::AssignmentSteps::targets_in_steps))]
 fn targets(found: &mut Found, sign: Assignment, first: TokenNo, variable: bool, ty: SimType) -> Side
     ensures { Judges found.old found.new result (targets sign first.0 variable ty) }
 {

@@ -59,7 +59,6 @@ fn arm_connected(scopes: &Scopes, found: &mut Found, token: TokenNo, class: Opti
 }
 
 /// The class of an arm lies on one prefix chain with the object (`S16`), and is not only for prefixing (`S21`).
-#[tactic(auto, using(crate::proofs::Tellings::arm_in_steps))]
 fn arm_fits(
     scopes: &Scopes,
     found: &mut Found,

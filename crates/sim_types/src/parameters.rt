@@ -412,7 +412,6 @@ fn barred_alone(
 }
 
 /// An identifier alone that may not stand there: it has no type, and is not compared.
-#[tactic(auto, using(crate::proofs::Steps::barred_actual_in_steps))]
 fn barred_actual(
     scopes: &Scopes,
     found: &mut Found,
