@@ -10,7 +10,7 @@ ghost use Rattle.sim_code.specs.Machine.{Machine};
 ghost use Rattle.sim_code.specs.Outcome.{Run};
 ghost use Rattle.frame_arena.specs.declared.slot.Slot.{Slot};
 ghost use Rattle.object_machine.specs.Named.{InputEnds};
-ghost use Rattle.object_machine.specs.Running.{FaultsAs, InputAs, IsClosing, Ran, Stops};
+ghost use Rattle.object_machine.specs.Running.{FaultsAs, InputAs, IsClosing, Ran, Stops, StopsAtRead};
 ghost use Rattle.object_machine.specs.Standing.{HasImages, Outside, WrotePart, outside};
 
 use crate::begin::Stop;
@@ -43,7 +43,7 @@ fn closed<O: Sink>(storage: &mut Storage, out: &mut O, ending: Ending) -> Ending
     requires images { HasImages storage.old.texts storage.old.image }
     requires other { (ending ≡ Ending.WriteFault → ⊥) }
     requires read { (ending ≡ Ending.InputFault → ⊥) }
-    ensures ran { (code : CodeOf) (l : LimitsOf) (from : Run Machine) (before : Option (List ℕ)) → (source : List ℕ) → IsClosing code l from ending storage.old before (outside (O.written out.old) source) → Ran code l from result before (O.written out.new) }
+    ensures ran { (code : CodeOf) (l : LimitsOf) (from : Run Machine) (before : Option (List ℕ)) → (source : List ℕ) (faults faults_now : ℕ) → IsClosing faults faults_now code l from ending storage.old before (outside (O.written out.old) source) → Ran faults faults_now code l from result before (O.written out.new) }
     ensures ends { FaultsAs O.written O.faults result out.old out.new }
     ensures input { (before now : ℕ) → now ≡ before → InputAs before now result }
 {
@@ -55,7 +55,7 @@ fn closed<O: Sink>(storage: &mut Storage, out: &mut O, ending: Ending) -> Ending
 
 // The answer where there is no rule.
 fn without_rule(at: usize) -> Ending
-    ensures ran { (code : CodeOf) (l : LimitsOf) (from : Run Machine) (line : ℕ) (p : Storage) (r : Registers) (stack : List Slot) (below : List Activation) (before : Option (List ℕ)) (now : Outside) → Stops code l from Flow.NoRule line at p r stack below before now → Ran code l from result before now.sink }
+    ensures ran { (code : CodeOf) (l : LimitsOf) (from : Run Machine) (line : ℕ) (p : Storage) (r : Registers) (stack : List Slot) (below : List Activation) (before : Option (List ℕ)) (now : Outside) (faults faults_now : ℕ) → Stops code l from Flow.NoRule line at p r stack below before now → Ran faults faults_now code l from result before now.sink }
     ensures other { result ≡ Ending.WriteFault → ⊥ }
     ensures read { result ≡ Ending.InputFault → ⊥ }
 {
@@ -68,7 +68,7 @@ fn without_rule(at: usize) -> Ending
 /// The answer of a run whose last step ends it.
 pub fn answer<O: Sink>(limits: &Limits, storage: &mut Storage, out: &mut O, stop: Stop) -> Ending
     requires images { HasImages storage.old.texts storage.old.image }
-    ensures ran { (code : CodeOf) (from : Run Machine) (r : Registers) (stack : List Slot) (below : List Activation) (before : Option (List ℕ)) (source : List ℕ) → Stops code limits.now from stop.flow stop.line.0 stop.at storage.old r stack below before (outside (O.written out.old) source) → Ran code limits.now from result before (O.written out.new) }
+    ensures ran { (code : CodeOf) (from : Run Machine) (r : Registers) (stack : List Slot) (below : List Activation) (before : Option (List ℕ)) (source : List ℕ) (faults faults_now : ℕ) → StopsAtRead faults faults_now code limits.now from stop.flow stop.line.0 stop.at storage.old r stack below before (outside (O.written out.old) source) → Ran faults faults_now code limits.now from result before (O.written out.new) }
     ensures ends { FaultsAs O.written O.faults result out.old out.new }
     ensures input { (before now : ℕ) → InputEnds before now stop.flow → InputAs before now result }
 {

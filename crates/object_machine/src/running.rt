@@ -24,7 +24,7 @@ pub fn run<I: Source, O: Sink>(
     out: &mut O,
 ) -> Ending
     requires runs { AllRun code.now.instrs }
-    ensures ran { (bytes : List ℕ) → I.left input.old ≡ Some bytes → RanAs code.now limits.now bytes result (O.written out.old) (O.written out.new) }
+    ensures ran { (bytes : List ℕ) → I.left input.old ≡ Some bytes → RanAs (I.faults input.old) (I.faults input.new) code.now limits.now bytes result (O.written out.old) (O.written out.new) }
     ensures faults { FaultsAs O.written O.faults result out.old out.new }
     ensures input_faults { InputAs (I.faults input.old) (I.faults input.new) result }
 

@@ -75,8 +75,8 @@ pub answer_to : (command : Command) (l : Limits) (source bytes input : List ℕ)
 answer_to command l source bytes input answer same is = record { meaning = is.meaning; means = means_to command l source bytes input is.meaning same is.means; same = is.same }
 
 -- the same of a run that was cut off
-pub cut_from : (command : Command) (l : Limits) (source bytes input : List ℕ) (old new : Option (List ℕ)) → bytes ≡ take 1048577 source → IsCutOff command l bytes input old new → IsCutOff command l source input old new
-cut_from command l source bytes input old new same (asked, s, compiles, at) = (asked, s, from_limited Run source (Runnable s) (subst (λ b. SourceCompiles Run b (Runnable s)) same compiles), at)
+pub cut_from : (faults now : ℕ) (command : Command) (l : Limits) (source bytes input : List ℕ) (old new : Option (List ℕ)) → bytes ≡ take 1048577 source → IsCutOff faults now command l bytes input old new → IsCutOff faults now command l source input old new
+cut_from faults now command l source bytes input old new same (asked, s, compiles, at) = (asked, s, from_limited Run source (Runnable s) (subst (λ b. SourceCompiles Run b (Runnable s)) same compiles), at)
 
 -- and of one that is rejected
 pub rejected_to : (source bytes : List ℕ) (rule : Rule) (line : Line) → bytes ≡ take 1048577 source → SourceCompiles Run source (Rejected rule line) → SourceCompiles Run bytes (Rejected rule line)

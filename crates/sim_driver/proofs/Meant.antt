@@ -8,7 +8,7 @@ use Rattle.sim_base.specs.declared.rule.Rule.{Rule}
 use Rattle.sim_ports.specs.Bytes.{AddsPrefix}
 use Rattle.sim_run.specs.declared.running.RunFailure.{RunFailure as NotRun}
 use Rattle.sim_run.specs.declared.running.RunEnd.{RunEnd}
-use Rattle.sim_run.specs.RunEnds.{AtAMoment, Begins, Broken, Ran, TakesNothing}
+use Rattle.sim_run.specs.RunEnds.{BeforeARead, Begins, Broken, Ran, TakesNothing}
 use Rattle.sim_run.proofs.OneEnd.{one_end}
 use Rattle.sim_scope.specs.Source.{Source}
 use Rattle.sim_driver.specs.Compiling.{Compiled, Rejected, Runnable, Sound, SourceBinds, SourceCompiles, SourceRejects}
@@ -45,8 +45,8 @@ failed_begins l s input old new part meaning is =
     part means.end meaning.output means.ends
 
 -- what is known of a run that failed, by its cause
-pub broken_by : (l : Limits) (s : Source) (input : List ℕ) (old new : Option (List ℕ)) (e f : NotRun) → e ≡ f → Broken s l input old new (Err e) → Broken s l input old new (Err f)
-broken_by l s input old new e f is broken = subst (λ x. Broken s l input old new (Err x)) is broken
+pub broken_by : (faults now : ℕ) (l : Limits) (s : Source) (input : List ℕ) (old new : Option (List ℕ)) (e f : NotRun) → e ≡ f → Broken faults now s l input old new (Err e) → Broken faults now s l input old new (Err f)
+broken_by faults now l s input old new e f is broken = subst (λ x. Broken faults now s l input old new (Err x)) is broken
 
 -- ---- what is checked and not run
 
@@ -77,10 +77,10 @@ takes_by Run l source input s t binds idle takes compiles never = takes (subst (
     same_program is = cc is
 takes_by Check l source input s t binds idle takes compiles never = idle (λ is. cc is)
 
-pub cut_by : {E P : Type 0} (command : Command) (l : Limits) (source input : List ℕ) (s : Source) (old new : Option (List ℕ)) (r : Result Ending E) (e : E) → SourceBinds command source s → ((command ≡ Run → ⊥) → (r ≡ Ok Normal) × P) → r ≡ Err e → AtAMoment s l input old new
-    → IsCutOff command l source input old new
-cut_by Run l source input s old new r e binds idle is at = (refl, s, (binds (Runnable s)).back refl, at)
-cut_by Check l source input s old new r e binds idle is at = absurd (not_both (sym (idle (λ same. cc same)).0 ∙ is))
+pub cut_by : {E P : Type 0} (faults now : ℕ) (command : Command) (l : Limits) (source input : List ℕ) (s : Source) (old new : Option (List ℕ)) (r : Result Ending E) (e : E) → SourceBinds command source s → ((command ≡ Run → ⊥) → (r ≡ Ok Normal) × P) → r ≡ Err e → BeforeARead faults now s l input old new
+    → IsCutOff faults now command l source input old new
+cut_by faults now Run l source input s old new r e binds idle is at = (refl, s, (binds (Runnable s)).back refl, at)
+cut_by faults now Check l source input s old new r e binds idle is at = absurd (not_both (sym (idle (λ same. cc same)).0 ∙ is))
   where
     not_both : Ok Normal ≡ Err e → ⊥
     not_both same = cc

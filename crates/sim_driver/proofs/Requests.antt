@@ -19,8 +19,8 @@ pub answer_of : (words : List (List ℕ)) (source given : List ℕ) (request : R
 answer_of words source given request is (answer, means) = (answer, subst (λ (o : Option Request). IsAnswerFor o source given answer) is means)
 
 -- a request was cut off as the words say
-pub cut_of : (words : List (List ℕ)) (source given : List ℕ) (request : Request) (old new : Option (List ℕ)) → Some request ≡ request_of words → IsCutOff request.command request.limits source given old new → WasCutOff words source given old new
-cut_of words source given request old new is cut = subst (λ (o : Option Request). MatchOption o ⊥ (λ r. IsCutOff r.command r.limits source given old new)) is cut
+pub cut_of : (faults now : ℕ) (words : List (List ℕ)) (source given : List ℕ) (request : Request) (old new : Option (List ℕ)) → Some request ≡ request_of words → IsCutOff faults now request.command request.limits source given old new → WasCutOff faults now words source given old new
+cut_of faults now words source given request old new is cut = subst (λ (o : Option Request). MatchOption o ⊥ (λ r. IsCutOff faults now r.command r.limits source given old new)) is cut
 
 -- the limits that the words ask for are those of the request
 pub limits_of_request : (words : List (List ℕ)) (l : Limits) (request : Request) → Some request ≡ request_of words → AsksRunWith words l → request.limits ≡ l

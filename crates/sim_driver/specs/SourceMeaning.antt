@@ -5,7 +5,7 @@ use Rattle.sim_ports.specs.Bytes.{AddsPrefix}
 use Rattle.sim_base.specs.declared.limits.Limits.{Limits}
 use Rattle.sim_run.specs.declared.running.RunEnd.{RunEnd}
 use Rattle.sim_run.specs.declared.running.RunEnd.TheVariants as end
-use Rattle.sim_run.specs.RunEnds.{AtAMoment, RunEnds}
+use Rattle.sim_run.specs.RunEnds.{BeforeARead, RunEnds}
 use Rattle.sim_scope.specs.Source.{Source}
 use Rattle.sim_driver.specs.Compiling.{BoundCompiles, Compiled, Rejected, Runnable, SourceCompiles, Sound}
 use Rattle.sim_driver.specs.declared.status.Ending.{Ending}
@@ -54,6 +54,7 @@ abbrev pub Does : {E : Type 0} → Meaning → Option (List ℕ) → Option (Lis
 Does meaning old new (Ok ending) = (ending ≡ meaning.ending) × Appends old new meaning.output
 Does meaning old new (Err failure) = AddsPrefix old new meaning.output
 
--- The command is `run`, and what was written is all that the run of the source's program had written at some moment under these limits.
-abbrev pub IsCutOff : Command → Limits → (source input : List ℕ) → (old new : Option (List ℕ)) → Type 0
-IsCutOff command l source input old new = (command ≡ Run) × (s : Source) × SourceCompiles Run source (Runnable s) × AtAMoment s l input old new
+-- The command is `run`, and what was written is all that the run of the source's program under these limits had written before a step that
+-- takes something of the input, by the counts of faults of the input before and after.
+abbrev pub IsCutOff : (faults now : ℕ) → Command → Limits → (source input : List ℕ) → (old new : Option (List ℕ)) → Type 0
+IsCutOff faults now command l source input old new = (command ≡ Run) × (s : Source) × SourceCompiles Run source (Runnable s) × BeforeARead faults now s l input old new

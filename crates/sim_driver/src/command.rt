@@ -8,7 +8,7 @@ ghost use Rattle.sim_base.specs.declared.rule.Rule.{Rule as AnyRule};
 ghost use Rattle.sim_ports.specs.Bytes.{AddsPrefix};
 ghost use Rattle.sim_ports.specs.Faults.{Rose, StopsAt};
 ghost use Rattle.sim_ports.specs.Named.{IsOpen};
-ghost use Rattle.sim_run.specs.RunEnds.{AtAMoment, IsRunnable, TakesNothing};
+ghost use Rattle.sim_run.specs.RunEnds.{BeforeARead, IsRunnable, TakesNothing};
 ghost use Rattle.sim_scope.specs.Source.{Source as AnySource, source_of};
 ghost use Rattle.sim_driver.specs.Answer.{Answer, Gives, IsAnswer, IsSourceAnswer};
 ghost use Rattle.sim_driver.specs.Compiling.{Rejected, Runnable, SourceCompiles};
@@ -57,7 +57,7 @@ pub fn run_command<F: Files, I: Source, O: Sink>(
         → IsAnswer (texts words.now) source given answer → AddsPrefix (O.written out.old) (O.written out.new) answer.output }
     ensures files_later { F.faults files.old ≤ F.faults files.new }
     ensures cut { (source given : List ℕ) → TellsFile (F.content files.old) (texts words.now) source → I.left input.old ≡ Some given → result ≡ Status.InputFault
-        → WasCutOff (texts words.now) source given (O.written out.old) (O.written out.new) }
+        → WasCutOff (I.faults input.old) (I.faults input.new) (texts words.now) source given (O.written out.old) (O.written out.new) }
     ensures only_run { (AsksRun (texts words.now) → ⊥) → input.new ≡ input.old }
     ensures untouched { (source : List ℕ) (rule : AnyRule) (line : AnyLine) → TellsFile (F.content files.old) (texts words.now) source
         → SourceCompiles Command.Run source (Rejected rule line) → input.new ≡ input.old }
@@ -105,7 +105,7 @@ fn answer_request<F: Files, I: Source, O: Sink>(
         → IsSourceAnswer command limits.now source given answer → AddsPrefix (O.written out.old) (O.written out.new) answer.output }
     ensures files_later { F.faults files.old ≤ F.faults files.new }
     ensures cut { (source given : List ℕ) → F.content files.old file.now ≡ Some source → I.left input.old ≡ Some given → result ≡ Status.InputFault
-        → IsCutOff command limits.now source given (O.written out.old) (O.written out.new) }
+        → IsCutOff (I.faults input.old) (I.faults input.new) command limits.now source given (O.written out.old) (O.written out.new) }
     ensures only_run { (command ≡ Command.Run → ⊥) → input.new ≡ input.old }
     ensures untouched { (source : List ℕ) (rule : AnyRule) (line : AnyLine) → F.content files.old file.now ≡ Some source
         → SourceCompiles Command.Run source (Rejected rule line) → input.new ≡ input.old }
@@ -140,7 +140,7 @@ fn answer_source<I: Source, O: Sink>(
     ensures answer { (given : List ℕ) (answer : Answer) → I.left input.old ≡ Some given → IsSourceAnswer command limits.now source.now given answer → is_answer result ≡ true
         → Gives answer result (O.written out.old) (O.written out.new) }
     ensures prefix { (given : List ℕ) (answer : Answer) → I.left input.old ≡ Some given → IsSourceAnswer command limits.now source.now given answer → AddsPrefix (O.written out.old) (O.written out.new) answer.output }
-    ensures cut { (given : List ℕ) → I.left input.old ≡ Some given → result ≡ Status.InputFault → IsCutOff command limits.now source.now given (O.written out.old) (O.written out.new) }
+    ensures cut { (given : List ℕ) → I.left input.old ≡ Some given → result ≡ Status.InputFault → IsCutOff (I.faults input.old) (I.faults input.new) command limits.now source.now given (O.written out.old) (O.written out.new) }
     ensures only_run { (command ≡ Command.Run → ⊥) → input.new ≡ input.old }
     ensures untouched { (rule : AnyRule) (line : AnyLine) → SourceCompiles Command.Run source.now (Rejected rule line) → input.new ≡ input.old }
     ensures takes { (given : List ℕ) (s : AnySource) → I.left input.old ≡ Some given → SourceCompiles Command.Run source.now (Runnable s) → TakesNothing s limits.now given → input.new ≡ input.old }
@@ -167,7 +167,7 @@ fn bind_and_do<I: Source, O: Sink>(
     requires { length source.now < 2 ^ 32 - 1 }
     ensures known { (given : List ℕ) → I.left input.old ≡ Some given → OnOk result ((meaning : Meaning) × SourceMeans command limits.now source.now given meaning) }
     ensures does { (given : List ℕ) (meaning : Meaning) → I.left input.old ≡ Some given → SourceMeans command limits.now source.now given meaning → Does meaning (O.written out.old) (O.written out.new) result }
-    ensures cut { (given : List ℕ) → I.left input.old ≡ Some given → result ≡ Err RunFailure.Input → IsCutOff command limits.now source.now given (O.written out.old) (O.written out.new) }
+    ensures cut { (given : List ℕ) → I.left input.old ≡ Some given → result ≡ Err RunFailure.Input → IsCutOff (I.faults input.old) (I.faults input.new) command limits.now source.now given (O.written out.old) (O.written out.new) }
     ensures only_run { (command ≡ Command.Run → ⊥) → input.new ≡ input.old }
     ensures untouched { (rule : AnyRule) (line : AnyLine) → SourceCompiles Command.Run source.now (Rejected rule line) → input.new ≡ input.old }
     ensures takes { (given : List ℕ) (s : AnySource) → I.left input.old ≡ Some given → SourceCompiles Command.Run source.now (Runnable s) → TakesNothing s limits.now given → input.new ≡ input.old }
@@ -193,7 +193,7 @@ fn do_bound<I: Source, O: Sink>(
     requires { command ≡ Command.Run → IsRunnable (source_of bound.now) }
     ensures known { (given : List ℕ) → I.left input.old ≡ Some given → OnOk result ((meaning : Meaning) × BoundMeans command limits.now (source_of bound.now) given meaning) }
     ensures does { (given : List ℕ) (meaning : Meaning) → I.left input.old ≡ Some given → BoundMeans command limits.now (source_of bound.now) given meaning → Does meaning (O.written out.old) (O.written out.new) result }
-    ensures cut { (given : List ℕ) → I.left input.old ≡ Some given → result ≡ Err RunFailure.Input → AtAMoment (source_of bound.now) limits.now given (O.written out.old) (O.written out.new) }
+    ensures cut { (given : List ℕ) → I.left input.old ≡ Some given → result ≡ Err RunFailure.Input → BeforeARead (I.faults input.old) (I.faults input.new) (source_of bound.now) limits.now given (O.written out.old) (O.written out.new) }
     ensures only_run { (command ≡ Command.Run → ⊥) → (result ≡ Ok Ending.Normal) × (input.new ≡ input.old) }
     ensures takes { (given : List ℕ) → I.left input.old ≡ Some given → TakesNothing (source_of bound.now) limits.now given → input.new ≡ input.old }
     ensures output { OutputAfter O.written O.faults out.old out.new result }
@@ -216,7 +216,7 @@ fn run<I: Source, O: Sink>(
     requires { IsRunnable (source_of bound.now) }
     ensures known { (given : List ℕ) → I.left input.old ≡ Some given → OnOk result ((meaning : Meaning) × BoundMeans Command.Run limits.now (source_of bound.now) given meaning) }
     ensures does { (given : List ℕ) (meaning : Meaning) → I.left input.old ≡ Some given → BoundMeans Command.Run limits.now (source_of bound.now) given meaning → Does meaning (O.written out.old) (O.written out.new) result }
-    ensures cut { (given : List ℕ) → I.left input.old ≡ Some given → result ≡ Err RunFailure.Input → AtAMoment (source_of bound.now) limits.now given (O.written out.old) (O.written out.new) }
+    ensures cut { (given : List ℕ) → I.left input.old ≡ Some given → result ≡ Err RunFailure.Input → BeforeARead (I.faults input.old) (I.faults input.new) (source_of bound.now) limits.now given (O.written out.old) (O.written out.new) }
     ensures takes { (given : List ℕ) → I.left input.old ≡ Some given → TakesNothing (source_of bound.now) limits.now given → input.new ≡ input.old }
     ensures output { OutputAfter O.written O.faults out.old out.new result }
     ensures input { InputAfter (I.faults input.old) (I.faults input.new) result }

@@ -85,9 +85,10 @@ pub fn simula<F: Files, I: Source, O: Sink, D: Sink>(
         × HasItsCause (texts words.now) said (Rose (F.faults files.old) (F.faults files.new)) (Rose (I.faults input.old) (I.faults input.new)) (Rose (O.faults out.old) (O.faults out.new))
         × Says said result (D.written diag.old) (D.written diag.new) (D.faults diag.old) (D.faults diag.new) }
 
-    // Where the input failed, a run was asked for, and all is written that it had written at some moment.
+    // Where the input failed, a run was asked for, and all is written that it had written before a step that takes something of the
+    // input.
     ensures cut { (source given : List ℕ) → TellsFile (F.content files.old) (texts words.now) source → I.left input.old ≡ Some given → result ≡ Status.InputFault
-        → WasCutOff (texts words.now) source given (O.written out.old) (O.written out.new) }
+        → WasCutOff (I.faults input.old) (I.faults input.new) (texts words.now) source given (O.written out.old) (O.written out.new) }
 
     // The input is as it was where no run is asked for, and where a rule refuses the source.
     ensures only_run { (AsksRun (texts words.now) → ⊥) → input.new ≡ input.old }

@@ -1,6 +1,6 @@
 -- Two machines that show the same, where each step of the one is matched by the other. The second may make steps of its own that show
 -- nothing: the relation has a rank, which says how many of them are to come.
-use Rattle.std.proofs.Common.{◌≡◌, ℕ, zero, suc, ◌<◌, ◌≤◌, None, refl, sym, ap, ◌∙◌, arith}
+use Rattle.std.proofs.Common.{◌≡◌, ◌⊎◌, ℕ, zero, suc, ◌<◌, ◌≤◌, None, inl, inr, refl, sym, ap, subst, ◌∙◌, arith}
 use Rattle.sim_code.specs.Outcome.{Ended, Ending, Going, Run, World, after}
 use Rattle.sim_code.proofs.Simulation.{Alike}
 use Rattle.sim_code.proofs.Simulation as simple
@@ -107,34 +107,73 @@ module _ (S M : Type 0) (f : World → S → Run S) (g : World → M → Run M) 
   forth sim zero r q a = (0, catches_seen r q a)
   forth sim (suc n) r q a = forth_catches (suc n) r (λ q b. forth_alike sim n (forth sim n) r q b) q a
 
-  only_meets : (o : World) (s : S) (k : ℕ) (m : M) → ((j : ℕ) → j ≤ k → (r : Run S) (q : Run M) → Catches g Related r q → Only j r q) → Meets g Related (f o s) o m → Only (suc k) (Going o s) (Going o m)
-  only_meets o s k m ih (meets a) = let x = ih k (omega arith) (f o s) (g o m) a in (suc x.0, x.1)
-  only_meets o s zero m ih (first {m' = m'} e more) = (0, ap seen e)
-  only_meets o s (suc k) m ih (first {m' = m'} e more) = let x = only_meets o s k m' (λ j le. ih j (omega (arith, le))) more in (x.0, ap (λ r. seen (after g (suc k) r)) e ∙ x.1)
+  -- ---- a step of the second, from a moment that is seen as one of the first
 
-  only_turn : (k rank : ℕ) (o : World) (s : S) (m : M) → ((j : ℕ) → j ≤ k → (r : Run S) (q : Run M) → Catches g Related r q → Only j r q) → ((s' : S) → Related o s' m → weight s' < weight s → Only (suc k) (Going o s') (Going o m)) → Moves rank o s m → Only (suc k) (Going o s) (Going o m)
-  only_turn k rank o s m ih go (Both a) = only_meets o s k m ih a
-  only_turn k rank o s m ih go (Quiet s' e h' lt) = let x = go s' h' lt in (suc x.0, x.1 ∙ ap (λ r. seen (after f x.0 r)) (sym e))
-  only_turn k rank o s m ih go (Slow m' n e h' lt) = let x = ih k (omega arith) (Going o s) (Going o m') (caught (going (n, h'))) in (x.0, ap (λ r. seen (after g k r)) e ∙ x.1)
+  -- it shows nothing, or what the next step of the first shows
+  pub record Shown (k : ℕ) (r : Run S) (q : Run M) : Type 0 where
+    pub at : ℕ
+    pub here : seen (after g k q) ≡ seen (after f at r)
+    pub next : (seen (after g (suc k) q) ≡ seen (after g k q)) ⊎ (seen (after g (suc k) q) ≡ seen (after f (suc at) r))
 
-  only_inner : (k : ℕ) (o : World) (m : M) → ((n : ℕ) (s : S) → R n o s m → Moves n o s m) → ((j : ℕ) → j ≤ k → (r : Run S) (q : Run M) → Catches g Related r q → Only j r q) → (w : ℕ) (s : S) → Related o s m → weight s ≤ w → Only (suc k) (Going o s) (Going o m)
-  only_inner k o m sim ih zero s h le = only_turn k h.0 o s m ih (λ s' h' lt. absurd (omega (arith, le, lt))) (sim h.0 s h.1)
-  only_inner k o m sim ih (suc w) s h le = only_turn k h.0 o s m ih (λ s' h' lt. only_inner k o m sim ih w s' h' (omega (arith, le, lt))) (sim h.0 s h.1)
+  -- what is shown of the moments after some steps
+  abbrev ShownAt : ℕ → Type 0
+  ShownAt k = (r : Run S) (q : Run M) → Catches g Related r q → Shown k r q
 
-  only_alike : Simulates → (k : ℕ) → ((j : ℕ) → j ≤ k → (r : Run S) (q : Run M) → Catches g Related r q → Only j r q) → (r : Run S) (q : Run M) → AlikeIn Related r q → Only (suc k) r q
-  only_alike sim k ih _ _ (going {o} {s} {m} h) = only_inner k o m (λ n s' h'. sim n o s' m h') ih (weight s) s h (omega arith)
-  only_alike sim k ih _ _ (ended {o} {e}) = (0, ended_stays' (suc k) o e)
+  -- a step of the second goes before
+  second_on : (k : ℕ) (r : Run S) (o : World) (m : M) (q : Run M) → g o m ≡ q → Shown k r q → Shown (suc k) r (Going o m)
+  second_on k r o m q e x = record {
+    at = x.at;
+    here = ap (λ z. seen (after g k z)) e ∙ x.here;
+    next = subst (λ z. (seen (after g (suc k) z) ≡ seen (after g k z)) ⊎ (seen (after g (suc k) z) ≡ seen (after f (suc x.at) r))) (sym e) x.next;
+  }
 
-  only_catches : (k : ℕ) (r : Run S) → ((j : ℕ) → j ≤ k → (r : Run S) (q : Run M) → Catches g Related r q → Only j r q) → ((q : Run M) → AlikeIn Related r q → Only (suc k) r q) → (q : Run M) → Catches g Related r q → Only (suc k) r q
-  only_catches k r ih f q (caught a) = f q a
-  only_catches k r ih f _ (lags {o' = o'} {m' = m'} e same more) = let x = ih k (omega arith) r (Going o' m') more in (x.0, ap (λ r. seen (after g k r)) e ∙ x.1)
+  -- a step of the first goes before
+  first_on : (k : ℕ) (o : World) (s : S) (r : Run S) (q : Run M) → f o s ≡ r → Shown k r q → Shown k (Going o s) q
+  first_on k o s r q e x = record {
+    at = suc x.at;
+    here = x.here ∙ ap (λ z. seen (after f x.at z)) (sym e);
+    next = subst (λ z. (seen (after g (suc k) q) ≡ seen (after g k q)) ⊎ (seen (after g (suc k) q) ≡ seen (after f (suc x.at) z))) (sym e) x.next;
+  }
 
-  only_upto : Simulates → (k j : ℕ) → j ≤ k → (r : Run S) (q : Run M) → Catches g Related r q → Only j r q
-  only_upto sim k zero le r q a = (0, catches_seen r q a)
-  only_upto sim zero (suc j) le r q a = absurd (let e : ⊥ = omega (arith, le) in e)
-  only_upto sim (suc k) (suc j) le r q a =
-      let before : (i : ℕ) → i ≤ j → (r : Run S) (q : Run M) → Catches g Related r q → Only i r q = λ i less. only_upto sim k i (omega (arith, le, less)) in
-      only_catches j r before (λ q b. only_alike sim j before r q b) q a
+  -- a step that shows nothing, of runs that are seen the same
+  nothing_shown : (r : Run S) (o : World) (m : M) (q : Run M) → seen_world o None ≡ seen r → g o m ≡ q → seen q ≡ seen_world o None → Shown 0 r (Going o m)
+  nothing_shown r o m q same e still = record { at = 0; here = same; next = inl (ap seen e ∙ still) }
 
+  shown_meets : (o : World) (s : S) (k : ℕ) (m : M) → ((j : ℕ) → j < k → ShownAt j) → Meets g Related (f o s) o m → Shown k (Going o s) (Going o m)
+  shown_meets o s zero m ih (meets a) = record { at = 0; here = refl; next = inr (catches_seen (f o s) (g o m) a) }
+  shown_meets o s zero m ih (first {m' = m'} e more) = nothing_shown (Going o s) o m (Going o m') refl e refl
+  shown_meets o s (suc k) m ih (meets a) = first_on (suc k) o s (f o s) (Going o m) refl (second_on k (f o s) o m (g o m) refl (ih k (omega arith) (f o s) (g o m) a))
+  shown_meets o s (suc k) m ih (first {m' = m'} e more) = second_on k (Going o s) o m (Going o m') e (shown_meets o s k m' (λ j le. ih j (omega (arith, le))) more)
+
+  shown_slow : (k n : ℕ) (o : World) (s : S) (m m' : M) → ((j : ℕ) → j < k → ShownAt j) → g o m ≡ Going o m' → R n o s m' → Shown k (Going o s) (Going o m)
+  shown_slow zero n o s m m' ih e h = nothing_shown (Going o s) o m (Going o m') refl e refl
+  shown_slow (suc k) n o s m m' ih e h = second_on k (Going o s) o m (Going o m') e (ih k (omega arith) (Going o s) (Going o m') (caught (going (n, h))))
+
+  shown_turn : (k rank : ℕ) (o : World) (s : S) (m : M) → ((j : ℕ) → j < k → ShownAt j) → ((s' : S) → Related o s' m → weight s' < weight s → Shown k (Going o s') (Going o m)) → Moves rank o s m → Shown k (Going o s) (Going o m)
+  shown_turn k rank o s m ih go (Both a) = shown_meets o s k m ih a
+  shown_turn k rank o s m ih go (Quiet s' e h' lt) = first_on k o s (Going o s') (Going o m) e (go s' h' lt)
+  shown_turn k rank o s m ih go (Slow m' n e h' lt) = shown_slow k n o s m m' ih e h'
+
+  shown_inner : (k : ℕ) (o : World) (m : M) → ((n : ℕ) (s : S) → R n o s m → Moves n o s m) → ((j : ℕ) → j < k → ShownAt j) → (w : ℕ) (s : S) → Related o s m → weight s ≤ w → Shown k (Going o s) (Going o m)
+  shown_inner k o m sim ih zero s h le = shown_turn k h.0 o s m ih (λ s' h' lt. absurd (omega (arith, le, lt))) (sim h.0 s h.1)
+  shown_inner k o m sim ih (suc w) s h le = shown_turn k h.0 o s m ih (λ s' h' lt. shown_inner k o m sim ih w s' h' (omega (arith, le, lt))) (sim h.0 s h.1)
+
+  shown_alike : Simulates → (k : ℕ) → ((j : ℕ) → j < k → ShownAt j) → (r : Run S) (q : Run M) → AlikeIn Related r q → Shown k r q
+  shown_alike sim k ih _ _ (going {o} {s} {m} h) = shown_inner k o m (λ n s' h'. sim n o s' m h') ih (weight s) s h (omega arith)
+  shown_alike sim k ih _ _ (ended {o} {e}) = record { at = 0; here = ended_stays' k o e; next = inl (ended_stays' (suc k) o e ∙ sym (ended_stays' k o e)) }
+
+  shown_catches : Simulates → (k : ℕ) → ((j : ℕ) → j < k → ShownAt j) → ShownAt k
+  shown_catches sim k ih r q (caught a) = shown_alike sim k ih r q a
+  shown_catches sim zero ih r _ (lags {o = o} {o' = o'} {m = m} {m' = m'} e same more) = nothing_shown r o m (Going o' m') (same ∙ catches_seen r (Going o' m') more) e (sym same)
+  shown_catches sim (suc k) ih r _ (lags {o = o} {o' = o'} {m = m} {m' = m'} e same more) = second_on k r o m (Going o' m') e (ih k (omega arith) r (Going o' m') more)
+
+  shown_below : Simulates → (k j : ℕ) → j < k → ShownAt j
+  shown_below sim zero j less = absurd (let e : ⊥ = omega (arith, less) in e)
+  shown_below sim (suc k) j less = shown_catches sim j (λ i lower. shown_below sim k i (omega (arith, less, lower)))
+
+  pub shown_step : Simulates → (k : ℕ) (r : Run S) (q : Run M) → Catches g Related r q → Shown k r q
+  shown_step sim k = shown_catches sim k (shown_below sim k)
+
+  -- so each moment of the second is one of the first
   pub only : Simulates → (k : ℕ) (r : Run S) (q : Run M) → Catches g Related r q → Only k r q
-  only sim k r q a = only_upto sim k k (omega arith) r q a
+  only sim k r q a = let x = shown_step sim k r q a in (x.at, x.here)

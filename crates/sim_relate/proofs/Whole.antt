@@ -17,7 +17,7 @@ use Rattle.sim_relate.specs.SameRuns.{SameRuns}
 use Rattle.sim_relate.proofs.Relation.{StateAt, StateNow}
 use Rattle.sim_relate.proofs.Main.{MovesNow, both, moves_now, quiet, several}
 use Rattle.sim_relate.proofs.Quiet.{weight}
-use Rattle.sim_relate.proofs.Ranked.{AlikeIn, Both, InEach, Meets, Moves, Quiet, Simulates, Slow, caught, forth, going, meets, meets_as, only, simply}
+use Rattle.sim_relate.proofs.Ranked.{AlikeIn, Both, InEach, Meets, Moves, Quiet, Simulates, Slow, caught, forth, going, meets, meets_as, only, shown_step, simply}
 use Rattle.sim_relate.proofs.Settle.{Slows, no_step, one_step, settle}
 
 module _ (s : Source) (code : CodeOf) (stays : StaysSane s) (compiled : Compiled s code) (l : Limits) (input : List ℕ) where
@@ -67,4 +67,7 @@ pub same_runs : (s : Source) (code : CodeOf) → StaysSane s → Compiled s code
 same_runs s code stays compiled = record {
   shows = λ l input n. forth Configuration Machine (step s l) (mstep code l) (Ranks s code stays compiled l input) (weight s) (simulates s code stays compiled l input) n _ _ (caught (opens s code stays compiled l input));
   only = λ l input m. only Configuration Machine (step s l) (mstep code l) (Ranks s code stays compiled l input) (weight s) (simulates s code stays compiled l input) m _ _ (caught (opens s code stays compiled l input));
+  steps = λ l input m.
+      let x = shown_step Configuration Machine (step s l) (mstep code l) (Ranks s code stays compiled l input) (weight s) (simulates s code stays compiled l input) m _ _ (caught (opens s code stays compiled l input)) in
+      record { at = x.at; here = x.here; next = x.next };
 }

@@ -1,4 +1,5 @@
 pub mod OneEnd
 pub mod Prefixes
 pub mod Ran
+pub mod Reading
 pub mod Showing

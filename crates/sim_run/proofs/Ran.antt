@@ -19,8 +19,9 @@ use Rattle.sim_run.specs.declared.running.RunFailure.{RunFailure}
 use Rattle.sim_run.specs.declared.running.RunFailure.TheVariants as failure
 use Rattle.sim_run.specs.declared.running.RunEnd.{RunEnd}
 use Rattle.sim_run.specs.declared.running.RunEnd.TheVariants as end
-use Rattle.sim_run.specs.RunEnds.{AtAMoment, Begins, Broken, CodeBroken, CodeRan, IsRuled, Ran, end_of}
-use Rattle.sim_run.proofs.Showing.{EndsIn, begins_end, moment, program_ends}
+use Rattle.sim_run.specs.RunEnds.{BeforeARead, Begins, Broken, CodeBroken, CodeRan, IsRuled, Ran, end_of}
+use Rattle.sim_run.proofs.Reading.{before_read}
+use Rattle.sim_run.proofs.Showing.{EndsIn, begins_end, program_ends}
 use Rattle.sim_run.proofs.Prefixes.{adds_all}
 
 -- ---- the machine's answer
@@ -51,16 +52,16 @@ ended_so code l input a e old new is h = record {
 }
 
 -- code that the machine ran to its end
-pub code_ran : (code : CodeOf) (l : Limits) (input : List ℕ) (a : Answer) (end : RunEnd) (old new : Option (List ℕ)) → end_by a ≡ Some end → RanAs code l input a old new → CodeRan code l input end old new
+pub code_ran : (faults now : ℕ) (code : CodeOf) (l : Limits) (input : List ℕ) (a : Answer) (end : RunEnd) (old new : Option (List ℕ)) → end_by a ≡ Some end → RanAs faults now code l input a old new → CodeRan code l input end old new
 unfolding RanAs
-code_ran code l input answer.Normal e old new is h = ended_so code l input answer.Normal e old new is h
-code_ran code l input (answer.RunFault error line) e old new is h = ended_so code l input (answer.RunFault error line) e old new is h
-code_ran code l input (answer.StorageExhausted line used wanted) e old new is h = ended_so code l input (answer.StorageExhausted line used wanted) e old new is h
-code_ran code l input (answer.TickLimit ticks) e old new is h = ended_so code l input (answer.TickLimit ticks) e old new is h
-code_ran code l input answer.InputFault e old new is h = cc is
-code_ran code l input answer.WriteFault e old new is h = cc is
-code_ran code l input answer.Memory e old new is h = cc is
-code_ran code l input (answer.BadCode at) e old new is h = cc is
+code_ran faults now code l input answer.Normal e old new is h = ended_so code l input answer.Normal e old new is h
+code_ran faults now code l input (answer.RunFault error line) e old new is h = ended_so code l input (answer.RunFault error line) e old new is h
+code_ran faults now code l input (answer.StorageExhausted line used wanted) e old new is h = ended_so code l input (answer.StorageExhausted line used wanted) e old new is h
+code_ran faults now code l input (answer.TickLimit ticks) e old new is h = ended_so code l input (answer.TickLimit ticks) e old new is h
+code_ran faults now code l input answer.InputFault e old new is h = cc is
+code_ran faults now code l input answer.WriteFault e old new is h = cc is
+code_ran faults now code l input answer.Memory e old new is h = cc is
+code_ran faults now code l input (answer.BadCode at) e old new is h = cc is
 
 -- it has a rule for each step
 never_lost : (e : Ending) (at place : ℕ) → answer.BadCode at ≡ answer_of e place → e ≡ NoRule
@@ -70,22 +71,22 @@ never_lost (StorageExhausted line used wanted) at place is = cc is
 never_lost (TickLimit ticks) at place is = cc is
 never_lost NoRule at place is = refl
 
-pub not_lost : (code : CodeOf) (l : Limits) (input : List ℕ) (at : ℕ) (old new : Option (List ℕ)) → IsRuled code l → RanAs code l input (answer.BadCode at) old new → ⊥
+pub not_lost : (faults now : ℕ) (code : CodeOf) (l : Limits) (input : List ℕ) (at : ℕ) (old new : Option (List ℕ)) → IsRuled code l → RanAs faults now code l input (answer.BadCode at) old new → ⊥
 unfolding RanAs
-not_lost code l input at old new ruled h =
+not_lost faults now code l input at old new ruled h =
     ruled input (suc h.steps) h.last (h.ended ∙ ap (λ e. Ended h.last e) (never_lost h.ending at (next_place h.state) h.answer))
 
-pub broken_by_memory : (code : CodeOf) (l : Limits) (input : List ℕ) (old new : Option (List ℕ)) → RanAs code l input answer.Memory old new → WasBroken code l (opening code l input) old new
+pub broken_by_memory : (faults now : ℕ) (code : CodeOf) (l : Limits) (input : List ℕ) (old new : Option (List ℕ)) → RanAs faults now code l input answer.Memory old new → WasBroken code l (opening code l input) old new
 unfolding RanAs
-broken_by_memory code l input old new h = h
+broken_by_memory faults now code l input old new h = h
 
-pub broken_by_output : (code : CodeOf) (l : Limits) (input : List ℕ) (old new : Option (List ℕ)) → RanAs code l input answer.WriteFault old new → WasBroken code l (opening code l input) old new
+pub broken_by_output : (faults now : ℕ) (code : CodeOf) (l : Limits) (input : List ℕ) (old new : Option (List ℕ)) → RanAs faults now code l input answer.WriteFault old new → WasBroken code l (opening code l input) old new
 unfolding RanAs
-broken_by_output code l input old new h = h
+broken_by_output faults now code l input old new h = h
 
-pub cut_by_input : (code : CodeOf) (l : Limits) (input : List ℕ) (old new : Option (List ℕ)) → RanAs code l input answer.InputFault old new → WasCut code l (opening code l input) old new
+pub cut_by_input : (faults now : ℕ) (code : CodeOf) (l : Limits) (input : List ℕ) (old new : Option (List ℕ)) → RanAs faults now code l input answer.InputFault old new → WasCut faults now code l (opening code l input) old new
 unfolding RanAs
-cut_by_input code l input old new h = h
+cut_by_input faults now code l input old new h = h
 
 -- ---- the program
 
@@ -113,14 +114,15 @@ was_broken grows s code same l input old new (steps, part) =
     let r : Run Machine = mrun code l input steps in
     begins_end s code same l input grows old new steps (subst (λ xs. AddsPrefix old new xs) (world_written r) (part_adds old new (world_of r).store.written part))
 
--- what was cut off had written what the program has written at some moment
-cut_written : (code : CodeOf) (l : Limits) (input : List ℕ) (old new : Option (List ℕ)) (cut : WasCut code l (opening code l input) old new) → Appends old new (written (mrun code l input cut.0))
-cut_written code l input old new (steps, o, s, come, adds) = subst (λ (r : Run Machine). Appends old new (written r)) (sym come) adds
+-- what was cut off had written what the program has written before a step that takes something of the input
+cut_written : (faults now : ℕ) (code : CodeOf) (l : Limits) (input : List ℕ) (old new : Option (List ℕ)) (cut : WasCut faults now code l (opening code l input) old new) → Appends old new (written (mrun code l input cut.steps))
+cut_written faults now code l input old new cut = subst (λ (r : Run Machine). Appends old new (written r)) (sym cut.come) cut.written
 
-pub was_cut : OutputGrows → (s : Source) (code : CodeOf) → SameRuns s code → (l : Limits) (input : List ℕ) (old new : Option (List ℕ)) → WasCut code l (opening code l input) old new → AtAMoment s l input old new × Begins s l input old new
-was_cut grows s code same l input old new cut =
-    let adds = cut_written code l input old new cut in
-    (moment s code same l input old new cut.0 adds, begins_end s code same l input grows old new cut.0 (adds_all old new (written (mrun code l input cut.0)) adds))
+pub was_cut : OutputGrows → (s : Source) (code : CodeOf) → SameRuns s code → (faults now : ℕ) (l : Limits) (input : List ℕ) (old new : Option (List ℕ)) → WasCut faults now code l (opening code l input) old new → BeforeARead faults now s l input old new × Begins s l input old new
+was_cut grows s code same faults now l input old new cut = (
+  before_read s code same l input faults now old new cut,
+  begins_end s code same l input grows old new cut.steps (adds_all old new (written (mrun code l input cut.steps)) (cut_written faults now code l input old new cut)),
+)
 
 -- ---- by the result
 
@@ -129,8 +131,8 @@ pub ran_of : {E : Type 0} (s : Source) (code : CodeOf) → SameRuns s code → (
 ran_of s code same l input old new (Ok e) h = has_ended s code same l input e old new h
 ran_of s code same l input old new (Err e) h = tt
 
-pub broken_of : OutputGrows → (s : Source) (code : CodeOf) → SameRuns s code → (l : Limits) (input : List ℕ) (old new : Option (List ℕ)) (r : Result RunEnd RunFailure) → CodeBroken code l input old new r → Broken s l input old new r
-broken_of grows s code same l input old new (Ok e) h = tt
-broken_of grows s code same l input old new (Err failure.Memory) h = was_broken grows s code same l input old new h
-broken_of grows s code same l input old new (Err failure.Input) h = was_cut grows s code same l input old new h
-broken_of grows s code same l input old new (Err failure.Output) h = was_broken grows s code same l input old new h
+pub broken_of : OutputGrows → (s : Source) (code : CodeOf) → SameRuns s code → (faults now : ℕ) (l : Limits) (input : List ℕ) (old new : Option (List ℕ)) (r : Result RunEnd RunFailure) → CodeBroken faults now code l input old new r → Broken faults now s l input old new r
+broken_of grows s code same faults now l input old new (Ok e) h = tt
+broken_of grows s code same faults now l input old new (Err failure.Memory) h = was_broken grows s code same l input old new h
+broken_of grows s code same faults now l input old new (Err failure.Input) h = was_cut grows s code same faults now l input old new h
+broken_of grows s code same faults now l input old new (Err failure.Output) h = was_broken grows s code same l input old new h

@@ -1,7 +1,6 @@
 -- From a run of code that shows what its program means to the end of the program's own run, and back.
 use Rattle.std.proofs.Common.{◌≡◌, ℕ, ◌+◌, ◌-◌, List, ◌++◌, Option, Some, None, inl, inr, refl, sym, ap, subst, ◌∙◌, arith}
 use Rattle.std.proofs.lemmas.Bool.{cases_lt}
-use Rattle.std.specs.Io.KnownBytes.{Appends}
 use Rattle.sim_base.specs.declared.limits.Limits.{Limits}
 use Rattle.sim_code.specs.Code.{CodeOf}
 use Rattle.sim_code.specs.Growing.{OutputGrows, written}
@@ -14,7 +13,7 @@ use Rattle.sim_ports.specs.Bytes.{AddsPrefix}
 use Rattle.sim_scope.specs.Source.{Source}
 use Rattle.standard_calls.specs.Taking.{HasAll}
 use Rattle.object_machine.specs.Taking.{TakesNothing as CodeTakesNothing}
-use Rattle.sim_run.specs.RunEnds.{AtAMoment, Begins, IsRunnable, MeaningEnds, TakesNothing}
+use Rattle.sim_run.specs.RunEnds.{Begins, IsRunnable, MeaningEnds, TakesNothing}
 use Rattle.sim_relate.specs.SameRuns.{SameRuns, Seen, seen}
 use Rattle.sim_run.proofs.OneEnd.{ended_later}
 use Rattle.sim_run.proofs.Prefixes.{adds_more}
@@ -52,7 +51,7 @@ shown_alike S M q r same = sym (is_shown q) ∙ ap (λ (x : Seen). x.shown) same
     is_shown (Ended o e) = refl
 
 -- and that nothing was taken
-has_all_too : (S M : Type 0) (q : Run M) (r : Run S) (input : List ℕ) → seen q ≡ seen r → HasAll input r → HasAll input q
+pub has_all_too : (S M : Type 0) (q : Run M) (r : Run S) (input : List ℕ) → seen q ≡ seen r → HasAll input r → HasAll input q
 has_all_too S M (Going p m) (Going o s) input same h = (ap (λ (x : Seen). x.left) same ∙ h.0, ap (λ (x : Seen). x.endfile) same ∙ h.1)
 has_all_too S M (Going p m) (Ended o e) input same h = absurd (goes_on e (ap (λ (x : Seen). x.shown.ending) same))
   where
@@ -117,13 +116,3 @@ module _ (s : Source) (code : CodeOf) (same : SameRuns s code) (l : Limits) (inp
   is_ruled runs n o is =
       let there = program_ends n NoRule o.store.written (record { world = o; is = is; writes = refl }) in
       runs.ruled l input there.steps there.world there.ends
-
-  -- what was written at a moment of the code's run was written at one of the program's
-  pub moment : (old new : Option (List ℕ)) (n : ℕ) → Appends old new (written (mrun code l input n)) → AtAMoment s l input old new
-  moment old new n adds =
-      let k = same.only l input n in
-      (k.0, subst (λ xs. Appends old new xs) (shows_written (mrun code l input n) ∙ ap (λ (x : Shown). x.output) (shown_alike Configuration Machine (mrun code l input n) (run s l input k.0) k.1) ∙ sym (shows_written (run s l input k.0))) adds)
-    where
-      shows_written : {S : Type 0} (r : Run S) → written r ≡ (shown r).output
-      shows_written (Going o p) = refl
-      shows_written (Ended o e) = refl

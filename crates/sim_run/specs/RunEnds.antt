@@ -3,10 +3,10 @@ use Rattle.std.specs.Prelude.{◌≡◌, ◌≤◌, ℕ, List, Option, Some, Non
 use Rattle.std.specs.Io.KnownBytes.{Appends}
 use Rattle.sim_base.specs.declared.limits.Limits.{Limits}
 use Rattle.sim_code.specs.Code.{CodeOf}
-use Rattle.sim_code.specs.Growing.{written}
-use Rattle.sim_code.specs.Outcome.{Ended, Ending, Normal, NoRule, RunFault, StorageExhausted, TickLimit, World}
+use Rattle.sim_code.specs.Outcome.{Ended, Ending, Going, Normal, NoRule, RunFault, StorageExhausted, TickLimit, World}
 use Rattle.sim_code.specs.Rows.{mrun, opening}
-use Rattle.sim_meaning.specs.Meaning.{run}
+use Rattle.sim_meaning.specs.Meaning.{run, step}
+use Rattle.sim_meaning.specs.Pending.{Configuration}
 use Rattle.sim_meaning.specs.Sane.{StaysSane}
 use Rattle.sim_ports.specs.Bytes.{AddsPrefix}
 use Rattle.sim_ports.specs.Faults.{Rose, StopsAt}
@@ -14,6 +14,7 @@ use Rattle.sim_scope.specs.Source.{Source}
 use Rattle.codegen.specs.BuiltProgram.{ProgramBuilt}
 use Rattle.standard_calls.specs.Taking.{HasAll}
 use Rattle.object_machine.specs.Running.{WasBroken, WasCut}
+use Rattle.object_machine.specs.Taking.{Reads}
 use Rattle.sim_run.specs.declared.running.RunEnd.{RunEnd}
 use Rattle.sim_run.specs.declared.running.RunEnd.TheVariants as end
 use Rattle.sim_run.specs.declared.running.RunFailure.{RunFailure}
@@ -79,22 +80,28 @@ IsRuled code l = (input : List ℕ) (steps : ℕ) (world : World) → mrun code 
 abbrev pub Begins : Source → Limits → (input : List ℕ) → (old new : Option (List ℕ)) → Type 0
 Begins s l input old new = (end : RunEnd) (output : List ℕ) → RunEnds s l input end output → AddsPrefix old new output
 
--- what was written is all that the run had written at some moment
-abbrev pub AtAMoment : Source → Limits → (input : List ℕ) → (old new : Option (List ℕ)) → Type 0
-AtAMoment s l input old new = (steps : ℕ) × Appends old new (written (run s l input steps))
+-- What was written is all that the run had written before a step that takes something of the input, by the counts of faults of the input
+-- before and after.
+pub record BeforeARead (faults faults_now : ℕ) (s : Source) (l : Limits) (input : List ℕ) (old new : Option (List ℕ)) : Type 0 where
+  pub steps : ℕ
+  pub world : World
+  pub state : Configuration
+  pub come : run s l input steps ≡ Going world state
+  pub writes : Appends old new world.store.written
+  pub reads : Reads faults faults_now world (step s l world state)
 
--- What is known of a run that was broken off: where the input failed, all is written that the run had written before the step that reads;
--- else what was written begins its output.
-abbrev pub Broken : Source → Limits → (input : List ℕ) → (old new : Option (List ℕ)) → Result RunEnd RunFailure → Type 0
-Broken s l input old new (Ok end) = ⊤
-Broken s l input old new (Err failure.Input) = AtAMoment s l input old new × Begins s l input old new
-Broken s l input old new (Err _) = Begins s l input old new
+-- What is known of a run that was broken off, with the counts of faults of the input before and after: where the input failed, all is written
+-- that the run had written before a step that takes something of it; else what was written begins its output.
+abbrev pub Broken : (faults faults_now : ℕ) → Source → Limits → (input : List ℕ) → (old new : Option (List ℕ)) → Result RunEnd RunFailure → Type 0
+Broken faults faults_now s l input old new (Ok end) = ⊤
+Broken faults faults_now s l input old new (Err failure.Input) = BeforeARead faults faults_now s l input old new × Begins s l input old new
+Broken faults faults_now s l input old new (Err _) = Begins s l input old new
 
 -- the same of the run of its code
-abbrev pub CodeBroken : CodeOf → Limits → (input : List ℕ) → (old new : Option (List ℕ)) → Result RunEnd RunFailure → Type 0
-CodeBroken code l input old new (Ok end) = ⊤
-CodeBroken code l input old new (Err failure.Input) = WasCut code l (opening code l input) old new
-CodeBroken code l input old new (Err _) = WasBroken code l (opening code l input) old new
+abbrev pub CodeBroken : (faults faults_now : ℕ) → CodeOf → Limits → (input : List ℕ) → (old new : Option (List ℕ)) → Result RunEnd RunFailure → Type 0
+CodeBroken faults faults_now code l input old new (Ok end) = ⊤
+CodeBroken faults faults_now code l input old new (Err failure.Input) = WasCut faults faults_now code l (opening code l input) old new
+CodeBroken faults faults_now code l input old new (Err _) = WasBroken code l (opening code l input) old new
 
 -- It failed by the output where a write failed, after which nothing was written. Else no write failed.
 abbrev pub OutputAfter : {S : Type 0} → (S → Option (List ℕ)) → (S → ℕ) → S → S → Result RunEnd RunFailure → Type 0

@@ -71,7 +71,7 @@ pub fn compile_and_run<I: Source, O: Sink>(
     requires { IsRunnable (source_of bound.now) }
     ensures ran { (bytes : List ℕ) → I.left input.old ≡ Some bytes → IfOk result (λ end. Ran (source_of bound.now) limits.now bytes end (O.written out.old) (O.written out.new)) }
     ensures ends { (bytes : List ℕ) → HasEnd (source_of bound.now) limits.now bytes }
-    ensures broken { (bytes : List ℕ) → I.left input.old ≡ Some bytes → Broken (source_of bound.now) limits.now bytes (O.written out.old) (O.written out.new) result }
+    ensures broken { (bytes : List ℕ) → I.left input.old ≡ Some bytes → Broken (I.faults input.old) (I.faults input.new) (source_of bound.now) limits.now bytes (O.written out.old) (O.written out.new) result }
     ensures output { OutputAfter O.written O.faults out.old out.new result }
     ensures input { InputAfter (I.faults input.old) (I.faults input.new) result }
 
@@ -99,7 +99,7 @@ fn run_code<I: Source, O: Sink>(
     requires all { AllRun code.now.instrs }
     requires ruled { IsRuled code.now limits.now }
     ensures ran { (bytes : List ℕ) → I.left input.old ≡ Some bytes → IfOk result (λ end. CodeRan code.now limits.now bytes end (O.written out.old) (O.written out.new)) }
-    ensures broken { (bytes : List ℕ) → I.left input.old ≡ Some bytes → CodeBroken code.now limits.now bytes (O.written out.old) (O.written out.new) result }
+    ensures broken { (bytes : List ℕ) → I.left input.old ≡ Some bytes → CodeBroken (I.faults input.old) (I.faults input.new) code.now limits.now bytes (O.written out.old) (O.written out.new) result }
     ensures output { OutputAfter O.written O.faults out.old out.new result }
     ensures input { InputAfter (I.faults input.old) (I.faults input.new) result }
     ensures takes { (bytes : List ℕ) → I.left input.old ≡ Some bytes → CodeTakesNothing code.now limits.now bytes → input.new ≡ input.old }

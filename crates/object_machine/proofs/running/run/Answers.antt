@@ -1,10 +1,11 @@
-use Rattle.std.proofs.Common.{rules, ◌≡◌, [], sym, subst, refl, ap, ◌∙◌}
+use Rattle.std.proofs.Common.{rules, ◌≡◌, List, [], sym, subst, refl, ap, ◌∙◌}
 use Rattle.sim_code.specs.Outcome.{Going, first_world}
 use Rattle.sim_code.specs.Rows.{opening}
 use Rattle.sim_code.specs.Running.{AllRun}
 use Rattle.frame_arena.specs.Frames.{empty_memory}
 use Rattle.object_machine.specs.declared.machine.Registers.{Registers}
-use Rattle.object_machine.specs.Running.{RanAs, Stops, state_of}
+use Rattle.object_machine.specs.declared.machine.Activation as working
+use Rattle.object_machine.specs.Running.{RanAs, Stops, StopsAtRead, state_of}
 use Rattle.object_machine.specs.Standing.{Stands, Stores, outside}
 use Rattle.object_machine.specs.Named.{InputEnds}
 use Rattle.object_machine.specs.Taking.{NeverTakes}
@@ -31,8 +32,11 @@ returns-in-Stopped-clause-ran g c input told =
     let s : Stores l c.in-Ok.storage b0 w (first_world code.texts l input) empty_memory = subst (λ t. Stores l c.in-Ok.storage b0 w (first_world t l input) empty_memory) et (c.in-Ok.ensures.row b0 input) in
     let r : Registers = record { home = record { frame = 0; stamp = 0 }; pc = 0; depth = 0 } in
     let b = c.in-Stopped.ensures.row code b0 w (first_world code.texts l input) eb ei s in
-    c.answer.ensures.ran code (opening code l input) r [] [] b0 input
-    (stops_first code l input _ r [] b0 w c.in-Stopped.stop.flow c.in-Stopped.stop.line.0 c.in-Stopped.stop.at b.0 (b.1 r []) (append_nothing b0))
+    c.answer.ensures.ran code (opening code l input) r [] [] b0 input (g.I.Source.faults c.args.input.now) (g.I.Source.faults c.args.input.now)
+    (record {
+      stops = stops_first code l input _ r [] b0 w c.in-Stopped.stop.flow c.in-Stopped.stop.line.0 c.in-Stopped.stop.at b.0 (b.1 r []) (append_nothing b0);
+      reads = λ is. absurd (c.in-Stopped.ensures.read is);
+    })
 
 pub steps-stop-requires-clause-runs : goal.steps-stop-requires-clause-runs
 steps-stop-requires-clause-runs g c = subst (λ v. AllRun v) (ap (λ k. k.instrs) (sym c.code.view_is) ∙ sym c.deref-in-Started-2.ensures.value) c.requires.runs
@@ -61,7 +65,7 @@ returns-in-WriteFault-clause-ran g c input told =
     let ek2 : code.texts ≡ c.deref-in-Started-3.result.now = ap (λ k. k.texts) (sym c.code.view_is) ∙ sym c.deref-in-Started-3.ensures.value in
     let el2 : code.classes ≡ c.deref-in-Started-4.result.now = ap (λ k. k.classes) (sym c.code.view_is) ∙ sym c.deref-in-Started-4.ensures.value in
     let w2 = outside (g.O.Sink.written c.steps-stop.new.out) later.0 in
-    let stops0 = later.2 code b0 k.world k.memory eb2 ei2 ek2 el2 stands in
+    let stops0 = (later.2 code b0 k.world k.memory eb2 ei2 ek2 el2 stands).stops in
     let stops1 : Stops code l (Going k.world (state_of r stack [] k.memory)) stop.flow stop.line.0 stop.at c.steps-stop.new.storage c.steps-stop.new.top.registers c.steps-stop.new.top.stack.items c.steps-stop.new.below.items b0 w2 =
     subst (λ b. Stops code l (Going k.world (state_of r stack b k.memory)) stop.flow stop.line.0 stop.at c.steps-stop.new.storage c.steps-stop.new.top.registers c.steps-stop.new.top.stack.items c.steps-stop.new.below.items b0 w2) none stops0 in
     let stops = stops_later code l input p r stack b0 w k stop.flow stop.line.0 stop.at c.steps-stop.new.storage c.steps-stop.new.top.registers c.steps-stop.new.top.stack.items c.steps-stop.new.below.items w2 stops1 in
@@ -94,10 +98,14 @@ returns g c = record {
       let el2 : code.classes ≡ c.deref-in-Started-4.result.now = ap (λ k. k.classes) (sym c.code.view_is) ∙ sym c.deref-in-Started-4.ensures.value in
       let w2 = outside (g.O.Sink.written c.steps-stop.new.out) later.0 in
       let stops0 = later.2 code b0 k.world k.memory eb2 ei2 ek2 el2 stands in
-      let stops1 : Stops code l (Going k.world (state_of r stack [] k.memory)) stop.flow stop.line.0 stop.at c.steps-stop.new.storage c.steps-stop.new.top.registers c.steps-stop.new.top.stack.items c.steps-stop.new.below.items b0 w2 =
-      subst (λ b. Stops code l (Going k.world (state_of r stack b k.memory)) stop.flow stop.line.0 stop.at c.steps-stop.new.storage c.steps-stop.new.top.registers c.steps-stop.new.top.stack.items c.steps-stop.new.below.items b0 w2) none stops0 in
-      let stops = stops_later code l input p r stack b0 w k stop.flow stop.line.0 stop.at c.steps-stop.new.storage c.steps-stop.new.top.registers c.steps-stop.new.top.stack.items c.steps-stop.new.below.items w2 stops1 in
-      c.answer-in_default-flow.ensures.ran code (opening code l input) c.steps-stop.new.top.registers c.steps-stop.new.top.stack.items c.steps-stop.new.below.items b0 later.0 stops;
+      let Later : List working.Activation → Type 0 =
+      λ b. StopsAtRead (g.I.Source.faults c.args.input.now) (g.I.Source.faults c.steps-stop.new.input) code l (Going k.world (state_of r stack b k.memory)) stop.flow stop.line.0 stop.at c.steps-stop.new.storage c.steps-stop.new.top.registers c.steps-stop.new.top.stack.items c.steps-stop.new.below.items b0 w2 in
+      let stops1 : Later [] = subst Later none stops0 in
+      c.answer-in_default-flow.ensures.ran code (opening code l input) c.steps-stop.new.top.registers c.steps-stop.new.top.stack.items c.steps-stop.new.below.items b0 later.0 (g.I.Source.faults c.args.input.now) (g.I.Source.faults c.steps-stop.new.input)
+      (record {
+        stops = stops_later code l input p r stack b0 w k stop.flow stop.line.0 stop.at c.steps-stop.new.storage c.steps-stop.new.top.registers c.steps-stop.new.top.stack.items c.steps-stop.new.below.items w2 stops1.stops;
+        reads = stops1.reads;
+      });
   faults = ends_after g.O.Sink.written g.O.Sink.faults c.args.out.now c.steps-stop.new.out c.answer-in_default-flow.new.out c.answer-in_default-flow.result
       (steady_of g.O.Sink.written g.O.Sink.faults c.args.out.now c.steps-stop.new.out c.steps-stop.result.flow c.in_default-flow.not-WriteFault c.steps-stop.ensures.ends) c.answer-in_default-flow.ensures.ends;
   input_faults = c.answer-in_default-flow.ensures.input _ _ c.steps-stop.ensures.read;

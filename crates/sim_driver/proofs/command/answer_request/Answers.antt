@@ -20,7 +20,7 @@ returns-in-Ok-clause-prefix g c source given answer told tells means =
 pub returns-in-Ok-clause-cut : goal.returns-in-Ok-clause-cut
 returns-in-Ok-clause-cut g c source given told tells is =
     let same : c.in-Ok.source.items ≡ take 1048577 source = c.in-Ok.ensures.bytes source told in
-    cut_from c.args.command c.args.limits.now source c.in-Ok.source.items given _ _ same (rw c.deref.ensures.value at (c.answer_source.ensures.cut given tells is))
+    cut_from (g.I.Source.faults c.args.input.now) (g.I.Source.faults c.answer_source.new.input) c.args.command c.args.limits.now source c.in-Ok.source.items given _ _ same (rw c.deref.ensures.value at (c.answer_source.ensures.cut given tells is))
 
 pub returns-in-Ok-clause-untouched : goal.returns-in-Ok-clause-untouched
 returns-in-Ok-clause-untouched g c source rule line told compiles =

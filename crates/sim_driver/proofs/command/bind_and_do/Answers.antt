@@ -20,7 +20,7 @@ returns-in-Err-Broken-clause-does g c given meaning told means =
 
 pub returns-in-Ok-clause-cut : goal.returns-in-Ok-clause-cut
 returns-in-Ok-clause-cut g c given told is =
-    cut_by c.args.command c.args.limits.now c.args.source.now given (source_of c.in-Ok.bound) _ _ c.do_bound.result Input c.in-Ok.ensures.0 c.do_bound.ensures.only_run is (c.do_bound.ensures.cut given told is)
+    cut_by (g.I.Source.faults c.args.input.now) (g.I.Source.faults c.do_bound.new.input) c.args.command c.args.limits.now c.args.source.now given (source_of c.in-Ok.bound) _ _ c.do_bound.result Input c.in-Ok.ensures.0 c.do_bound.ensures.only_run is (c.do_bound.ensures.cut given told is)
 
 pub returns-in-Ok-clause-only_run : goal.returns-in-Ok-clause-only_run
 returns-in-Ok-clause-only_run g c idle = (c.do_bound.ensures.only_run idle).1

@@ -12,18 +12,18 @@ returns-in-Ok-clause-does g c given meaning told = ran_does c.args.limits.now (s
 pub returns-in-Err-Memory-clause-does : goal.returns-in-Err-Memory-clause-does
 returns-in-Err-Memory-clause-does g c given meaning told =
     failed_begins c.args.limits.now (source_of c.args.bound.now) given _ _
-    (broken_by c.args.limits.now (source_of c.args.bound.now) given _ _ c.in-Err-Memory.field-0 Memory c.in-Err-Memory.field-0-is (c.in-Err-Memory.ensures.broken given told)) meaning
+    (broken_by (g.I.Source.faults c.args.input.now) (g.I.Source.faults c.compile_and_run.new.input) c.args.limits.now (source_of c.args.bound.now) given _ _ c.in-Err-Memory.field-0 Memory c.in-Err-Memory.field-0-is (c.in-Err-Memory.ensures.broken given told)) meaning
 
 pub returns-in-Err-Input-clause-does : goal.returns-in-Err-Input-clause-does
 returns-in-Err-Input-clause-does g c given meaning told =
     failed_begins c.args.limits.now (source_of c.args.bound.now) given _ _
-    (broken_by c.args.limits.now (source_of c.args.bound.now) given _ _ c.in-Err-Input.field-0 Input c.in-Err-Input.field-0-is (c.in-Err-Input.ensures.broken given told)).1 meaning
+    (broken_by (g.I.Source.faults c.args.input.now) (g.I.Source.faults c.compile_and_run.new.input) c.args.limits.now (source_of c.args.bound.now) given _ _ c.in-Err-Input.field-0 Input c.in-Err-Input.field-0-is (c.in-Err-Input.ensures.broken given told)).1 meaning
 
 pub returns-in-Err-Input-clause-cut : goal.returns-in-Err-Input-clause-cut
 returns-in-Err-Input-clause-cut g c given told is =
-    (broken_by c.args.limits.now (source_of c.args.bound.now) given _ _ c.in-Err-Input.field-0 Input c.in-Err-Input.field-0-is (c.in-Err-Input.ensures.broken given told)).0
+    (broken_by (g.I.Source.faults c.args.input.now) (g.I.Source.faults c.compile_and_run.new.input) c.args.limits.now (source_of c.args.bound.now) given _ _ c.in-Err-Input.field-0 Input c.in-Err-Input.field-0-is (c.in-Err-Input.ensures.broken given told)).0
 
 pub returns-in-Err-Output-clause-does : goal.returns-in-Err-Output-clause-does
 returns-in-Err-Output-clause-does g c given meaning told =
     failed_begins c.args.limits.now (source_of c.args.bound.now) given _ _
-    (broken_by c.args.limits.now (source_of c.args.bound.now) given _ _ c.in-Err-Output.field-0 Output c.in-Err-Output.field-0-is (c.in-Err-Output.ensures.broken given told)) meaning
+    (broken_by (g.I.Source.faults c.args.input.now) (g.I.Source.faults c.compile_and_run.new.input) c.args.limits.now (source_of c.args.bound.now) given _ _ c.in-Err-Output.field-0 Output c.in-Err-Output.field-0-is (c.in-Err-Output.ensures.broken given told)) meaning

@@ -24,7 +24,7 @@ pub returns-in-Some-clause-cut : goal.returns-in-Some-clause-cut
 returns-in-Some-clause-cut g c source given tells told is =
     let words = texts c.args.words.now in
     let request : Request = asked c.in-Some.field-0 in
-    cut_of words source given request _ _ c.in-Some.ensures
+    cut_of (g.I.Source.faults c.args.input.now) (g.I.Source.faults c.answer_request.new.input) words source given request _ _ c.in-Some.ensures
     (c.answer_request.ensures.cut source given (tells_file (g.F.Files.content c.args.files.now) words source request c.in-Some.ensures tells) told is)
 
 pub returns-in-Some-clause-untouched : goal.returns-in-Some-clause-untouched

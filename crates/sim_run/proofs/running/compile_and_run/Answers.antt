@@ -14,7 +14,7 @@ returns-in-Ok-clause-ran g c bytes told =
 
 pub returns-in-Ok-clause-broken : goal.returns-in-Ok-clause-broken
 returns-in-Ok-clause-broken g c bytes told =
-    broken_of c.output_grows.ensures (source_of c.args.bound.now) c.in-Ok.code (c.compiled_code_runs_as_meant.ensures (source_of c.args.bound.now) c.in-Ok.code c.requires.stays_sane c.in-Ok.ensures.stands) c.args.limits.now bytes _ _ c.run_code.result (c.run_code.ensures.broken bytes told)
+    broken_of c.output_grows.ensures (source_of c.args.bound.now) c.in-Ok.code (c.compiled_code_runs_as_meant.ensures (source_of c.args.bound.now) c.in-Ok.code c.requires.stays_sane c.in-Ok.ensures.stands) (g.I.Source.faults c.args.input.now) (g.I.Source.faults c.run_code.new.input) c.args.limits.now bytes _ _ c.run_code.result (c.run_code.ensures.broken bytes told)
 
 pub returns-in-Ok-clause-ends : goal.returns-in-Ok-clause-ends
 returns-in-Ok-clause-ends g c bytes = has_end (source_of c.args.bound.now) c.args.limits.now bytes c.requires (c.every_run_ends.ensures (source_of c.args.bound.now) c.args.limits.now bytes)
